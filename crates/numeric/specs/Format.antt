@@ -1,0 +1,93 @@
+-- Type words (document 01, 'Varying' and 'A lone type'), and the answers given on formats and types.
+use Prim.Native.Nat.{ℕ, _+_, _-_, _*_, _/_, _%_}
+use mathlib.Core.Bool.{Bool, _&&_, _||_}
+use lib.Dec.{eqb, ltb}
+use Rattle.word.specs.Choice.{pick}
+use Rattle.word.specs.Words.{kindOf, bits, ofKind}
+use Rattle.word.specs.Answers.{answer, accepted, refused}
+use Rattle.word.specs.declared.answer.Answer.{Answer}
+use Rattle.numeric.specs.Rules.{kindCode, sizeCode, subtypeOf, fits, isFit}
+use Rattle.numeric.specs.declared.types.ScalarKind.{ScalarKind}
+use Rattle.numeric.specs.declared.types.ScalarKind.the-variants as K
+use Rattle.numeric.specs.declared.types.VectorSize.{VectorSize}
+use Rattle.numeric.specs.declared.types.VectorSize.the-variants.{Bi, Tri, Quad}
+use Rattle.numeric.specs.declared.types.NumericDimension.{NumericDimension}
+use Rattle.numeric.specs.declared.types.NumericDimension.the-variants as D
+use Rattle.numeric.specs.declared.types.NumericType.{NumericType}
+use Rattle.numeric.specs.declared.type_words.TypeRead.{TypeRead}
+use Rattle.numeric.specs.declared.type_words.TypeRead.the-variants.{Numeric, Bad}
+use Rattle.numeric.specs.declared.type_words.Compared.{Compared}
+use Rattle.numeric.specs.declared.type_words.Compared.the-variants as C
+use Rattle.numeric.specs.declared.formats.FormatType.{FormatType}
+use Rattle.numeric.specs.declared.formats.FormatType.the-variants.{Known, NoColour, Unknown}
+
+-- ---- from words to types
+
+abbrev pub kindAt : ℕ → ScalarKind
+kindAt code = pick (eqb code 0) K.Sint (pick (eqb code 1) K.Uint (pick (eqb code 2) K.Float K.Bool))
+
+abbrev pub sizeAt : ℕ → VectorSize
+sizeAt components = pick (eqb components 2) Bi (pick (eqb components 3) Tri Quad)
+
+-- 'shape 3–0: 0 scalar, 1–3 vector of 2–4, 4 + 3 × (columns − 2) + (rows − 2) matrix'
+abbrev pub dimensionAt : ℕ → NumericDimension
+dimensionAt code =
+    pick (eqb code 0) D.Scalar
+    (pick (ltb code 4) (D.Vector (sizeAt (code + 1))) (D.Matrix (sizeAt ((code - 4) / 3 + 2)) (sizeAt ((code - 4) % 3 + 2))))
+
+-- 'width 9–6: 1, 2, 4 or 8'
+abbrev pub widthKnown : ℕ → Bool
+widthKnown width = eqb width 1 || (eqb width 2 || (eqb width 4 || eqb width 8))
+
+-- the type's bits of a word of kind 13 hold known codes
+unfoldable pub typeFiled : ℕ → Bool
+typeFiled w = ltb (bits 3 0 w) 13 && widthKnown (bits 9 6 w)
+
+-- the type that a word of kind 13 holds
+unfoldable pub typeOf : ℕ → NumericType
+typeOf w = record { dim = dimensionAt (bits 3 0 w); scalar = record { kind = kindAt (bits 5 4 w); width = bits 9 6 w } }
+
+-- 'A lone type is a kind 13 word, bits 18–12 zero'
+unfoldable pub readType : ℕ → TypeRead
+readType w = pick (eqb (kindOf w) 13 && (eqb (bits 26 10 w) 0 && typeFiled w)) (Numeric (typeOf w)) Bad
+
+-- ---- from types to words
+
+abbrev pub shapeCode : NumericDimension → ℕ
+shapeCode D.Scalar = 0
+shapeCode (D.Vector n) = sizeCode n - 1
+shapeCode (D.Matrix columns rows) = 4 + 3 * (sizeCode columns - 2) + (sizeCode rows - 2)
+
+unfoldable pub typeWord : NumericType → ℕ
+typeWord t = ofKind 13 (shapeCode (t .dim) + 16 * kindCode (t .scalar .kind) + 64 * t .scalar .width)
+
+-- ---- answers
+
+-- 'one handed out is the first detail'; 80 and 82 where there is none
+abbrev pub formatAnswer : FormatType → Answer
+formatAnswer (Known t) = answer 0 (typeWord t) 0 0
+formatAnswer NoColour = refused 80
+formatAnswer Unknown = refused 82
+
+-- two lone types compared: why the first does not fit, or that one of them is no type
+unfoldable pub compareTypes : TypeRead → TypeRead → Compared
+compareTypes (Numeric a) (Numeric b) = C.Types (subtypeOf a b)
+compareTypes (Numeric a) Bad = C.Unknown
+compareTypes Bad (Numeric b) = C.Unknown
+compareTypes Bad Bad = C.Unknown
+
+-- yes, no, or 82
+abbrev pub subtypeNumber : Compared → ℕ
+subtypeNumber (C.Types fit) = pick (isFit fit) 1 0
+subtypeNumber C.Unknown = 82
+
+abbrev pub checkType : NumericType → NumericType → Answer
+checkType t output = pick (fits t output) accepted (answer 81 (typeWord t) 0 0)
+
+-- a texture format against the type that a shader writes: 82 tried first, then 80, then 81 with the format's type
+unfoldable pub checkTextureFormat : FormatType → TypeRead → Answer
+checkTextureFormat Unknown output = refused 82
+checkTextureFormat NoColour Bad = refused 82
+checkTextureFormat (Known t) Bad = refused 82
+checkTextureFormat NoColour (Numeric output) = refused 80
+checkTextureFormat (Known t) (Numeric output) = checkType t output

@@ -1,0 +1,4 @@
+pub mod Words
+pub mod Choice
+pub mod Answers
+pub mod Parse
