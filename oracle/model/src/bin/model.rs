@@ -1,0 +1,3 @@
+fn main() -> std::io::Result<()> {
+    cases::serve(model::answer)
+}

@@ -1,0 +1,4 @@
+fn main() -> std::io::Result<()> {
+    oracle::silence_panics();
+    cases::serve(oracle::answer)
+}
