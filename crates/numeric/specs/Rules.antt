@@ -69,6 +69,19 @@ known dim kind width = Known (numeric dim kind width)
 abbrev pub below : ℕ → FormatType → (ℕ → FormatType) → ℕ → FormatType
 below end type rest code = pick (ltb code end) type (rest code)
 
+-- the vertex formats of floats, normalized ones included
+unfoldable pub floatVertexFormat : ℕ → FormatType
+floatVertexFormat =
+    below 26 (known D.Scalar K.Float 4)
+    (below 32 (known (D.Vector Bi) K.Float 4)
+    (below 33 (known (D.Vector Tri) K.Float 4)
+    (below 41 (known (D.Vector Quad) K.Float 4)
+    (below 42 (known D.Scalar K.Float 8)
+    (below 43 (known (D.Vector Bi) K.Float 8)
+    (below 44 (known (D.Vector Tri) K.Float 8)
+    (below 45 (known (D.Vector Quad) K.Float 8)
+    (λ code. Unknown))))))))
+
 -- 'numbered from 0 as from_vertex_format (0–44) first names them'
 unfoldable pub vertexFormat : ℕ → FormatType
 vertexFormat =
@@ -80,17 +93,21 @@ vertexFormat =
     (below 16 (known (D.Vector Bi) K.Sint 4)
     (below 17 (known (D.Vector Tri) K.Sint 4)
     (below 20 (known (D.Vector Quad) K.Sint 4)
-    (below 26 (known D.Scalar K.Float 4)
-    (below 32 (known (D.Vector Bi) K.Float 4)
-    (below 33 (known (D.Vector Tri) K.Float 4)
-    (below 41 (known (D.Vector Quad) K.Float 4)
-    (below 42 (known D.Scalar K.Float 8)
-    (below 43 (known (D.Vector Bi) K.Float 8)
-    (below 44 (known (D.Vector Tri) K.Float 8)
-    (below 45 (known (D.Vector Quad) K.Float 8)
-    (λ code. Unknown))))))))))))))))
+    floatVertexFormat)))))))
 
--- 'and from_texture_format (0–76, Astc one code)'; codes 43–50 have no colour type
+-- depth, stencil and planar formats (43–50), which have no colour type, and shared-exponent and compressed ones
+unfoldable pub otherTextureFormat : ℕ → FormatType
+otherTextureFormat =
+    below 51 NoColour
+    (below 52 (known (D.Vector Tri) K.Float 4)
+    (below 64 (known (D.Vector Quad) K.Float 4)
+    (below 68 (known D.Scalar K.Float 4)
+    (below 72 (known (D.Vector Bi) K.Float 4)
+    (below 76 (known (D.Vector Tri) K.Float 4)
+    (below 77 (known (D.Vector Quad) K.Float 4)
+    (λ code. Unknown)))))))
+
+-- 'and from_texture_format (0–76, Astc one code)'
 unfoldable pub textureFormat : ℕ → FormatType
 textureFormat =
     below 4 (known D.Scalar K.Float 4)
@@ -106,11 +123,4 @@ textureFormat =
     (below 39 (known (D.Vector Quad) K.Uint 4)
     (below 42 (known (D.Vector Quad) K.Sint 4)
     (below 43 (known (D.Vector Tri) K.Float 4)
-    (below 51 NoColour
-    (below 52 (known (D.Vector Tri) K.Float 4)
-    (below 64 (known (D.Vector Quad) K.Float 4)
-    (below 68 (known D.Scalar K.Float 4)
-    (below 72 (known (D.Vector Bi) K.Float 4)
-    (below 76 (known (D.Vector Tri) K.Float 4)
-    (below 77 (known (D.Vector Quad) K.Float 4)
-    (λ code. Unknown))))))))))))))))))))
+    otherTextureFormat))))))))))))

@@ -1,6 +1,6 @@
 // Vertex and texture formats, numbered as the functions below first name them.
 ghost use mathlib.Core.Path.{_≡_};
-ghost use Rattle.numeric.specs.Rules.{known, vertexFormat, textureFormat};
+ghost use Rattle.numeric.specs.Rules.{known, vertexFormat, floatVertexFormat, textureFormat, otherTextureFormat};
 ghost use Rattle.numeric.specs.declared.types.NumericDimension.the-variants as D;
 ghost use Rattle.numeric.specs.Format.{formatAnswer, readType, checkType, checkTextureFormat};
 use crate::type_words::TypeRead;
@@ -64,6 +64,13 @@ pub fn from_vertex_format(format: u32) -> FormatType
     if format < 20 {
         return vector(VectorSize::Quad, ScalarKind::Sint, 4);
     }
+    float_vertex_format(format)
+}
+
+// The vertex formats of floats, normalized ones included.
+fn float_vertex_format(format: u32) -> FormatType
+    ensures { λ r. ⌜ r ≡ floatVertexFormat format ⌝ }
+{
     if format < 26 {
         return scalar(ScalarKind::Float, 4);
     }
@@ -91,7 +98,7 @@ pub fn from_vertex_format(format: u32) -> FormatType
     FormatType::Unknown
 }
 
-// The codes of a texture format are 0 to 76; all of Astc is one code. Depth, stencil and planar formats have no colour type.
+// The codes of a texture format are 0 to 76; all of Astc is one code.
 pub fn from_texture_format(format: u32) -> FormatType
     ensures { λ r. ⌜ r ≡ textureFormat format ⌝ }
 {
@@ -134,6 +141,13 @@ pub fn from_texture_format(format: u32) -> FormatType
     if format < 43 {
         return vector(VectorSize::Tri, ScalarKind::Float, 4);
     }
+    other_texture_format(format)
+}
+
+// Depth, stencil and planar formats, which have no colour type, and shared-exponent and compressed ones.
+fn other_texture_format(format: u32) -> FormatType
+    ensures { λ r. ⌜ r ≡ otherTextureFormat format ⌝ }
+{
     if format < 51 {
         return FormatType::NoColour;
     }

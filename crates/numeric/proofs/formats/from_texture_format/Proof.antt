@@ -35,17 +35,5 @@ from-texture-format-spec =
     (λ c. search tests)  -- returns-12
     (λ c κs. search needs)  -- vector-requires-8
     (λ c. search tests)  -- returns-13
-    (λ c. search tests)  -- returns-14
-    (λ c κs. search needs)  -- vector-requires-9
-    (λ c. search tests)  -- returns-15
-    (λ c κs. search needs)  -- vector-requires-10
-    (λ c. search tests)  -- returns-16
-    (λ c κs. search needs)  -- scalar-requires-6
-    (λ c. search tests)  -- returns-17
-    (λ c κs. search needs)  -- vector-requires-11
-    (λ c. search tests)  -- returns-18
-    (λ c κs. search needs)  -- vector-requires-12
-    (λ c. search tests)  -- returns-19
-    (λ c κs. search needs)  -- vector-requires-13
-    (λ c. search tests)  -- returns-20
-    (λ c. search tests))  -- returns-21
+    (λ c κs. search needs)  -- other-texture-format-requires
+    (λ c. search tests))  -- returns-14

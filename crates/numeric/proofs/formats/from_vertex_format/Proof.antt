@@ -25,20 +25,5 @@ from-vertex-format-spec =
     (λ c. search tests)  -- returns-7
     (λ c κs. search needs)  -- vector-requires-6
     (λ c. search tests)  -- returns-8
-    (λ c κs. search needs)  -- scalar-requires-3
-    (λ c. search tests)  -- returns-9
-    (λ c κs. search needs)  -- vector-requires-7
-    (λ c. search tests)  -- returns-10
-    (λ c κs. search needs)  -- vector-requires-8
-    (λ c. search tests)  -- returns-11
-    (λ c κs. search needs)  -- vector-requires-9
-    (λ c. search tests)  -- returns-12
-    (λ c κs. search needs)  -- scalar-requires-4
-    (λ c. search tests)  -- returns-13
-    (λ c κs. search needs)  -- vector-requires-10
-    (λ c. search tests)  -- returns-14
-    (λ c κs. search needs)  -- vector-requires-11
-    (λ c. search tests)  -- returns-15
-    (λ c κs. search needs)  -- vector-requires-12
-    (λ c. search tests)  -- returns-16
-    (λ c. search tests))  -- returns-17
+    (λ c κs. search needs)  -- float-vertex-format-requires
+    (λ c. search tests))  -- returns-9

@@ -1,0 +1,27 @@
+-- Every delivery holds: one computed test over the list. The line below names each definition that is computed.
+use mathlib.Core.Path.{_≡_, refl}
+use mathlib.Core.Bool.{true}
+use Rattle.word.specs.Choice.{yes as word-yes}
+use Rattle.word.specs.Parse.{several as word-several}
+use Rattle.word.specs.Words.{sumOf as word-sumOf, closingSum as word-closingSum}
+use Rattle.numeric.specs.Format.{typeFiled as numeric-typeFiled, typeOf as numeric-typeOf, readType as numeric-readType, typeWord as numeric-typeWord, compareTypes as numeric-compareTypes, checkTextureFormat as numeric-checkTextureFormat}
+use Rattle.numeric.specs.Rules.{shapeFits as numeric-shapeFits, subtypeOf as numeric-subtypeOf, floatVertexFormat as numeric-floatVertexFormat, vertexFormat as numeric-vertexFormat, otherTextureFormat as numeric-otherTextureFormat, textureFormat as numeric-textureFormat}
+use Rattle.resource.specs.Answers.{checkWords as resource-checkWords, deriveWords as resource-deriveWords}
+use Rattle.resource.specs.Format.{resourceTypeFiled as resource-resourceTypeFiled, resourceTypeOf as resource-resourceTypeOf, readResource as resource-readResource, resourceWords as resource-resourceWords, typeHeld as resource-typeHeld, bindingTypeFiled as resource-bindingTypeFiled, bindingTypeOf as resource-bindingTypeOf, entryFiled as resource-entryFiled, entryOf as resource-entryOf, bindingCode as resource-bindingCode, entryWords as resource-entryWords}
+use Rattle.resource.specs.Rules.{sameSpace as resource-sameSpace, bufferUse as resource-bufferUse, samplerUse as resource-samplerUse, viewFits as resource-viewFits, sampledFits as resource-sampledFits, storageFits as resource-storageFits, textureUse as resource-textureUse, accelerationUse as resource-accelerationUse, checkBindingUse as resource-checkBindingUse, derivedTexture as resource-derivedTexture, deriveBindingType as resource-deriveBindingType, handBack as resource-handBack}
+use Rattle.varying.specs.Format.{varFiled as varying-varFiled, varOf as varying-varOf, varWord as varying-varWord, payloadFiled as varying-payloadFiled, payloadOf as varying-payloadOf, payloadWord as varying-payloadWord}
+use Rattle.varying.specs.Rules.{samePayload as varying-samePayload}
+use Rattle.lists.specs.Format.{past as lists-past, records as lists-records, each as lists-each, flat as lists-flat, put as lists-put, slid as lists-slid, groupsOf as lists-groupsOf, countOf as lists-countOf, layoutHead as lists-layoutHead, layoutFiled as lists-layoutFiled, decodeLayout as lists-decodeLayout, encodeLayout as lists-encodeLayout, layoutGood as lists-layoutGood, sizesHead as lists-sizesHead, sizesFiled as lists-sizesFiled, decodeSizes as lists-decodeSizes, encodeSizes as lists-encodeSizes, sizesGood as lists-sizesGood, stageHead as lists-stageHead, outFiled as lists-outFiled, decodeStage as lists-decodeStage, encodeStage as lists-encodeStage, outGood as lists-outGood}
+use Rattle.lists.specs.Meaning.{placeFrom as lists-placeFrom, placeIn as lists-placeIn, distinctPlaces as lists-distinctPlaces, every as lists-every, entryNth as lists-entryNth, pushed as lists-pushed, joinAt as lists-joinAt, joined as lists-joined, sizeAt as lists-sizeAt, raiseAt as lists-raiseAt, recorded as lists-recorded, varyingAt as lists-varyingAt, rising as lists-rising, insert as lists-insert, slotOf as lists-slotOf, inserted as lists-inserted}
+use Rattle.interface.specs.Format.{readVarying as interface-readVarying, clips as interface-clips, bytesOf as interface-bytesOf, noZero as interface-noZero, allZero as interface-allZero, readName as interface-readName, readWorkgroup as interface-readWorkgroup, readMesh as interface-readMesh, contents as interface-contents, member as interface-member, ofType as interface-ofType, pairsOf as interface-pairsOf, readEntryPoint as interface-readEntryPoint, sameBytes as interface-sameBytes, hasName as interface-hasName, distinctNames as interface-distinctNames, readPack as interface-readPack, torn as interface-torn, decode as interface-decode, concat as interface-concat, packName as interface-packName, entryPointWords as interface-entryPointWords, recordWords as interface-recordWords, encode as interface-encode}
+use Rattle.interface.specs.Reads.{varyings as interface-varyings, standing as interface-standing, resourcesAt as interface-resourcesAt, entryNth as interface-entryNth}
+use Rattle.interface.specs.Rules.{findFrom as interface-findFrom, onlyFrom as interface-onlyFrom, finalizeName as interface-finalizeName}
+use Rattle.stage.specs.Interfaces.{workgroupUse as stage-workgroupUse, workgroupStep as stage-workgroupStep, vertexInput as stage-vertexInput, fragmentInput as stage-fragmentInput, inputNumber as stage-inputNumber, inputStep as stage-inputStep, inputSteps as stage-inputSteps, clipPlaces as stage-clipPlaces, builtInPlaces as stage-builtInPlaces, localCount as stage-localCount, locationUses as stage-locationUses, vertexOutputs as stage-vertexOutputs, anyOf as stage-anyOf, attachmentUse as stage-attachmentUse, fragmentPlaces as stage-fragmentPlaces, fragmentOutputs as stage-fragmentOutputs, placesStep as stage-placesStep, meshUse as stage-meshUse, payloadMatch as stage-payloadMatch, primitiveUse as stage-primitiveUse, drawUse as stage-drawUse, perVertexUse as stage-perVertexUse, lastStep as stage-lastStep, localsOf as stage-localsOf, stageOut as stage-stageOut, summaryOf as stage-summaryOf}
+use Rattle.stage.specs.Resources.{resourceNth as stage-resourceNth, recordSize as stage-recordSize, providedUse as stage-providedUse, provideStep as stage-provideStep, occupied as stage-occupied, vacant as stage-vacant, deriveStep as stage-deriveStep, namedTexture as stage-namedTexture, resourceStep as stage-resourceStep, resourceSteps as stage-resourceSteps, pairNumber as stage-pairNumber, pairUse as stage-pairUse, pairUses as stage-pairUses}
+use Rattle.stage.specs.Stage.{judgement as stage-judgement, stageBody as stage-stageBody, callGood as stage-callGood, finish as stage-finish, runBody as stage-runBody, checkStage as stage-checkStage}
+use Rattle.deliveries.specs.Deliveries.{locals, deliveries}
+use Rattle.deliveries.specs.Kinds.{startsWith, allHold}
+
+pub deliveries-hold : allHold deliveries ≡ true
+unfolding word-yes word-several word-sumOf word-closingSum numeric-typeFiled numeric-typeOf numeric-readType numeric-typeWord numeric-compareTypes numeric-checkTextureFormat numeric-shapeFits numeric-subtypeOf numeric-floatVertexFormat numeric-vertexFormat numeric-otherTextureFormat numeric-textureFormat resource-checkWords resource-deriveWords resource-resourceTypeFiled resource-resourceTypeOf resource-readResource resource-resourceWords resource-typeHeld resource-bindingTypeFiled resource-bindingTypeOf resource-entryFiled resource-entryOf resource-bindingCode resource-entryWords resource-sameSpace resource-bufferUse resource-samplerUse resource-viewFits resource-sampledFits resource-storageFits resource-textureUse resource-accelerationUse resource-checkBindingUse resource-derivedTexture resource-deriveBindingType resource-handBack varying-varFiled varying-varOf varying-varWord varying-payloadFiled varying-payloadOf varying-payloadWord varying-samePayload lists-past lists-records lists-each lists-flat lists-put lists-slid lists-groupsOf lists-countOf lists-layoutHead lists-layoutFiled lists-decodeLayout lists-encodeLayout lists-layoutGood lists-sizesHead lists-sizesFiled lists-decodeSizes lists-encodeSizes lists-sizesGood lists-stageHead lists-outFiled lists-decodeStage lists-encodeStage lists-outGood lists-placeFrom lists-placeIn lists-distinctPlaces lists-every lists-entryNth lists-pushed lists-joinAt lists-joined lists-sizeAt lists-raiseAt lists-recorded lists-varyingAt lists-rising lists-insert lists-slotOf lists-inserted interface-readVarying interface-clips interface-bytesOf interface-noZero interface-allZero interface-readName interface-readWorkgroup interface-readMesh interface-contents interface-member interface-ofType interface-pairsOf interface-readEntryPoint interface-sameBytes interface-hasName interface-distinctNames interface-readPack interface-torn interface-decode interface-concat interface-packName interface-entryPointWords interface-recordWords interface-encode interface-varyings interface-standing interface-resourcesAt interface-entryNth interface-findFrom interface-onlyFrom interface-finalizeName stage-workgroupUse stage-workgroupStep stage-vertexInput stage-fragmentInput stage-inputNumber stage-inputStep stage-inputSteps stage-clipPlaces stage-builtInPlaces stage-localCount stage-locationUses stage-vertexOutputs stage-anyOf stage-attachmentUse stage-fragmentPlaces stage-fragmentOutputs stage-placesStep stage-meshUse stage-payloadMatch stage-primitiveUse stage-drawUse stage-perVertexUse stage-lastStep stage-localsOf stage-stageOut stage-summaryOf stage-resourceNth stage-recordSize stage-providedUse stage-provideStep stage-occupied stage-vacant stage-deriveStep stage-namedTexture stage-resourceStep stage-resourceSteps stage-pairNumber stage-pairUse stage-pairUses stage-judgement stage-stageBody stage-callGood stage-finish stage-runBody stage-checkStage locals deliveries startsWith allHold
+deliveries-hold = refl

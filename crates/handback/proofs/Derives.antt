@@ -1,0 +1,229 @@
+-- The resources of an entry point in derived mode: whatever the answer, the layout stays good and loses nothing; where they are accepted, every
+-- resource's place has an entry of the type that it derives, and the stage sees it.
+use Prim.Native.Nat.{ℕ, _^_, _<_}
+use native.Mathlib.Omega.{arith}
+use mathlib.Core.Path.{_≡_, refl, sym, _∙_}
+use mathlib.Core.Bool.{Bool, true, false}
+use mathlib.Core.List.{List, [], _∷_}
+use lib.Dec.{eqb, ltb}
+use lib.ListN.{length, length-append}
+use borrow.Author.Tests.{eqb-true, leb-true, lt-ltb}
+use Rattle.word.specs.Choice.{pick, yes}
+use Rattle.word.specs.Answers.{accepted}
+use Rattle.word.specs.declared.answer.Answer.{Answer}
+use Rattle.resource.specs.Rules.{deriveBindingType}
+use Rattle.resource.specs.Format.{placeHeld, typeHeld, resourceHeld, formatHeld, bindingCode, leastSize, sameBinding}
+use Rattle.resource.specs.Answers.{bindingAnswer}
+use Rattle.resource.specs.declared.types.Resource.{Resource}
+use Rattle.resource.specs.declared.types.BindingType.{BindingType}
+use Rattle.resource.specs.declared.types.Derived.{Derived}
+use Rattle.resource.specs.declared.types.Derived.the-variants as Der
+use Rattle.resource.proofs.EntryFormat.{type-read}
+use Rattle.resource.proofs.HandBack.{derived-held}
+use Rattle.resource.proofs.Truth.{first, second, by-test, never}
+use Rattle.lists.specs.Meaning.{Layout, Sizes, samePlace, findEntry, entryPlaces, entryHas, entryNth, fits, pushed, joined}
+use Rattle.lists.specs.Format.{entryFits, layoutGood}
+use Rattle.lists.specs.declared.types.Found.{Found}
+use Rattle.lists.specs.declared.types.Found.the-variants.{At, Nothing}
+use Rattle.lists.proofs.PlaceLaws.{same-place-refl}
+use Rattle.lists.proofs.PlaceWays.{place-lacks}
+use Rattle.lists.proofs.LayoutLaws.{nth-last, length-join, nth-joined, good-pushed, good-joined}
+use Rattle.interface.specs.Format.{stageCode, member}
+use Rattle.interface.specs.declared.types.ShaderStage.{ShaderStage}
+use Rattle.interface.specs.declared.types.ShaderStage.the-variants as Stage
+use Rattle.interface.specs.declared.types.SamplingPair.{SamplingPair}
+use Rattle.stage.specs.Meaning.{State, state}
+use Rattle.stage.specs.Resources.{resourceNth, occupied, vacant, newEntry, placeStep, derivedStep, deriveStep, namedTexture, resourceStep, resourceSteps}
+use Rattle.handback.specs.HandBack.{seesBit}
+use Rattle.handback.proofs.Entries.{find-sound}
+use Rattle.handback.proofs.Growth.{join-sets, good-nth, Grows, grows-refl, grows-trans, grows-pushed, grows-joined}
+
+-- ---- a stage's bit
+
+pub stage-below : (s : ShaderStage) → stageCode s < 5
+stage-below Stage.Vertex = omega arith
+stage-below Stage.Fragment = omega arith
+stage-below Stage.Compute = omega arith
+stage-below Stage.Task = omega arith
+stage-below Stage.Mesh = omega arith
+
+bit-short : (s : ShaderStage) → 2 ^ stageCode s < 32
+bit-short Stage.Vertex = omega arith
+bit-short Stage.Fragment = omega arith
+bit-short Stage.Compute = omega arith
+bit-short Stage.Task = omega arith
+bit-short Stage.Mesh = omega arith
+
+bit-seen : (s : ShaderStage) → seesBit (stageCode s) (2 ^ stageCode s) ≡ true
+bit-seen Stage.Vertex = refl
+bit-seen Stage.Fragment = refl
+bit-seen Stage.Compute = refl
+bit-seen Stage.Task = refl
+bit-seen Stage.Mesh = refl
+
+-- ---- binding types
+
+-- types that a layout can hold are told apart by their code and least size
+same-binding-eq : (a b : BindingType) → formatHeld a ≡ true → formatHeld b ≡ true → sameBinding a b ≡ true → a ≡ b
+same-binding-eq a b p q h =
+    let c : bindingCode a ≡ bindingCode b = search (eqb-true, first) in
+    let l : leastSize a ≡ leastSize b = search (eqb-true, second) in
+    cc (type-read a p, type-read b q)
+
+-- ---- a resource that a layout serves
+
+pub record Placed (stage : ShaderStage) (named : Bool) (r : Resource) (M : Layout) : Type 0 where
+  pub type : BindingType
+  pub derived : deriveBindingType (r .ty) named ≡ Der.Binding type
+  pub at : ℕ
+  pub there : at < length (M .entries)
+  pub place : samePlace (entryNth (M .entries) at .bind) (r .bind) ≡ true
+  pub holds : entryNth (M .entries) at .ty ≡ type
+  pub seen : seesBit (stageCode stage) (entryNth (M .entries) at .visibility) ≡ true
+
+pub placed-grows : (stage : ShaderStage) (named : Bool) (r : Resource) (L M : Layout) → Grows L M → Placed stage named r L → Placed stage named r M
+placed-grows stage named r L M g p =
+    let s = g (p .at) (p .there) in
+    record {
+      type = p .type;
+      derived = p .derived;
+      at = p .at;
+      there = s .there;
+      place = rw (s .place) (p .place);
+      holds = s .type ∙ p .holds;
+      seen = s .seen (stageCode stage) (stage-below stage) (p .seen);
+    }
+
+-- ---- one resource
+
+-- what a step over a layout comes to
+pub record Stepped (stage : ShaderStage) (named : Bool) (r : Resource) (L : Layout) (x : State) : Type 0 where
+  pub good : layoutGood (x .layout) ≡ true
+  pub grows : Grows L (x .layout)
+  pub placed : eqb (x .answer .number) 0 ≡ true → Placed stage named r (x .layout)
+
+module _ (stage : ShaderStage) (named : Bool) (r : Resource) (L : Layout) (S : Sizes) (g : layoutGood L ≡ true) where
+  refuses : (a : Answer) → eqb (a .number) 0 ≡ false → Stepped stage named r L (state a L S)
+  refuses a f = record { good = g; grows = grows-refl L; placed = λ t. never (eqb (a .number) 0) t f }
+
+  module _ (ty : BindingType) (e : deriveBindingType (r .ty) named ≡ Der.Binding ty) (h : resourceHeld r ≡ true) where
+    below : (i : ℕ) → findEntry (r .bind) L ≡ At i → i < length (L .entries)
+    below i q = let f = find-sound (r .bind) (L .entries) 0 i q in omega (arith, f .sum, f .there)
+
+    lacks : findEntry (r .bind) L ≡ Nothing → entryHas (r .bind) (L .entries) ≡ false
+    lacks q = sym (place-lacks (r .bind) (entryPlaces (L .entries)) (findEntry (r .bind) L) refl q)
+
+    joins : (i : ℕ) → findEntry (r .bind) L ≡ At i → sameBinding ty (entryNth (L .entries) i .ty) ≡ true → Placed stage named r (joined (stageCode stage) L i)
+    unfolding joined
+    joins i q t =
+        let f = find-sound (r .bind) (L .entries) 0 i q in
+        let at : i ≡ f .at = omega (arith, f .sum) in
+        let there = below i q in
+        let fit = good-nth L i g there in
+        let same = nth-joined (stageCode stage) (L .entries) i there in
+        let held = derived-held (r .ty) named ty (second (placeHeld (r .bind)) (typeHeld (r .ty)) h) e in
+        record {
+          type = ty;
+          derived = e;
+          at = i;
+          there = omega (arith, length-join (stageCode stage) (L .entries) i);
+          place = rw (same, at) (f .same);
+          holds = rw same (sym (same-binding-eq ty (entryNth (L .entries) i .ty) held (fit .format) t));
+          seen = rw same (join-sets (stageCode stage) (entryNth (L .entries) i .visibility) (stage-below stage) (fit .visibility));
+        }
+
+    pushes : Placed stage named r (pushed L (newEntry stage r ty))
+    unfolding pushed
+    pushes =
+        let last = nth-last (L .entries) (newEntry stage r ty) in
+        record {
+          type = ty;
+          derived = e;
+          at = length (L .entries);
+          there = omega (arith, length-append (L .entries) (newEntry stage r ty ∷ []));
+          place = rw last (same-place-refl (r .bind));
+          holds = rw last;
+          seen = rw last (bit-seen stage);
+        }
+
+    new-fits : ltb (r .bind .group) (L .groups) ≡ true → entryFits (L .groups) (newEntry stage r ty) ≡ true
+    new-fits t =
+        let p : placeHeld (r .bind) ≡ true = search first in
+        rw (p, derived-held (r .ty) named ty (second (placeHeld (r .bind)) (typeHeld (r .ty)) h) e, lt-ltb (2 ^ stageCode stage) 32 (bit-short stage), t)
+
+    place-step : ltb (r .bind .group) (L .groups) ≡ true → (f : Found) → findEntry (r .bind) L ≡ f → Stepped stage named r L (placeStep stage r ty f L S)
+    unfolding occupied vacant
+    place-step l (At i) q =
+        by-test (sameBinding ty (entryNth (L .entries) i .ty))
+        (λ t.
+        rw t
+        (record {
+          good = good-joined L g (stageCode stage) i (omega (arith, stage-below stage)) (below i q);
+          grows = grows-joined L (stageCode stage) i g (stage-below stage);
+          placed = λ z. joins i q t;
+        }))
+        (λ n. rw n (refuses (bindingAnswer 29 (r .bind)) refl))
+    place-step l Nothing q =
+        by-test (fits 4 (L .room))
+        (λ t.
+        rw t
+        (record {
+          good = good-pushed L g (newEntry stage r ty) (new-fits l) (lacks q) (leb-true 4 (length (L .room)) t);
+          grows = grows-pushed L (newEntry stage r ty);
+          placed = λ z. pushes;
+        }))
+        (λ n. rw n (refuses (bindingAnswer 5 (r .bind)) refl))
+
+  derived-step : resourceHeld r ≡ true → ltb (r .bind .group) (L .groups) ≡ true → (d : Derived) → deriveBindingType (r .ty) named ≡ d
+      → Stepped stage named r L (derivedStep stage r d L S)
+  derived-step h l (Der.Binding ty) e = place-step ty e h l (findEntry (r .bind) L) refl
+  derived-step h l Der.WrongBufferAddressSpace e = refuses (bindingAnswer 24 (r .bind)) refl
+
+  pub derive-step : resourceHeld r ≡ true → Stepped stage named r L (deriveStep stage named r L S)
+  unfolding deriveStep
+  derive-step h =
+      by-test (ltb (r .bind .group) (L .groups))
+      (λ t. rw t (derived-step h t (deriveBindingType (r .ty) named) refl))
+      (λ n. rw n (refuses (bindingAnswer 20 (r .bind)) refl))
+
+-- ---- each resource in list order
+
+-- what the steps over a list of resources come to
+pub record Folded (stage : ShaderStage) (resources : List Resource) (pairs : List SamplingPair) (is : List ℕ) (L : Layout) (x : State) : Type 0 where
+  pub good : layoutGood (x .layout) ≡ true
+  pub grows : Grows L (x .layout)
+  pub placed : eqb (x .answer .number) 0 ≡ true → (i : ℕ) → member i is ≡ true → Placed stage (namedTexture i pairs) (resourceNth resources i) (x .layout)
+
+module _ (stage : ShaderStage) (resources : List Resource) (pairs : List SamplingPair) where
+  fold-none : (L : Layout) (S : Sizes) (a : Answer) → layoutGood L ≡ true → Folded stage resources pairs [] L (state a L S)
+  unfolding member
+  fold-none L S a g = record { good = g; grows = grows-refl L; placed = λ z i m. never false m refl }
+
+  -- a step, and the others where it was accepted
+  fold-cons : (i : ℕ) (is : List ℕ) (L : Layout) (x y : State) → Stepped stage (namedTexture i pairs) (resourceNth resources i) L x
+      → Folded stage resources pairs is (x .layout) y → Folded stage resources pairs (i ∷ is) L (pick (eqb (x .answer .number) 0) y x)
+  unfolding member
+  fold-cons i is L x y s rest =
+      by-test (eqb (x .answer .number) 0)
+      (λ t.
+      rw t
+      (record {
+        good = rest .good;
+        grows = grows-trans L (x .layout) (y .layout) (s .grows) (rest .grows);
+        placed = λ z j m.
+            by-test (eqb j i)
+            (λ p.
+            rw (eqb-true j i p)
+            (placed-grows stage (namedTexture i pairs) (resourceNth resources i) (x .layout) (y .layout) (rest .grows) (s .placed t)))
+            (λ p. rest .placed z j (rw p at m));
+      }))
+      (λ n. rw n (record { good = s .good; grows = s .grows; placed = λ z. never (eqb (x .answer .number) 0) z n }))
+
+  pub derive-steps : ((i : ℕ) → resourceHeld (resourceNth resources i) ≡ true) → (is : List ℕ) (L : Layout) (S : Sizes) → layoutGood L ≡ true
+      → Folded stage resources pairs is L (resourceSteps stage true resources pairs is L S)
+  unfolding resourceSteps resourceStep yes
+  derive-steps held [] L S g = fold-none L S accepted g
+  derive-steps held (i ∷ is) L S g =
+      let x = deriveStep stage (namedTexture i pairs) (resourceNth resources i) L S in
+      let s = derive-step stage (namedTexture i pairs) (resourceNth resources i) L S g (held i) in
+      fold-cons i is L x (resourceSteps stage true resources pairs is (x .layout) (x .sizes)) s (derive-steps held is (x .layout) (x .sizes) (s .good))

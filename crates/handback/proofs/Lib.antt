@@ -1,0 +1,12 @@
+pub mod Entries
+pub mod Growth
+pub mod Derives
+pub mod Packs
+pub mod Provides
+pub mod Pairs
+pub mod Bodies
+pub mod Calls
+pub mod Runs
+pub mod Again
+pub mod HandBack
+pub mod Instances

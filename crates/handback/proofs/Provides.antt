@@ -1,0 +1,148 @@
+-- The resources of an entry point in provided mode: accepted where a layout serves each and the size list has room.
+use Prim.Native.Nat.{ℕ, suc, _+_, _*_, _≤_}
+use native.Mathlib.Omega.{arith}
+use mathlib.Core.Path.{_≡_, refl, sym, _∙_, ap}
+use mathlib.Core.Bool.{Bool, true, false, not, _&&_}
+use mathlib.Core.List.{List, [], _∷_, _++_}
+use lib.Dec.{eqb}
+use lib.ListN.{length, drop, length-drop}
+use borrow.Author.Tests.{eq-eqb, le-leb}
+use Rattle.word.specs.Choice.{pick, yes}
+use Rattle.word.specs.Answers.{accepted}
+use Rattle.resource.specs.Rules.{handBack}
+use Rattle.resource.specs.Format.{typeHeld}
+use Rattle.resource.specs.declared.types.ResourceBinding.{ResourceBinding}
+use Rattle.resource.specs.declared.types.AddressSpace.{AddressSpace}
+use Rattle.resource.specs.declared.types.Resource.{Resource}
+use Rattle.resource.specs.declared.types.ResourceType.{ResourceType}
+use Rattle.resource.specs.declared.types.ResourceType.the-variants as Res
+use Rattle.resource.proofs.HandBack.{derived-accepted}
+use Rattle.resource.proofs.Truth.{by-test}
+use Rattle.lists.specs.Meaning.{Layout, Sizes, findEntry, distinctEntries, sizePlaces, sizeHas, raiseAt, samePlace, sizeRecord, fits, recorded}
+use Rattle.lists.specs.declared.types.SizeRecord.{SizeRecord}
+use Rattle.lists.specs.declared.types.Found.the-variants.{At}
+use Rattle.interface.specs.Format.{member}
+use Rattle.interface.specs.declared.types.ShaderStage.{ShaderStage}
+use Rattle.interface.specs.declared.types.SamplingPair.{SamplingPair}
+use Rattle.stage.specs.Meaning.{State, state}
+use Rattle.stage.specs.Resources.{resourceNth, recordSize, providedUse, provideStep, resourceStep, resourceSteps}
+use Rattle.handback.specs.HandBack.{isBuffer, lacking}
+use Rattle.handback.proofs.Entries.{find-unique}
+use Rattle.handback.proofs.Derives.{Placed}
+
+-- ---- one resource against the layout
+
+module _ (stage : ShaderStage) (named : Bool) (r : Resource) (M : Layout) (d : distinctEntries (M .entries) ≡ true) (p : Placed stage named r M) where
+  pub placed-found : findEntry (r .bind) M ≡ At (p .at)
+  placed-found = let z : 0 + p .at ≡ p .at = omega arith in find-unique (r .bind) (M .entries) 0 (p .at) d (p .there) (p .place) ∙ ap At z
+
+  pub placed-serves : typeHeld (r .ty) ≡ true → handBack (r .ty) ≡ true → providedUse stage M r ≡ accepted
+  unfolding providedUse
+  placed-serves h k = rw (placed-found, p .seen, p .holds, derived-accepted (r .ty) named (p .type) h k (p .derived))
+
+-- ---- sizes
+
+places-raised : (place : ResourceBinding) (size : ℕ) (ss : List SizeRecord) → sizePlaces (raiseAt place size ss) ≡ sizePlaces ss
+unfolding raiseAt
+places-raised place size [] = refl
+places-raised place size (s ∷ ss) =
+    by-test (samePlace (s .bind) place) (λ t. rw t) (λ n. rw n (ap (λ (l : List ResourceBinding). s .bind ∷ l) (places-raised place size ss)))
+
+places-more : (s : SizeRecord) (ss : List SizeRecord) → sizePlaces (ss ++ (s ∷ [])) ≡ sizePlaces ss ++ (s .bind ∷ [])
+places-more s [] = refl
+places-more s (x ∷ ss) = ap (λ (l : List ResourceBinding). x .bind ∷ l) (places-more s ss)
+
+-- what is lacking depends on the places of the records alone
+lacking-places : (resources : List Resource) (is : List ℕ) (a b : List SizeRecord) → sizePlaces a ≡ sizePlaces b → lacking resources is a ≡ lacking resources is b
+unfolding lacking
+lacking-places resources [] a b e = refl
+lacking-places resources (i ∷ is) a b e =
+    let s = sizeRecord (resourceNth resources i .bind) 1 in
+    rw (
+      e,
+      lacking-places resources is a b e,
+      lacking-places resources is (a ++ (s ∷ [])) (b ++ (s ∷ [])) (places-more s a ∙ (ap (λ (l : List ResourceBinding). l ++ (s .bind ∷ [])) e ∙ sym (places-more s b))),
+    )
+
+-- a size recorded, with room left for the others
+pub record Sized (resources : List Resource) (is : List ℕ) (L : Layout) (x : State) : Type 0 where
+  pub sizes : Sizes
+  pub step : x ≡ state accepted L sizes
+  pub room : 2 * lacking resources is (sizes .records) ≤ length (sizes .room)
+
+-- a list with a record raised, and one with a new record
+abbrev raised : ResourceBinding → ℕ → Sizes → Sizes
+raised bind size S = record { records = raiseAt bind size (S .records); room = S .room }
+
+abbrev added : ResourceBinding → ℕ → Sizes → Sizes
+added bind size S = record { records = S .records ++ (sizeRecord bind size ∷ []); room = drop 2 (S .room) }
+
+module _ (resources : List Resource) (is : List ℕ) (bind : ResourceBinding) (L : Layout) (S : Sizes) where
+  raises : (size : ℕ) (space : AddressSpace) → sizeHas bind (S .records) ≡ true → recordSize bind (Res.Buffer size space) L S ≡ state accepted L (raised bind size S)
+  unfolding recordSize recorded
+  raises size space t = rw t
+
+  adds : (size : ℕ) (space : AddressSpace) → sizeHas bind (S .records) ≡ false → fits 2 (S .room) ≡ true
+      → recordSize bind (Res.Buffer size space) L S ≡ state accepted L (added bind size S)
+  unfolding recordSize recorded
+  adds size space n f = rw (n, f)
+
+  old-sized : (size : ℕ) (space : AddressSpace) → sizeHas bind (S .records) ≡ true → 2 * lacking resources is (S .records) ≤ length (S .room)
+      → Sized resources is L (recordSize bind (Res.Buffer size space) L S)
+  old-sized size space t h =
+      record {
+        sizes = raised bind size S;
+        step = raises size space t;
+        room = rw (lacking-places resources is (raiseAt bind size (S .records)) (S .records) (places-raised bind size (S .records))) h;
+      }
+
+  new-sized : (size : ℕ) (space : AddressSpace) → sizeHas bind (S .records) ≡ false
+      → 2 * suc (lacking resources is (S .records ++ (sizeRecord bind 1 ∷ []))) ≤ length (S .room) → Sized resources is L (recordSize bind (Res.Buffer size space) L S)
+  new-sized size space n h =
+      let one = sizeRecord bind 1 in
+      let new = sizeRecord bind size in
+      let same = lacking-places resources is (S .records ++ (new ∷ [])) (S .records ++ (one ∷ [])) (places-more new (S .records) ∙ sym (places-more one (S .records))) in
+      record {
+        sizes = added bind size S;
+        step = adds size space n (le-leb 2 (length (S .room)) (omega arith));
+        room = omega (arith, same, length-drop 2 (S .room));
+      }
+
+  size-step : (ty : ResourceType)
+      → 2 * pick (isBuffer ty && not (sizeHas bind (S .records))) (suc (lacking resources is (S .records ++ (sizeRecord bind 1 ∷ [])))) (lacking resources is (S .records))
+      ≤ length (S .room)
+      → Sized resources is L (recordSize bind ty L S)
+  unfolding recordSize
+  size-step (Res.Buffer size space) h =
+      by-test (sizeHas bind (S .records)) (λ t. old-sized size space t (rw t at h)) (λ n. new-sized size space n (rw n at h))
+  size-step (Res.Sampler comparison) h = record { sizes = S; step = refl; room = h }
+  size-step (Res.Texture dim arrayed class) h = record { sizes = S; step = refl; room = h }
+  size-step (Res.AccelerationStructure returns) h = record { sizes = S; step = refl; room = h }
+
+-- ---- each resource in list order
+
+pub record Accepts (L : Layout) (x : State) : Type 0 where
+  pub answer : x .answer ≡ accepted
+  pub layout : x .layout ≡ L
+
+module _ (stage : ShaderStage) (resources : List Resource) (pairs : List SamplingPair) where
+  -- one resource that is served
+  provide-step : (r : Resource) (L : Layout) (S T : Sizes) → recordSize (r .bind) (r .ty) L S ≡ state accepted L T → providedUse stage L r ≡ accepted
+      → provideStep stage r L S ≡ state accepted L T
+  unfolding provideStep
+  provide-step r L S T e u = rw (e, u)
+
+  steps-on : (i : ℕ) (is : List ℕ) (L : Layout) (S T : Sizes) → provideStep stage (resourceNth resources i) L S ≡ state accepted L T
+      → resourceSteps stage false resources pairs (i ∷ is) L S ≡ resourceSteps stage false resources pairs is L T
+  unfolding resourceSteps resourceStep yes
+  steps-on i is L S T e = rw e
+
+  pub provide-steps : (is : List ℕ) (L : Layout) (S : Sizes) → ((i : ℕ) → member i is ≡ true → providedUse stage L (resourceNth resources i) ≡ accepted)
+      → 2 * lacking resources is (S .records) ≤ length (S .room) → Accepts L (resourceSteps stage false resources pairs is L S)
+  unfolding resourceSteps lacking member
+  provide-steps [] L S u h = record { answer = refl; layout = refl }
+  provide-steps (i ∷ is) L S u h =
+      let r = resourceNth resources i in
+      let s = size-step resources is (r .bind) L S (r .ty) h in
+      let e = provide-step r L S (s .sizes) (s .step) (u i (rw (eq-eqb i i refl))) in
+      rw (steps-on i is L S (s .sizes) e) (provide-steps is L (s .sizes) (λ j m. u j (by-test (eqb j i) (λ t. rw t) (λ n. rw n m))) (s .room))

@@ -1,0 +1,186 @@
+-- A pack that was written is accepted, and read as what was written.
+use Prim.Native.Nat.{ℕ, zero, suc, _+_, _-_, _*_, _/_, _%_, _^_, _<_, _≤_}
+use native.Mathlib.Omega.{arith}
+use mathlib.Core.Path.{_≡_, refl, sym, ap, _∙_}
+use mathlib.Core.Bool.{Bool, true, false, not, _&&_, _||_}
+use mathlib.Core.List.{List, [], _∷_, _++_, append-assoc, append-nil}
+use borrow.Author.Tests.{leb-true, le-leb, le-ltb, eq-eqb}
+use lib.Dec.{eqb, leb, ltb}
+use lib.ListN.{length, take, length-append}
+use lib.Seq.{take-at, getD-at}
+use Rattle.word.specs.Choice.{pick}
+use Rattle.word.specs.Words.{wordAt, kindOf, contentOf, bits, ofKind, sumOf, closingSum}
+use Rattle.word.specs.Parse.{Parsed, fault, got, next, one, several}
+use Rattle.resource.specs.Format.{readResource, resourceWords, resourceHeld}
+use Rattle.resource.proofs.ResourceFormat.{words-read}
+use Rattle.varying.proofs.Checks.{first, second}
+use Rattle.interface.specs.Meaning.{EntryPoint, Interface}
+use Rattle.interface.specs.Format.{ofWord, contents, concat, entryPointWords, readEntryPoint, limitsOf, limitWords, recordWords, openWords, readPack, distinctNames, encode, body, whole, torn, decode, Pack}
+use Rattle.interface.specs.Held.{every, content, limitNumbers, entryPointHeld, interfaceHeld}
+use Rattle.interface.specs.declared.types.Limits.{Limits}
+use Rattle.interface.proofs.EncodeRecords.{words-got, records-got}
+use Rattle.interface.proofs.EncodeEntry.{Of, of-kind, Listed, both-then, entry-got}
+
+-- ---- the limits
+
+abbrev limitWord : ℕ → List ℕ
+limitWord n = ofKind 3 n ∷ []
+
+numbers : (ns : List ℕ) → every content ns ≡ true → Listed (ofWord 3) contents ns (concat limitWord ns)
+unfolding every contents concat
+numbers [] h = record { filed = refl; again = refl; counted = refl }
+numbers (n ∷ ns) h =
+    let w : Of 3 n (ofKind 3 n) = of-kind 3 n (first (content n) (every content ns) h) in
+    let l : Listed (ofWord 3) contents ns (concat limitWord ns) = numbers ns (second (content n) (every content ns) h) in
+    record { filed = rw (w .is) (l .filed); again = rw (w .holds, l .again); counted = ap suc (l .counted) }
+
+limits-listed : (l : Limits) → every content (limitNumbers l) ≡ true → Listed (ofWord 3) contents (limitNumbers l) (limitWords l)
+unfolding concat
+limits-listed l h = numbers (limitNumbers l) h
+
+limits-got : (l : Limits) (rest : List ℕ) → every content (limitNumbers l) ≡ true → several 13 (one (ofWord 3)) (limitWords l ++ rest) ≡ got (limitWords l) rest
+limits-got l rest h = words-got (ofWord 3) (limitWords l) rest (limits-listed l h .filed)
+
+abbrev limitsFrom : List ℕ → Limits
+limitsFrom ns =
+    record {
+      «max_inter_stage_shader_variables» = wordAt ns 0;
+      «max_color_attachments» = wordAt ns 1;
+      «max_compute_workgroup_size_x» = wordAt ns 2;
+      «max_compute_workgroup_size_y» = wordAt ns 3;
+      «max_compute_workgroup_size_z» = wordAt ns 4;
+      «max_compute_invocations_per_workgroup» = wordAt ns 5;
+      «max_task_invocations_per_dimension» = wordAt ns 6;
+      «max_task_invocations_per_workgroup» = wordAt ns 7;
+      «max_mesh_invocations_per_dimension» = wordAt ns 8;
+      «max_mesh_invocations_per_workgroup» = wordAt ns 9;
+      «max_mesh_output_vertices» = wordAt ns 10;
+      «max_mesh_output_primitives» = wordAt ns 11;
+      «max_task_payload_size» = wordAt ns 12;
+    }
+
+limits-again : (l : Limits) → every content (limitNumbers l) ≡ true → limitsOf (limitWords l) ≡ l
+unfolding contents
+limits-again l h = ap limitsFrom (limits-listed l h .again)
+
+-- ---- the records
+
+pub record HeldPack (i : Interface) : Type 0 where
+  pub limits : every content (limitNumbers (i .limits)) ≡ true
+  pub few-resources : length (i .resources) ≤ 128
+  pub few-entries : length (i .entries) ≤ 16
+  pub resources : every resourceHeld (i .resources) ≡ true
+  pub entries : every (entryPointHeld (i .resources)) (i .entries) ≡ true
+  pub distinct : distinctNames (i .entries) ≡ true
+  pub short : length (encode i) ≤ 4096
+
+held-pack : (i : Interface) → interfaceHeld i ≡ true → HeldPack i
+unfolding interfaceHeld
+held-pack i h =
+    both-then _ _ h λ limits h.
+    both-then _ _ h λ few-resources h.
+    both-then _ _ h λ few-entries h.
+    both-then _ _ h λ resources h.
+    both-then _ _ h λ entries h.
+    both-then _ _ h λ distinct short.
+    record {
+      limits = limits;
+      few-resources = leb-true (length (i .resources)) 128 few-resources;
+      few-entries = leb-true (length (i .entries)) 16 few-entries;
+      resources = resources;
+      entries = entries;
+      distinct = distinct;
+      short = leb-true (length (encode i)) 4096 short;
+    }
+
+-- a word of two numbers
+pub record Two (kind high low w : ℕ) : Type 0 where
+  pub is : kindOf w ≡ kind
+  pub upper : bits 26 16 w ≡ high
+  pub lower : bits 15 0 w ≡ low
+
+two : (kind high low : ℕ) → high < 2 ^ 11 → low < 2 ^ 16 → Two kind high low (ofKind kind (2 ^ 16 * high + low))
+two kind high low h l = omega arith
+
+module _ (i : Interface) (h : HeldPack i) where
+  written : length (encode i) ≡ length (recordWords i) + 2
+  unfolding encode
+  written = simp length-append (omega arith)
+
+  long : 14 ≤ length (recordWords i)
+  unfolding recordWords
+  long = simp length-append (omega arith)
+
+  edition : Two 1 1 (length (recordWords i) + 2) (ofKind 1 (2 ^ 16 * 1 + (length (recordWords i) + 2)))
+  edition = two 1 1 (length (recordWords i) + 2) (omega arith) (omega (arith, written, h .short))
+
+  totals : Two 2 (length (i .resources)) (length (i .entries)) (ofKind 2 (2 ^ 16 * length (i .resources) + length (i .entries)))
+  totals = two 2 (length (i .resources)) (length (i .entries)) (omega (arith, h .few-resources)) (omega (arith, h .few-entries))
+
+  laid : (rest : List ℕ) → recordWords i ++ rest ≡ ofKind 2 (2 ^ 16 * length (i .resources) + length (i .entries))
+      ∷ (limitWords (i .limits) ++ (concat resourceWords (i .resources) ++ (concat entryPointWords (i .entries) ++ rest)))
+  unfolding recordWords
+  laid rest = simp append-assoc
+
+  records-read : (rest : List ℕ) → readPack (openWords i ++ rest) ≡ got i rest
+  unfolding readPack
+  records-read rest =
+      let entries-on : List ℕ = concat entryPointWords (i .entries) ++ rest in
+      rw (
+        edition .is,
+        edition .upper,
+        laid rest,
+        totals .is,
+        totals .upper,
+        totals .lower,
+        le-leb (length (i .resources)) 128 (h .few-resources),
+        le-leb (length (i .entries)) 16 (h .few-entries),
+        limits-got (i .limits) (concat resourceWords (i .resources) ++ entries-on) (h .limits),
+        limits-again (i .limits) (h .limits),
+        totals .upper,
+        records-got readResource resourceWords resourceHeld words-read (i .resources) entries-on (h .resources),
+        totals .lower,
+        records-got (readEntryPoint (i .resources)) entryPointWords (entryPointHeld (i .resources)) (entry-got (i .resources) (h .few-resources)) (i .entries) rest (h .entries),
+        h .distinct,
+      )
+
+  -- ---- the pack
+
+  abbrev sum : ℕ
+  sum = sumOf (openWords i) % 2 ^ 32
+
+  before-last : length (openWords i) ≡ length (encode i) - 1
+  before-last = omega (arith, written)
+
+  body-is : body (encode i) ≡ openWords i
+  unfolding encode
+  body-is = take-at (openWords i) (sum ∷ []) (length (encode i) - 1) before-last
+
+  last-is : wordAt (encode i) (length (encode i) - 1) ≡ sum
+  unfolding encode
+  last-is = getD-at (openWords i) sum [] 0 (length (encode i) - 1) before-last
+
+  sum-is : closingSum (encode i) ≡ sum
+  unfolding closingSum
+  sum-is = rw body-is
+
+  first-lower : bits 15 0 (wordAt (encode i) 0) ≡ length (recordWords i) + 2
+  unfolding encode
+  first-lower = edition .lower
+
+  total : bits 15 0 (wordAt (encode i) 0) ≡ length (encode i)
+  total = rw written first-lower
+
+  whole-pack : torn (encode i) ≡ false
+  unfolding torn
+  whole-pack =
+      let n : ℕ = length (encode i) in
+      rw (le-ltb n 16 (omega (arith, written, long)), le-ltb 4096 n (h .short), total, eq-eqb n n refl, last-is, sum-is, eq-eqb sum sum refl)
+
+  decoded : decode (encode i) ≡ Pack i
+  unfolding decode
+  decoded = rw (whole-pack, body-is, ← append-nil (openWords i), records-read [])
+
+-- decoding what was encoded gives the meaning back
+pub decode-encode : (i : Interface) → interfaceHeld i ≡ true → decode (encode i) ≡ Pack i
+decode-encode i h = decoded i (held-pack i h)

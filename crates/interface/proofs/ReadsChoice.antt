@@ -1,0 +1,204 @@
+-- The ways of the functions that choose an entry point.
+use Prim.Native.Nat.{ℕ, zero, suc, _+_, _-_, _/_, _%_, _<_, _≤_}
+use native.Mathlib.Omega.{arith}
+use mathlib.Core.Path.{_≡_, refl, sym, ap, _∙_}
+use mathlib.Core.Bool.{Bool, true, false, _&&_}
+use mathlib.Core.List.{List, [], _∷_}
+use mir.Syntax.{w32}
+use mir.Val.{Fits}
+use borrow.Author.Tests.{lt-ltb, le-ltb, ltb-true}
+use lib.Dec.{eqb, ltb}
+use lib.ListN.{length}
+use Rattle.word.specs.Choice.{pick}
+use Rattle.word.specs.Words.{wordAt, bits}
+use Rattle.word.specs.Answers.{answer, refused}
+use Rattle.word.specs.declared.answer.Answer.{Answer}
+use Rattle.interface.specs.Meaning.{EntryPoint, Interface}
+use Rattle.interface.specs.Format.{stageAt, stageCode, named, sameBytes, Decoded, Torn, Misfiled, Pack, decode, decodedNumber}
+use Rattle.interface.specs.Reads.{nameAt, standing, interfaceOf}
+use Rattle.interface.specs.Rules.{ofStage, findFrom, findEntryPoint, onlyFrom, onlyEntryPoint, onlyAnswer, finalizeName}
+use Rattle.interface.specs.Parts.{recordsFrom, endFrom, workgroupAt, countsAt, inputsAt, partsAt, entryEnd, entryAt, entryCount, entriesAt, met, chosenIn}
+use Rattle.interface.specs.declared.types.ShaderStage.{ShaderStage}
+use Rattle.interface.specs.declared.types.Chosen.{Chosen}
+use Rattle.interface.specs.declared.types.Chosen.the-variants as Ch
+use Rattle.interface.proofs.ReadsRecords.{records-left, records-none, records-length, end-left}
+use Rattle.interface.proofs.ReadsParts.{past, head-past, outputs-past, varyings-past}
+use Rattle.interface.proofs.ReadsPack.{Accepted, accepted}
+
+-- ---- an entry point's stage and name
+
+pub stage-read : (ws : List ℕ) (head w a b : ℕ) (s stage : ShaderStage) → w ≡ wordAt ws head → s ≡ stageAt (w / 16777216 % 8) → a ≡ stageCode s → b ≡ stageCode stage
+    → eqb a b ≡ ofStage stage (entryAt ws head)
+unfolding standing partsAt
+stage-read ws head w a b s stage hw hs ha hb = rw (ha, hb, hs, hw)
+
+module _ (ws : List ℕ) (head : ℕ) (stage : ShaderStage) (name : List ℕ) (b c : Bool) (e : b ≡ ofStage stage (entryAt ws head)) where
+  pub named-other : b ≡ false → false ≡ named stage name (entryAt ws head)
+  named-other h = rw (← e, h)
+
+  pub named-same : b ≡ true → c ≡ sameBytes (nameAt ws head) name → c ≡ named stage name (entryAt ws head)
+  unfolding standing partsAt
+  named-same h g = rw (← e, h) g
+
+-- ---- the entry points that are left
+
+abbrev pub left-of : List ℕ → ℕ → ℕ → List EntryPoint
+left-of ws left at = recordsFrom (entryAt ws) (entryEnd ws) left at
+
+module _ (ws : List ℕ) (h : decodedNumber (decode ws) ≡ 0) (left at : ℕ) (hl : left ≡ entryCount ws) (ha : at ≡ entriesAt ws) where
+  pub entries-begin : interfaceOf (decode ws) .entries ≡ left-of ws left at
+  entries-begin = rw (hl, ha) (accepted ws h .entries)
+
+  pub ends-begin : endFrom (entryEnd ws) left at ≤ length ws
+  ends-begin = rw (hl, ha) (accepted ws h .ends)
+
+module _ (ws : List ℕ) (left at : ℕ) (ends : endFrom (entryEnd ws) left at ≤ length ws) (h : left ≡ 0 → ⊥) where
+  pub ends-onward : (next : ℕ) → next ≡ entryEnd ws at → endFrom (entryEnd ws) (left - 1) next ≤ length ws
+  ends-onward next e = rw e (rw (end-left (entryEnd ws) left at h) at ends)
+
+  workgroup-outputs : workgroupAt ws at ≤ partsAt ws at .outputs
+  unfolding partsAt
+  workgroup-outputs = omega (arith, varyings-past ws (bits 11 6 (wordAt ws (countsAt ws at))) (inputsAt ws (countsAt ws at)))
+
+  pub name-within : workgroupAt ws at ≤ length ws
+  name-within =
+      omega (arith, workgroup-outputs, outputs-past ws at, past (entryEnd ws) (head-past ws) (left - 1) (entryEnd ws at), end-left (entryEnd ws) left at h)
+
+-- ---- by stage and name
+
+module _ (ws name : List ℕ) (stage : ShaderStage) (left at i : ℕ) (b : Bool) (goal : Chosen) (inv : goal ≡ findFrom stage name (left-of ws left at) i)
+    (h : left ≡ 0 → ⊥) (e : b ≡ named stage name (entryAt ws at)) where
+  find-step : goal ≡ pick b (Ch.At i) (findFrom stage name (left-of ws (left - 1) (entryEnd ws at)) (i + 1))
+  unfolding findFrom
+  find-step = inv ∙ rw (records-left (entryAt ws) (entryEnd ws) left at h, e)
+
+  pub find-here : b ≡ true → Ch.At i ≡ goal
+  find-here t = sym (find-step ∙ rw t)
+
+  pub find-onward : (next : ℕ) → b ≡ false → next ≡ entryEnd ws at → goal ≡ findFrom stage name (left-of ws (left - 1) next) (i + 1)
+  find-onward next t n = find-step ∙ rw (t, n)
+
+pub find-ended : (ws name : List ℕ) (stage : ShaderStage) (left at i : ℕ) (goal : Chosen) → goal ≡ findFrom stage name (left-of ws left at) i → left ≡ 0 → Ch.Absent ≡ goal
+unfolding findFrom
+find-ended ws name stage left at i goal inv h = sym (inv ∙ rw (records-none (entryAt ws) (entryEnd ws) left at h))
+
+pub find-begin : (stage : ShaderStage) (name : List ℕ) (es fs : List EntryPoint) → es ≡ fs → findEntryPoint stage name es ≡ findFrom stage name fs 0
+find-begin stage name es fs e = rw e
+
+-- ---- by stage alone
+
+module _ (found : Chosen) (b : Bool) (i : ℕ) where
+  pub met-first : b ≡ true → found ≡ Ch.Absent → Ch.At i ≡ met found b i
+  met-first h e = rw (h, e)
+
+  pub met-second : (j : ℕ) → b ≡ true → found ≡ Ch.At j → Ch.Several ≡ met found b i
+  met-second j h e = rw (h, e)
+
+  pub met-later : b ≡ true → found ≡ Ch.Several → Ch.Several ≡ met found b i
+  met-later h e = rw (h, e)
+
+  pub met-other : b ≡ false → found ≡ met found b i
+  met-other h = rw h
+
+several-stays : (stage : ShaderStage) (es : List EntryPoint) (i : ℕ) → onlyFrom stage Ch.Several es i ≡ Ch.Several
+unfolding onlyFrom
+several-stays stage [] i = refl
+several-stays stage (e ∷ es) i = refl
+
+only-step : (stage : ShaderStage) (found : Chosen) (e : EntryPoint) (es : List EntryPoint) (i : ℕ) (b : Bool) → b ≡ ofStage stage e
+    → onlyFrom stage found (e ∷ es) i ≡ onlyFrom stage (met found b i) es (i + 1)
+unfolding onlyFrom
+only-step stage Ch.Absent e es i true h = rw (← h)
+only-step stage Ch.Absent e es i false h = rw (← h)
+only-step stage (Ch.At j) e es i true h = rw (← h) (sym (several-stays stage es (i + 1)))
+only-step stage (Ch.At j) e es i false h = rw (← h)
+only-step stage Ch.Several e es i true h = sym (several-stays stage es (i + 1))
+only-step stage Ch.Several e es i false h = sym (several-stays stage es (i + 1))
+
+pub only-onward : (ws : List ℕ) (stage : ShaderStage) (found more goal : Chosen) (left at next i : ℕ) (b : Bool) → goal ≡ onlyFrom stage found (left-of ws left at) i
+    → (left ≡ 0 → ⊥) → b ≡ ofStage stage (entryAt ws at) → more ≡ met found b i → next ≡ entryEnd ws at
+    → goal ≡ onlyFrom stage more (left-of ws (left - 1) next) (i + 1)
+only-onward ws stage found more goal left at next i b inv h e m n =
+    inv ∙ rw (records-left (entryAt ws) (entryEnd ws) left at h, m, n) (only-step stage found (entryAt ws at) (left-of ws (left - 1) (entryEnd ws at)) i b e)
+
+pub only-ended : (ws : List ℕ) (stage : ShaderStage) (found goal : Chosen) (left at i : ℕ) → goal ≡ onlyFrom stage found (left-of ws left at) i → left ≡ 0 → found ≡ goal
+unfolding onlyFrom
+only-ended ws stage found goal left at i inv h = sym (inv ∙ rw (records-none (entryAt ws) (entryEnd ws) left at h) (stays found))
+  where
+    stays : (c : Chosen) → onlyFrom stage c [] i ≡ c
+    stays c = refl
+
+pub only-begin : (stage : ShaderStage) (es fs : List EntryPoint) → es ≡ fs → onlyEntryPoint stage es ≡ onlyFrom stage Ch.Absent fs 0
+only-begin stage es fs e = rw e
+
+-- ---- a chosen place is one of the entry points'
+
+pub here-in : (i left n : ℕ) (es : List EntryPoint) → i + left ≡ n → (left ≡ 0 → ⊥) → n ≡ length es → chosenIn (Ch.At i) (length es) ≡ true
+here-in i left n es s h e = lt-ltb i (length es) (omega arith)
+
+pub next-in : (i : ℕ) → chosenIn (Ch.At i) (i + 1) ≡ true
+next-in i = lt-ltb i (i + 1) (omega arith)
+
+pub still-in : (found : Chosen) (i : ℕ) → chosenIn found i ≡ true → chosenIn found (i + 1) ≡ true
+still-in Ch.Absent i h = refl
+still-in (Ch.At j) i h = lt-ltb j (i + 1) (omega (arith, ltb-true j i h))
+still-in Ch.Several i h = refl
+
+pub ended-in : (found : Chosen) (i left n : ℕ) (es : List EntryPoint) → chosenIn found i ≡ true → i + left ≡ n → left ≡ 0 → n ≡ length es → chosenIn found (length es) ≡ true
+ended-in found i left n es h s z e = let c : length es ≡ i = omega arith in rw c h
+
+-- ---- where no name is given
+
+pub place-fits : (chosen : Chosen) (i : ℕ) → chosenIn chosen 16 ≡ true → chosen ≡ Ch.At i → Fits w32 i
+place-fits chosen i h e = record { fits = omega (arith, ltb-true i 16 (rw e at h)) }
+
+pub few-in : (ws : List ℕ) (c : Chosen) (n : ℕ) → n ≡ decodedNumber (decode ws) → n ≡ 0
+    → chosenIn c (length (interfaceOf (decode ws) .entries)) ≡ true → chosenIn c 16 ≡ true
+few-in ws c n e z k = by c k
+  where
+    h : decodedNumber (decode ws) ≡ 0
+    h = sym e ∙ z
+
+    few : length (interfaceOf (decode ws) .entries) ≤ 16
+    few = rw (accepted ws h .entries, records-length (entryAt ws) (entryEnd ws) (entryCount ws) (entriesAt ws)) (accepted ws h .few-entries)
+
+    by : (c : Chosen) → chosenIn c (length (interfaceOf (decode ws) .entries)) ≡ true → chosenIn c 16 ≡ true
+    by (Ch.At i) k = lt-ltb i 16 (omega (arith, ltb-true i (length (interfaceOf (decode ws) .entries)) k, few))
+    by Ch.Absent k = refl
+    by Ch.Several k = refl
+
+module _ (chosen : Chosen) (x : Answer) where
+  pub answer-at : (i : ℕ) → chosen ≡ Ch.At i → x ≡ answer 0 i 0 0 → x ≡ onlyAnswer chosen
+  answer-at i e h = rw e h
+
+  pub answer-none : chosen ≡ Ch.Absent → x ≡ refused 11 → x ≡ onlyAnswer chosen
+  answer-none e h = rw e h
+
+  pub answer-several : chosen ≡ Ch.Several → x ≡ refused 12 → x ≡ onlyAnswer chosen
+  answer-several e h = rw e h
+
+module _ (ws : List ℕ) (stage n : ℕ) (x : Answer) (e : n ≡ decodedNumber (decode ws)) where
+  pub pack-refused : (n ≡ 0 → ⊥) → x ≡ refused n → x ≡ finalizeName (decode ws) stage
+  unfolding finalizeName
+  pack-refused z h = by (decode ws) (λ k. z (e ∙ k)) (rw e at h)
+    where
+      by : (d : Decoded) → (decodedNumber d ≡ 0 → ⊥) → x ≡ refused (decodedNumber d) → x ≡ finalizeName d stage
+      by Torn z h = h
+      by Misfiled z h = h
+      by (Pack i) z h = absurd (z refl)
+
+  stage-of : (x : Answer) → n ≡ 0 → x ≡ pick (ltb stage 5) (onlyAnswer (onlyEntryPoint (stageAt stage) (interfaceOf (decode ws) .entries))) (refused 3) → x ≡ finalizeName (decode ws) stage
+  unfolding finalizeName
+  stage-of x z h = by (decode ws) (sym e ∙ z) h
+    where
+      by : (d : Decoded) → decodedNumber d ≡ 0 → x ≡ pick (ltb stage 5) (onlyAnswer (onlyEntryPoint (stageAt stage) (interfaceOf d .entries))) (refused 3) → x ≡ finalizeName d stage
+      by Torn z h = absurd (omega arith)
+      by Misfiled z h = absurd (omega arith)
+      by (Pack i) z h = h
+
+  pub stage-refused : n ≡ 0 → 4 < stage → x ≡ refused 3 → x ≡ finalizeName (decode ws) stage
+  stage-refused z k h = stage-of x z (rw (le-ltb stage 5 k) h)
+
+  pub stage-chosen : (s : ShaderStage) (c : Chosen) → n ≡ 0 → stage ≤ 4 → s ≡ stageAt stage → c ≡ onlyEntryPoint s (interfaceOf (decode ws) .entries)
+      → x ≡ onlyAnswer c → x ≡ finalizeName (decode ws) stage
+  stage-chosen s c z k hs hc h = stage-of x z (rw (lt-ltb stage 5 (omega arith), ← hs, ← hc) h)

@@ -1,0 +1,125 @@
+-- The ways of the functions that walk from record to record.
+use Prim.Native.Nat.{ℕ, zero, suc, _+_, _-_, _/_, _%_, _<_, _≤_}
+use native.Mathlib.Omega.{arith}
+use native.Mathlib.Numerals.{sub-one}
+use mathlib.Core.Path.{_≡_, refl, sym, ap, _∙_}
+use mathlib.Core.Bool.{Bool, true, false}
+use mathlib.Core.List.{List, [], _∷_}
+use borrow.Author.Tests.{eq-eqb, ne-eqb}
+use lib.Dec.{eqb}
+use lib.ListN.{length, drop}
+use Rattle.word.specs.Choice.{pick}
+use Rattle.word.specs.Words.{wordAt, bits, bit}
+use Rattle.interface.specs.Meaning.{EntryPoint, Interface}
+use Rattle.interface.specs.Format.{nameWords, decode, decodedNumber}
+use Rattle.interface.specs.Reads.{varyingWidth, interfaceOf, standing, entryNth}
+use Rattle.interface.specs.Parts.{recordsFrom, endFrom, varyingEnd, varyingsEnd, resourceEnd, countsAt, inputsAt, partsAt, entryEnd, entryAt, entriesAt, entryCount, headAt, Placed}
+use Rattle.interface.specs.declared.types.EntryParts.{EntryParts}
+use Rattle.interface.proofs.ReadsRecords.{end-left, end-none, records-length}
+use Rattle.interface.proofs.ReadsPack.{Accepted, accepted}
+
+-- ---- the position behind as many records
+
+pub end-onward : (after : ℕ → ℕ) (n at next goal : ℕ) → goal ≡ endFrom after n at → (n ≡ 0 → ⊥) → next ≡ after at → goal ≡ endFrom after (n - 1) next
+end-onward after n at next goal inv h e = rw e (inv ∙ end-left after n at h)
+
+pub end-begins : (after : ℕ → ℕ) (n left at start : ℕ) → left ≡ n → start ≡ at → endFrom after n at ≡ endFrom after left start
+end-begins after n left at start e f = rw (e, f)
+
+pub end-ended : (after : ℕ → ℕ) (n at goal : ℕ) → goal ≡ endFrom after n at → n ≡ 0 → at ≡ goal
+end-ended after n at goal inv h = sym (inv ∙ end-none after n at h)
+
+pub varyings-onward : (ws : List ℕ) (n at w goal : ℕ) → goal ≡ varyingsEnd ws n at → (n ≡ 0 → ⊥) → w ≡ varyingWidth (drop at ws)
+    → goal ≡ varyingsEnd ws (n - 1) (at + w)
+varyings-onward ws n at w goal inv h e = rw e (inv ∙ end-left (varyingEnd ws) n at h)
+
+module _ (ws : List ℕ) (at w : ℕ) (hw : w ≡ wordAt ws (at + 1)) where
+  pub resource-buffer : w / 8388608 % 16 ≡ 0 → at + 3 ≡ resourceEnd ws at
+  resource-buffer h = rw (← hw, eq-eqb (w / 8388608 % 16) 0 h)
+
+  pub resource-other : (w / 8388608 % 16 ≡ 0 → ⊥) → at + 2 ≡ resourceEnd ws at
+  resource-other h = rw (← hw, ne-eqb (w / 8388608 % 16) 0 h)
+
+-- ---- an entry point
+
+abbrev partsBy : ℕ → ℕ → ℕ → ℕ → ℕ → ℕ → EntryParts
+partsBy head workgroup counts resources pairs outputs =
+    record {
+      head = head;
+      workgroup = workgroup;
+      counts = counts;
+      resources = counts + 1;
+      pairs = counts + 1 + resources;
+      inputs = counts + 1 + resources + pairs;
+      outputs = outputs;
+    }
+
+module _ (ws : List ℕ) (head first names mesh numbers resources pairs inputs outputs : ℕ) where
+  pub parts-read : first ≡ wordAt ws head → names ≡ nameWords (bits 22 16 first) → mesh ≡ pick (eqb (bit 1 first) 1) 3 0
+      → numbers ≡ wordAt ws (head + 1 + names + 4 + mesh) → resources ≡ bits 23 18 numbers → pairs ≡ bits 17 12 numbers → inputs ≡ bits 11 6 numbers
+      → outputs ≡ varyingsEnd ws inputs (head + 1 + names + 4 + mesh + 1 + resources + pairs)
+      → partsBy head (head + 1 + names) (head + 1 + names + 4 + mesh) resources pairs outputs ≡ partsAt ws head
+  unfolding partsAt
+  parts-read hf hn hm hw hr hp hi ho = rw (ho, hi, hp, hr, hw, hm, hn, hf)
+
+pub entry-end-read : (ws : List ℕ) (head w n r : ℕ) (parts : EntryParts) → parts ≡ partsAt ws head → w ≡ wordAt ws (parts .counts) → n ≡ bits 5 0 w
+    → r ≡ varyingsEnd ws n (parts .outputs) → r ≡ entryEnd ws head
+unfolding entryEnd
+entry-end-read ws head w n r parts hp hw hn hr = hr ∙ rw (hn, hw, hp)
+
+-- ---- the entry point at a place
+
+pub past : (after : ℕ → ℕ) → ((at : ℕ) → at ≤ after at) → (n at : ℕ) → at ≤ endFrom after n at
+unfolding endFrom
+past after rises zero at = omega arith
+past after rises (suc n) at = omega (arith, rises at, past after rises n (after at))
+
+within : (after : ℕ → ℕ) → ((at : ℕ) → at ≤ after at) → (p n at : ℕ) → p < n → after (endFrom after p at) ≤ endFrom after n at
+unfolding endFrom
+within after rises zero zero at h = absurd (omega arith)
+within after rises zero (suc n) at h = past after rises n (after at)
+within after rises (suc p) zero at h = absurd (omega arith)
+within after rises (suc p) (suc n) at h = within after rises p n (after at) (omega arith)
+
+nth : (ws : List ℕ) (p n at : ℕ) → p < n → entryNth (recordsFrom (entryAt ws) (entryEnd ws) n at) p ≡ entryAt ws (endFrom (entryEnd ws) p at)
+unfolding recordsFrom endFrom entryNth
+nth ws zero zero at h = absurd (omega arith)
+nth ws zero (suc n) at h = refl
+nth ws (suc p) zero at h = absurd (omega arith)
+nth ws (suc p) (suc n) at h = nth ws p n (entryEnd ws at) (omega arith)
+
+pub varyings-past : (ws : List ℕ) (n at : ℕ) → at ≤ varyingsEnd ws n at
+varyings-past ws n at = past (varyingEnd ws) (λ at. omega arith) n at
+
+-- an entry point's parts rise from its first word to its end
+module _ (ws : List ℕ) (head : ℕ) where
+  pub outputs-past : partsAt ws head .outputs ≤ entryEnd ws head
+  unfolding entryEnd
+  outputs-past = varyings-past ws _ (partsAt ws head .outputs)
+
+  rising : partsAt ws head .outputs ≤ length ws → length ws ≤ 4096 → Placed ws (partsAt ws head)
+  unfolding partsAt
+  rising o s = record { name = omega arith; workgroup = omega arith; counts = refl; resources = refl; pairs = refl; inputs = varyings-past ws _ _; outputs = o; short = s }
+
+  head-outputs : head ≤ partsAt ws head .outputs
+  unfolding partsAt
+  head-outputs = omega (arith, varyings-past ws (bits 11 6 (wordAt ws (countsAt ws head))) (inputsAt ws (countsAt ws head)))
+
+  pub head-past : head ≤ entryEnd ws head
+  head-past = omega (arith, head-outputs, outputs-past)
+
+counted : (ws : List ℕ) (p : ℕ) → decodedNumber (decode ws) ≡ 0 → p < length (interfaceOf (decode ws) .entries) → p < entryCount ws
+counted ws p h k = rw (accepted ws h .entries, records-length (entryAt ws) (entryEnd ws) (entryCount ws) (entriesAt ws)) at k
+
+pub place-few : (ws : List ℕ) (p : ℕ) → decodedNumber (decode ws) ≡ 0 → p < length (interfaceOf (decode ws) .entries) → p ≤ 16
+place-few ws p h k = omega (arith, counted ws p h k, accepted ws h .few-entries)
+
+module _ (ws : List ℕ) (p head : ℕ) (parts : EntryParts) (h : decodedNumber (decode ws) ≡ 0) (k : p < length (interfaceOf (decode ws) .entries))
+    (e : head ≡ headAt ws p) (d : parts ≡ partsAt ws head) where
+  pub nth-read : standing ws parts ≡ entryNth (interfaceOf (decode ws) .entries) p
+  nth-read = rw (d, e, accepted ws h .entries) (sym (nth ws p (entryCount ws) (entriesAt ws) (counted ws p h k)))
+
+  pub nth-placed : Placed ws parts
+  nth-placed =
+      let i : entryEnd ws head ≤ endFrom (entryEnd ws) (entryCount ws) (entriesAt ws) = rw e (within (entryEnd ws) (head-past ws) p (entryCount ws) (entriesAt ws) (counted ws p h k)) in
+      rw d (rising ws head (omega (arith, outputs-past ws head, accepted ws h .ends)) (accepted ws h .short))

@@ -1,0 +1,91 @@
+-- The ways of the functions that read what stands in a pack.
+use Prim.Native.Nat.{ℕ, _+_, _/_, _%_, _≤_, _^_}
+use native.Mathlib.Nat.{add-zero}
+use mathlib.Core.Path.{_≡_, refl, sym, ap, _∙_}
+use mathlib.Core.List.{List}
+use borrow.Author.Tests.{eq-eqb, ne-eqb}
+use lib.ListN.{length, drop}
+use lib.Seq.{getD-drop}
+use Rattle.word.specs.Words.{wordAt, kindOf, contentOf, bits}
+use Rattle.varying.specs.Format.{varOf}
+use Rattle.varying.specs.declared.InterfaceVar.{InterfaceVar}
+use Rattle.interface.specs.Format.{builtInOf, pairOf, decode, decodedNumber, limitsOf}
+use Rattle.interface.specs.Reads.{varying, varyingWidth, interfaceOf}
+use Rattle.interface.specs.Parts.{resourceCount, entryCount, resourceEnd, entryEnd, entriesAt, entryAt}
+use Rattle.resource.specs.Format.{resourceAt}
+use Rattle.interface.specs.declared.types.BuiltIn.{BuiltIn}
+use Rattle.interface.specs.declared.types.Limits.{Limits}
+use Rattle.interface.specs.declared.types.Varying.{Varying}
+use Rattle.interface.specs.declared.types.Varying.the-variants as Var
+use Rattle.interface.proofs.ReadsRecords.{records-length}
+use Rattle.interface.proofs.ReadsPack.{Accepted, accepted}
+
+first-word : (ws : List ℕ) (at : ℕ) → wordAt (drop at ws) 0 ≡ wordAt ws at
+first-word ws at = getD-drop at ws 0 0 ∙ ap (λ (n : ℕ). wordAt ws n) (add-zero at)
+
+module _ (ws : List ℕ) (at w k : ℕ) (hw : w ≡ wordAt ws at) (hk : k ≡ kindOf w) where
+  pub varying-local : (v l : ℕ) (iv : InterfaceVar) → k ≡ 12 → v ≡ wordAt ws (at + 1) → iv ≡ varOf v → l ≡ contentOf w → Var.Local l iv ≡ varying (drop at ws)
+  varying-local v l iv h hv hi hl = rw (first-word ws at, getD-drop at ws 1 0, ← hw, ← hk, eq-eqb k 12 h) (cc)
+
+  pub varying-built-in : (b : BuiltIn) → (k ≡ 12 → ⊥) → b ≡ builtInOf w → Var.BuiltIn b ≡ varying (drop at ws)
+  varying-built-in b h hb = rw (first-word ws at, ← hw, ← hk, ne-eqb k 12 h) (cc)
+
+  pub width-local : k ≡ 12 → 2 ≡ varyingWidth (drop at ws)
+  width-local h = rw (first-word ws at, ← hw, ← hk, eq-eqb k 12 h)
+
+  pub width-built-in : (k ≡ 12 → ⊥) → 1 ≡ varyingWidth (drop at ws)
+  width-built-in h = rw (first-word ws at, ← hw, ← hk, ne-eqb k 12 h)
+
+pub pair-read : (ws : List ℕ) (at w : ℕ) → w ≡ wordAt ws at → record { texture = w / 256 % 256; sampler = w % 256 } ≡ pairOf (wordAt ws at)
+pair-read ws at w h = rw h
+
+abbrev limit : List ℕ → ℕ → ℕ
+limit ws at = contentOf (wordAt ws at)
+
+abbrev limitsBy : ℕ → ℕ → ℕ → ℕ → ℕ → ℕ → ℕ → ℕ → ℕ → ℕ → ℕ → ℕ → ℕ → Limits
+limitsBy a b c d e f g i j k l m n =
+    record {
+      «max_inter_stage_shader_variables» = a;
+      «max_color_attachments» = b;
+      «max_compute_workgroup_size_x» = c;
+      «max_compute_workgroup_size_y» = d;
+      «max_compute_workgroup_size_z» = e;
+      «max_compute_invocations_per_workgroup» = f;
+      «max_task_invocations_per_dimension» = g;
+      «max_task_invocations_per_workgroup» = i;
+      «max_mesh_invocations_per_dimension» = j;
+      «max_mesh_invocations_per_workgroup» = k;
+      «max_mesh_output_vertices» = l;
+      «max_mesh_output_primitives» = m;
+      «max_task_payload_size» = n;
+    }
+
+abbrev limitsAt : List ℕ → Limits
+limitsAt ws =
+    limitsBy (limit ws 2) (limit ws 3) (limit ws 4) (limit ws 5) (limit ws 6) (limit ws 7) (limit ws 8) (limit ws 9) (limit ws 10) (limit ws 11) (limit ws 12)
+    (limit ws 13) (limit ws 14)
+
+limits-drop : (ws : List ℕ) → limitsOf (drop 2 ws) ≡ limitsAt ws
+limits-drop ws =
+    let t : (k : ℕ) → wordAt (drop 2 ws) k ≡ wordAt ws (2 + k) = λ k. getD-drop 2 ws k 0 in
+    rw (t 0, t 1, t 2, t 3, t 4, t 5, t 6, t 7, t 8, t 9, t 10, t 11, t 12)
+
+module _ (ws : List ℕ) (h : decodedNumber (decode ws) ≡ 0) where
+  pub limits-read : (a b c d e f g i j k l m n : ℕ) → a ≡ limit ws 2 → b ≡ limit ws 3 → c ≡ limit ws 4 → d ≡ limit ws 5 → e ≡ limit ws 6 → f ≡ limit ws 7 → g ≡ limit ws 8
+      → i ≡ limit ws 9 → j ≡ limit ws 10 → k ≡ limit ws 11 → l ≡ limit ws 12 → m ≡ limit ws 13 → n ≡ limit ws 14
+      → limitsBy a b c d e f g i j k l m n ≡ interfaceOf (decode ws) .limits
+  limits-read a b c d e f g i j k l m n pa pb pc pd pe pf pg pi pj pk pl pm pn =
+      rw (pa, pb, pc, pd, pe, pf, pg, pi, pj, pk, pl, pm, pn) (sym (accepted ws h .limits ∙ limits-drop ws))
+
+  module _ (w : ℕ) (hw : w ≡ wordAt ws 1) where
+    pub entries-counted : w % 65536 ≡ length (interfaceOf (decode ws) .entries)
+    entries-counted = rw hw (sym (ap length (accepted ws h .entries) ∙ records-length (entryAt ws) (entryEnd ws) (entryCount ws) (entriesAt ws)))
+
+    pub entries-few : w % 65536 ≤ 16
+    entries-few = rw hw (accepted ws h .few-entries)
+
+    pub resources-counted : w / 65536 % 2048 ≡ length (interfaceOf (decode ws) .resources)
+    resources-counted = rw hw (sym (ap length (accepted ws h .resources) ∙ records-length (resourceAt ws) (resourceEnd ws) (resourceCount ws) 15))
+
+    pub resources-few : w / 65536 % 2048 ≤ 128
+    resources-few = rw hw (accepted ws h .few-resources)

@@ -1,0 +1,19 @@
+use Rattle.interface.proofs.CheckWords.{pair-kind, pair-other, pair-last}
+use Rattle.word.proofs.Tests.{tests}
+use borrow.Author.Needs.{needs}
+use Rattle.interface.proofs.check_entry.pair_filed.Statement.{statement}
+use Rattle.interface.proofs.check_entry.pair_filed.Tie as tie
+
+pub pair-filed-spec : {M : Type 1} → statement M
+pair-filed-spec =
+    tie.close
+    (tie.spec
+    (λ c κs. search needs)  -- kind-requires
+    (λ c. search (pair-kind, tests))  -- returns
+    (λ c. search (pair-kind, tests))  -- returns-2
+    (λ c. search needs)  -- cast-word
+    (λ c κs. search needs)  -- word-requires
+    (λ c. search pair-other)  -- returns-3
+    (λ c. search needs)  -- cast-word-2
+    (λ c κs. search needs)  -- word-requires-2
+    (λ c. search pair-last))  -- returns-4

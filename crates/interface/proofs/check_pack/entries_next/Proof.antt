@@ -1,0 +1,16 @@
+use borrow.Author.Needs.{needs, counted-is}
+use Rattle.interface.proofs.CheckPack.{entries-stop, entries-twice, entries-go, heads-long}
+use Rattle.interface.proofs.check_pack.entries_next.Statement.{statement}
+use Rattle.interface.proofs.check_pack.entries_next.Tie as tie
+
+pub entries-next-spec : {M : Type 1} → statement M
+entries-next-spec =
+    tie.close
+    (tie.spec
+    (λ c κs. search needs)  -- entry-points-next-requires
+    (λ c. (search entries-stop, search needs))  -- returns
+    (λ c. search needs)  -- array-share-prefix-heads
+    (λ c. search (counted-is, heads-long))  -- slice-aggregate-names-distinct
+    (λ c κs. search needs)  -- names-distinct-requires
+    (λ c. (search entries-twice, search needs))  -- returns-2
+    (λ c. (search entries-go, search needs)))  -- returns-3

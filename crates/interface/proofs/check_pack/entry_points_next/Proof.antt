@@ -1,0 +1,37 @@
+use Prim.Native.Nat.{_-_, _≤_}
+use mathlib.Core.Path.{_≡_, refl}
+use lib.ListN.{length, take, drop}
+use borrow.Author.Needs.{needs}
+use Rattle.word.specs.Parse.{several, behind, restAt}
+use Rattle.word.proofs.Parse.{several-begins, several-more, several-stops, several-ended}
+use Rattle.interface.specs.Format.{readEntryPoint}
+use Rattle.interface.specs.Walks.{listed, packResources, Headed}
+use Rattle.interface.proofs.CheckEntries.{heads-begin, heads-go, heads-end}
+use Rattle.interface.proofs.check_pack.entry_points_next.Statement.{statement}
+use Rattle.interface.proofs.check_pack.entry_points_next.Tie as tie
+
+abbrev Inv-loop : tie.InvT-loop
+Inv-loop body from n count roles heads₀ at₀ i₀ heads at i =
+    (1 ≤ at) × (at ≤ length body) × (i ≤ n) × (length heads ≡ 16)
+    × (restAt body at ≡ behind (several i (readEntryPoint (packResources count body)) (drop from body)))
+    × Headed body (take i heads) (listed (several i (readEntryPoint (packResources count body)) (drop from body)))
+
+abbrev μ-loop : tie.MeasureT-loop
+μ-loop body from n count roles heads₀ at₀ i₀ heads at i = n - i
+
+pub entry-points-next-spec : {M : Type 1} → statement M
+entry-points-next-spec =
+    tie.close
+    (tie.spec
+    Inv-loop
+    μ-loop
+    (λ c. (search needs, search needs, search needs, search needs, search several-begins, search heads-begin))  -- loop-holds
+    (λ c κs. search needs)  -- entry-point-next-requires
+    (λ c. (search several-stops, (search needs, (λ n. absurd (n refl), search needs))))  -- returns
+    (λ c. search needs)  -- cast-heads
+    (λ c. search needs)  -- mul-heads
+    (λ c. search needs)  -- element-write-heads
+    (λ c. search needs)  -- add-i
+    (λ c. search needs)  -- loop-less
+    (λ c. (search needs, search needs, search needs, search needs, search several-more, search heads-go))  -- loop-again
+    (λ c. (search several-ended, (search needs, (λ n. search heads-end, search needs)))))  -- returns-2

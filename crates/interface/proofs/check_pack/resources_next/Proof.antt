@@ -1,0 +1,39 @@
+use Prim.Native.Nat.{_-_, _≤_}
+use mathlib.Core.Path.{_≡_, refl}
+use mathlib.Core.List.{_++_}
+use lib.ListN.{length, drop}
+use borrow.Author.Needs.{needs}
+use Rattle.word.specs.Parse.{several, behind, restAt}
+use Rattle.word.proofs.Parse.{several-begins, several-more, several-stops, several-ended}
+use Rattle.resource.specs.Format.{readResource}
+use Rattle.interface.specs.Walks.{listed, pairRoles}
+use Rattle.interface.proofs.CheckRecords.{roles-begin, roles-go, roles-end}
+use Rattle.interface.proofs.check_pack.resources_next.Statement.{statement}
+use Rattle.interface.proofs.check_pack.resources_next.Tie as tie
+
+abbrev Inv-loop : tie.InvT-loop
+Inv-loop body from n roles₀ at₀ i₀ roles at i =
+    (1 ≤ at) × (at ≤ length body) × (i ≤ n) × (restAt body at ≡ behind (several i readResource (drop from body)))
+    × (roles ≡ pairRoles (listed (several i readResource (drop from body))) ++ drop i roles₀)
+
+abbrev μ-loop : tie.MeasureT-loop
+μ-loop body from n roles₀ at₀ i₀ roles at i = n - i
+
+pub resources-next-spec : {M : Type 1} → statement M
+resources-next-spec =
+    tie.close
+    (tie.spec
+    Inv-loop
+    μ-loop
+    (λ c. (search needs, search needs, search needs, search several-begins, search roles-begin))  -- loop-holds
+    (λ c κs. search needs)  -- resource-next-requires
+    (λ c. (search several-stops, (search needs, λ n. absurd (n refl))))  -- returns
+    (λ c. search needs)  -- add-word
+    (λ c κs. search needs)  -- word-requires
+    (λ c κs. search needs)  -- role-requires
+    (λ c. search needs)  -- mul-roles
+    (λ c. search needs)  -- element-write-roles
+    (λ c. search needs)  -- add-i
+    (λ c. search needs)  -- loop-less
+    (λ c. (search needs, search needs, search needs, search several-more, search roles-go))  -- loop-again
+    (λ c. (search several-ended, (search needs, λ n. search roles-end))))  -- returns-2

@@ -1,0 +1,32 @@
+use Prim.Native.Nat.{_≤_}
+use mathlib.Core.Path.{_≡_}
+use lib.ListN.{length, drop}
+use borrow.Author.Needs.{needs}
+use Rattle.interface.specs.Walks.{varyingsBehind}
+use Rattle.interface.proofs.CheckVaryings.{varyings-stop, varyings-go, codes-stay, varyings-ended}
+use Rattle.interface.proofs.check_varyings.varyings_next.Statement.{statement}
+use Rattle.interface.proofs.check_varyings.varyings_next.Tie as tie
+
+abbrev Inv-loop : tie.InvT-loop
+Inv-loop body from n codes at₀ left₀ below₀ at left below =
+    (1 ≤ at) × (at ≤ length body) × (4 ≤ below) × (below ≤ 5) × (varyingsBehind n codes (drop from body) ≡ varyingsBehind left below (drop at body))
+
+abbrev μ-loop : tie.MeasureT-loop
+μ-loop body from n codes at₀ left₀ below₀ at left below = left
+
+pub varyings-next-spec : {M : Type 1} → statement M
+varyings-next-spec =
+    tie.close
+    (tie.spec
+    Inv-loop
+    μ-loop
+    (λ c. search needs)  -- loop-holds
+    (λ c κs. search needs)  -- varying-next-requires
+    (λ c. (search varyings-stop, search needs))  -- returns
+    (λ c κs. search needs)  -- word-requires
+    (λ c κs. search needs)  -- clip-requires
+    (λ c. search needs)  -- sub-below
+    (λ c. search needs)  -- sub-left
+    (λ c. search needs)  -- loop-less
+    (λ c. (search needs, search needs, search codes-stay, search needs, search varyings-go))  -- loop-again
+    (λ c. (search varyings-ended, search needs)))  -- returns-2

@@ -1,0 +1,13 @@
+use Rattle.interface.proofs.ReadsChoice.{named-same, named-other}
+use borrow.Author.Needs.{needs}
+use Rattle.interface.proofs.choose.is_named.Statement.{statement}
+use Rattle.interface.proofs.choose.is_named.Tie as tie
+
+pub is-named-spec : {M : Type 1} → statement M
+is-named-spec =
+    tie.close
+    (tie.spec
+    (λ c κs. search needs)  -- of-stage-requires
+    (λ c κs. search needs)  -- same-name-requires
+    (λ c. search named-same)  -- returns
+    (λ c. search named-other))  -- returns-2

@@ -1,0 +1,14 @@
+use Rattle.interface.proofs.ReadsChoice.{stage-read}
+use borrow.Author.Needs.{needs}
+use Rattle.interface.proofs.choose.of_stage.Statement.{statement}
+use Rattle.interface.proofs.choose.of_stage.Tie as tie
+
+pub of-stage-spec : {M : Type 1} → statement M
+of-stage-spec =
+    tie.close
+    (tie.spec
+    (λ c κs. search needs)  -- word-requires
+    (λ c κs. search needs)  -- stage-at-requires
+    (λ c κs. search needs)  -- stage-code-requires
+    (λ c κs. search needs)  -- stage-code-requires-2
+    (λ c. search stage-read))  -- returns

@@ -1,0 +1,15 @@
+use Rattle.interface.proofs.ReadsNames.{name-fits, name-counts, name-bytes}
+use borrow.Author.Needs.{needs}
+use Rattle.interface.proofs.names.same_name.Statement.{statement}
+use Rattle.interface.proofs.names.same_name.Tie as tie
+
+pub same-name-spec : {M : Type 1} → statement M
+same-name-spec =
+    tie.close
+    (tie.spec
+    (λ c κs. search needs)  -- word-requires
+    (λ c κs. search needs)  -- name-count-requires
+    (λ c. search name-counts)  -- returns
+    (λ c. search needs)  -- add-same-bytes
+    (λ c κs. search name-fits)  -- same-bytes-requires
+    (λ c. search name-bytes))  -- returns-2

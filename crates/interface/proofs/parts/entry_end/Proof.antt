@@ -1,0 +1,14 @@
+use Rattle.interface.proofs.ReadsParts.{entry-end-read}
+use borrow.Author.Needs.{needs}
+use Rattle.interface.proofs.parts.entry_end.Statement.{statement}
+use Rattle.interface.proofs.parts.entry_end.Tie as tie
+
+pub entry-end-spec : {M : Type 1} → statement M
+entry-end-spec =
+    tie.close
+    (tie.spec
+    (λ c κs. search needs)  -- parts-at-requires
+    (λ c κs. search needs)  -- word-requires
+    (λ c κs. search needs)  -- outputs-counted-requires
+    (λ c κs. search needs)  -- varyings-end-requires
+    (λ c. (search entry-end-read, search needs)))  -- returns

@@ -1,0 +1,415 @@
+-- How words carry a module pack: a grammar in document 01's order, and the words of a pack.
+use Prim.Native.Nat.{ℕ, zero, suc, _+_, _-_, _*_, _/_, _%_, _^_}
+use mathlib.Core.Bool.{Bool, true, false, not, _&&_, _||_}
+use mathlib.Core.List.{List, [], _∷_, _++_}
+use lib.Dec.{eqb, leb, ltb}
+use lib.ListN.{length, take, drop, getD}
+use Rattle.word.specs.Choice.{pick, yes}
+use Rattle.word.specs.Words.{wordAt, kindOf, contentOf, bits, bit, ofKind, closingSum, sumOf}
+use Rattle.word.specs.Parse.{Parsed, fault, got, next, one, several}
+use Rattle.resource.specs.Format.{readResource, resourceWords, resourceHeld, flag}
+use Rattle.resource.specs.declared.types.Resource.{Resource}
+use Rattle.resource.specs.declared.types.ResourceType.{ResourceType}
+use Rattle.resource.specs.declared.types.ResourceType.the-variants as Res
+use Rattle.resource.specs.declared.types.ImageClass.{ImageClass}
+use Rattle.resource.specs.declared.types.ImageClass.the-variants as Class
+use Rattle.varying.specs.Format.{locationFiled, varFiled, varOf, varWord, varHeld, payloadFiled, payloadOf, payloadWord, payloadHeld}
+use Rattle.varying.specs.declared.Payload.{Payload}
+use Rattle.interface.specs.Meaning.{EntryPoint, Interface}
+use Rattle.interface.specs.declared.types.ShaderStage.{ShaderStage}
+use Rattle.interface.specs.declared.types.ShaderStage.the-variants as Stage
+use Rattle.interface.specs.declared.types.PrimitiveTopology.{PrimitiveTopology}
+use Rattle.interface.specs.declared.types.PrimitiveTopology.the-variants as Top
+use Rattle.interface.specs.declared.types.EntryPointMeshInfo.{EntryPointMeshInfo}
+use Rattle.interface.specs.declared.types.MeshRecord.{MeshRecord}
+use Rattle.interface.specs.declared.types.MeshRecord.the-variants as Mesh
+use Rattle.interface.specs.declared.types.BuiltIn.{BuiltIn}
+use Rattle.interface.specs.declared.types.BuiltIn.the-variants as In
+use Rattle.interface.specs.declared.types.Varying.{Varying}
+use Rattle.interface.specs.declared.types.Varying.the-variants as Var
+use Rattle.interface.specs.declared.types.SamplingPair.{SamplingPair}
+use Rattle.interface.specs.declared.types.WorkgroupSize.{WorkgroupSize}
+use Rattle.interface.specs.declared.types.Limits.{Limits}
+
+-- ---- codes
+
+-- 'stage 26–24: 0 vertex, 1 fragment, 2 compute, 3 task, 4 mesh'
+abbrev pub stageAt : ℕ → ShaderStage
+stageAt code =
+    pick (eqb code 0) Stage.Vertex
+    (pick (eqb code 1) Stage.Fragment (pick (eqb code 2) Stage.Compute (pick (eqb code 3) Stage.Task Stage.Mesh)))
+
+abbrev pub stageCode : ShaderStage → ℕ
+stageCode Stage.Vertex = 0
+stageCode Stage.Fragment = 1
+stageCode Stage.Compute = 2
+stageCode Stage.Task = 3
+stageCode Stage.Mesh = 4
+
+-- 'topology (0 points, 1 lines, 2 line strip, 3 triangles, 4 triangle strip)'
+abbrev pub topologyAt : ℕ → PrimitiveTopology
+topologyAt code =
+    pick (eqb code 0) Top.PointList
+    (pick (eqb code 1) Top.LineList (pick (eqb code 2) Top.LineStrip (pick (eqb code 3) Top.TriangleList Top.TriangleStrip)))
+
+abbrev pub topologyCode : PrimitiveTopology → ℕ
+topologyCode Top.PointList = 0
+topologyCode Top.LineList = 1
+topologyCode Top.LineStrip = 2
+topologyCode Top.TriangleList = 3
+topologyCode Top.TriangleStrip = 4
+
+-- ---- varyings
+
+-- '26–24: 0 other, 1 primitive index, 2 draw index, 3 fragment depth, 4 clip distances; 7–0 array size for 4, else inter-stage places'
+abbrev pub builtInOf : ℕ → BuiltIn
+builtInOf w =
+    pick (eqb (bits 26 24 w) 0) (In.Other (bits 7 0 w))
+    (pick (eqb (bits 26 24 w) 1) (In.PrimitiveIndex (bits 7 0 w))
+    (pick (eqb (bits 26 24 w) 2) (In.DrawIndex (bits 7 0 w))
+    (pick (eqb (bits 26 24 w) 3) (In.FragDepth (bits 7 0 w)) (In.ClipDistances (bits 7 0 w)))))
+
+-- codes below a number: 4 among inputs and 5 among outputs, since 'code 4 stands only among outputs'
+abbrev pub builtInFiled : ℕ → ℕ → Bool
+builtInFiled codes w = eqb (kindOf w) 14 && (ltb (bits 26 24 w) codes && eqb (bits 23 8 w) 0)
+
+abbrev pub local : ℕ → ℕ → Varying
+local location var = Var.Local (contentOf location) (varOf var)
+
+-- 'Varying: kind 12 location, then kind 13 …. Or a built-in, kind 14'
+abbrev pub varyingBehind : ℕ → ℕ → List ℕ → Parsed Varying
+varyingBehind codes w rest =
+    pick (locationFiled w) (next (one varFiled rest) λ var rest. got (local w var) rest)
+    (pick (builtInFiled codes w) (got (Var.BuiltIn (builtInOf w)) rest) fault)
+
+unfoldable pub readVarying : ℕ → List ℕ → Parsed Varying
+readVarying codes [] = fault
+readVarying codes (w ∷ rest) = varyingBehind codes w rest
+
+abbrev pub isClip : Varying → ℕ
+isClip (Var.Local location iv) = 0
+isClip (Var.BuiltIn (In.Other places)) = 0
+isClip (Var.BuiltIn (In.PrimitiveIndex places)) = 0
+isClip (Var.BuiltIn (In.DrawIndex places)) = 0
+isClip (Var.BuiltIn (In.FragDepth places)) = 0
+isClip (Var.BuiltIn (In.ClipDistances size)) = 1
+
+-- how many clip distances stand among varyings
+unfoldable pub clips : List Varying → ℕ
+clips [] = 0
+clips (v ∷ vs) = isClip v + clips vs
+
+-- ---- names: 'four bytes a word, low first, zero padded, no zero byte inside'
+
+unfoldable pub bytesOf : List ℕ → List ℕ
+bytesOf [] = []
+bytesOf (w ∷ ws) = bits 7 0 w ∷ bits 15 8 w ∷ bits 23 16 w ∷ bits 31 24 w ∷ bytesOf ws
+
+unfoldable pub noZero : List ℕ → Bool
+noZero [] = true
+noZero (b ∷ bs) = let rest = noZero bs in pick (eqb b 0) false rest
+
+unfoldable pub allZero : List ℕ → Bool
+allZero [] = true
+allZero (b ∷ bs) = let rest = allZero bs in pick (eqb b 0) rest false
+
+abbrev pub nameFiled : ℕ → List ℕ → Bool
+nameFiled n bytes = noZero (take n bytes) && allZero (drop n bytes)
+
+abbrev pub nameWords : ℕ → ℕ
+nameWords n = (n + 3) / 4
+
+unfoldable pub readName : ℕ → List ℕ → Parsed (List ℕ)
+readName n ws =
+    next (several (nameWords n) (one (λ w. true)) ws) λ words rest.
+    pick (nameFiled n (bytesOf words)) (got (take n (bytesOf words)) rest) fault
+
+-- ---- entry points
+
+-- 'kind 7 (stage 26–24; name bytes 22–16, 1–64; bit 1 mesh record, bit 0 dual source)'
+abbrev pub headFiled : ℕ → Bool
+headFiled w =
+    eqb (kindOf w) 7 && (ltb (bits 26 24 w) 5 && (eqb (bit 23 w) 0 && (leb 1 (bits 22 16 w) && (leb (bits 22 16 w) 64 && eqb (bits 15 2 w) 0))))
+
+abbrev pub ofWord : ℕ → ℕ → Bool
+ofWord kind w = eqb (kindOf w) kind
+
+-- 'three words kind 8, workgroup size'
+unfoldable pub readWorkgroup : List ℕ → Parsed WorkgroupSize
+readWorkgroup ws =
+    next (one (ofWord 8) ws) λ x rest.
+    next (one (ofWord 8) rest) λ y rest.
+    next (one (ofWord 8) rest) λ z rest.
+    got (record { x = contentOf x; y = contentOf y; z = contentOf z }) rest
+
+abbrev pub topologyFiled : ℕ → Bool
+topologyFiled w = ofWord 10 w && ltb (contentOf w) 5
+
+abbrev pub meshInfo : ℕ → ℕ → ℕ → MeshRecord
+meshInfo vertices primitives topology =
+    Mesh.Info (record { «max_vertices» = contentOf vertices; «max_primitives» = contentOf primitives; «primitive_topology» = topologyAt (contentOf topology) })
+
+-- 'if marked, three words kind 10: most vertices, most primitives, topology'
+unfoldable pub readMesh : Bool → List ℕ → Parsed MeshRecord
+readMesh false ws = got Mesh.Absent ws
+readMesh true ws =
+    next (one (ofWord 10) ws) λ vertices rest.
+    next (one (ofWord 10) rest) λ primitives rest.
+    next (one topologyFiled rest) λ topology rest.
+    got (meshInfo vertices primitives topology) rest
+
+-- 'kind 15 with four 6-bit counts from bit 23 down'
+abbrev pub countsFiled : ℕ → Bool
+countsFiled w = ofWord 15 w && eqb (bits 26 24 w) 0
+
+-- 'resource indexes, kind 5'
+abbrev pub indexFiled : ℕ → ℕ → Bool
+indexFiled count w = ofWord 5 w && ltb (contentOf w) count
+
+unfoldable pub contents : List ℕ → List ℕ
+contents [] = []
+contents (w ∷ ws) = contentOf w ∷ contents ws
+
+unfoldable pub member : ℕ → List ℕ → Bool
+member i [] = false
+member i (j ∷ js) = let rest = member i js in pick (eqb i j) true rest
+
+abbrev pub sampledClass : ImageClass → Bool
+sampledClass (Class.Sampled kind multi) = true
+sampledClass (Class.Depth multi) = true
+sampledClass (Class.Storage format access) = false
+sampledClass Class.External = true
+
+-- 'a type 2, 3 or 5 texture'
+abbrev pub isTexture : ResourceType → Bool
+isTexture (Res.Buffer size space) = false
+isTexture (Res.Sampler comparison) = false
+isTexture (Res.Texture dim arrayed class) = sampledClass class
+isTexture (Res.AccelerationStructure returns) = false
+
+abbrev pub isSampler : ResourceType → Bool
+isSampler (Res.Buffer size space) = false
+isSampler (Res.Sampler comparison) = true
+isSampler (Res.Texture dim arrayed class) = false
+isSampler (Res.AccelerationStructure returns) = false
+
+-- whether the resource of an index passes a test; an index past the end passes none
+unfoldable pub ofType : (ResourceType → Bool) → List Resource → ℕ → Bool
+ofType test [] i = false
+ofType test (r ∷ rs) zero = test (r .ty)
+ofType test (r ∷ rs) (suc i) = ofType test rs i
+
+abbrev pub pairOf : ℕ → SamplingPair
+pairOf w = record { texture = bits 15 8 w; sampler = bits 7 0 w }
+
+-- 'A pair names a type 2, 3 or 5 texture and a sampler, both in the entry's list'
+abbrev pub pairGood : List Resource → List ℕ → SamplingPair → Bool
+pairGood resources listed p =
+    member (p .texture) listed && (ofType isTexture resources (p .texture)
+    && (member (p .sampler) listed && ofType isSampler resources (p .sampler)))
+
+-- 'pairs, kind 5 (texture 15–8, sampler 7–0)'
+abbrev pub pairFiled : List Resource → List ℕ → ℕ → Bool
+pairFiled resources listed w = ofWord 5 w && (eqb (bits 26 16 w) 0 && pairGood resources listed (pairOf w))
+
+unfoldable pub pairsOf : List ℕ → List SamplingPair
+pairsOf [] = []
+pairsOf (w ∷ ws) = pairOf w ∷ pairsOf ws
+
+-- 'Entry point: kind 7; name; three words kind 8; kind 9 payload; if marked, three words kind 10; kind 15; resource indexes; pairs; inputs; outputs',
+-- with clip distances 'at most once'
+unfoldable pub readEntryPoint : List Resource → List ℕ → Parsed EntryPoint
+readEntryPoint resources ws =
+    next (one headFiled ws) λ head rest.
+    next (readName (bits 22 16 head) rest) λ name rest.
+    next (readWorkgroup rest) λ workgroup rest.
+    next (one payloadFiled rest) λ payload rest.
+    next (readMesh (eqb (bit 1 head) 1) rest) λ mesh rest.
+    next (one countsFiled rest) λ counts rest.
+    next (several (bits 23 18 counts) (one (indexFiled (length resources))) rest) λ indexes rest.
+    next (several (bits 17 12 counts) (one (pairFiled resources (contents indexes))) rest) λ pairs rest.
+    next (several (bits 11 6 counts) (readVarying 4) rest) λ inputs rest.
+    next (several (bits 5 0 counts) (readVarying 5) rest) λ outputs rest.
+    pick (leb (clips outputs) 1)
+    (got
+    (record {
+      stage = stageAt (bits 26 24 head);
+      name = name;
+      dual = eqb (bit 0 head) 1;
+      workgroup = workgroup;
+      payload = payloadOf payload;
+      mesh = mesh;
+      resources = contents indexes;
+      pairs = pairsOf pairs;
+      inputs = inputs;
+      outputs = outputs;
+    })
+    rest)
+    fault
+
+-- ---- packs
+
+-- 'kind 1 (edition 1 in bits 26–16, total words 15–0)'
+abbrev pub editionFiled : ℕ → Bool
+editionFiled w = ofWord 1 w && eqb (bits 26 16 w) 1
+
+-- 'kind 2 (resources 0–128 in bits 26–16, entry points 0–16 in 15–0)'
+abbrev pub totalsFiled : ℕ → Bool
+totalsFiled w = ofWord 2 w && (leb (bits 26 16 w) 128 && leb (bits 15 0 w) 16)
+
+-- '13 limits of kind 3: inter-stage variables, colour attachments, compute size in x, y, z, compute total, task dimension, task total,
+-- mesh dimension, mesh total, mesh vertices, mesh primitives, task payload'
+abbrev pub limitsOf : List ℕ → Limits
+limitsOf ws =
+    record {
+      «max_inter_stage_shader_variables» = contentOf (wordAt ws 0);
+      «max_color_attachments» = contentOf (wordAt ws 1);
+      «max_compute_workgroup_size_x» = contentOf (wordAt ws 2);
+      «max_compute_workgroup_size_y» = contentOf (wordAt ws 3);
+      «max_compute_workgroup_size_z» = contentOf (wordAt ws 4);
+      «max_compute_invocations_per_workgroup» = contentOf (wordAt ws 5);
+      «max_task_invocations_per_dimension» = contentOf (wordAt ws 6);
+      «max_task_invocations_per_workgroup» = contentOf (wordAt ws 7);
+      «max_mesh_invocations_per_dimension» = contentOf (wordAt ws 8);
+      «max_mesh_invocations_per_workgroup» = contentOf (wordAt ws 9);
+      «max_mesh_output_vertices» = contentOf (wordAt ws 10);
+      «max_mesh_output_primitives» = contentOf (wordAt ws 11);
+      «max_task_payload_size» = contentOf (wordAt ws 12);
+    }
+
+unfoldable pub sameBytes : List ℕ → List ℕ → Bool
+sameBytes [] [] = true
+sameBytes [] (c ∷ cs) = false
+sameBytes (b ∷ bs) [] = false
+sameBytes (b ∷ bs) (c ∷ cs) = let rest = sameBytes bs cs in pick (eqb b c) rest false
+
+-- whether an entry point has a stage and a name
+abbrev pub named : ShaderStage → List ℕ → EntryPoint → Bool
+named stage name e = eqb (stageCode (e .stage)) (stageCode stage) && sameBytes (e .name) name
+
+unfoldable pub hasName : ShaderStage → List ℕ → List EntryPoint → Bool
+hasName stage name [] = false
+hasName stage name (e ∷ es) = let rest = hasName stage name es in pick (named stage name e) true rest
+
+-- 'Stage and name together occur once'
+unfoldable pub distinctNames : List EntryPoint → Bool
+distinctNames [] = true
+distinctNames (e ∷ es) = let rest = distinctNames es in pick (hasName (e .stage) (e .name) es) false rest
+
+-- the words before the closing one, in order
+unfoldable pub readPack : List ℕ → Parsed Interface
+readPack ws =
+    next (one editionFiled ws) λ edition rest.
+    next (one totalsFiled rest) λ totals rest.
+    next (several 13 (one (ofWord 3)) rest) λ limits rest.
+    next (several (bits 26 16 totals) readResource rest) λ resources rest.
+    next (several (bits 15 0 totals) (readEntryPoint resources) rest) λ entries rest.
+    pick (distinctNames entries) (got (record { limits = limitsOf limits; resources = resources; entries = entries }) rest) fault
+
+-- 'under 16 or over 4,096 words, total unlike the length, or sum'
+unfoldable pub torn : List ℕ → Bool
+torn ws =
+    ltb (length ws) 16 || (ltb 4096 (length ws) || (not (eqb (bits 15 0 (wordAt ws 0)) (length ws))
+    || not (eqb (wordAt ws (length ws - 1)) (closingSum ws))))
+
+pub data Decoded : Type 0 where
+  Torn : Decoded
+  Misfiled : Decoded
+  Pack : Interface → Decoded
+
+-- the records end exactly at the closing word
+abbrev pub whole : Parsed Interface → Decoded
+whole fault = Misfiled
+whole (got i []) = Pack i
+whole (got i (w ∷ ws)) = Misfiled
+
+abbrev pub body : List ℕ → List ℕ
+body ws = take (length ws - 1) ws
+
+unfoldable pub decode : List ℕ → Decoded
+decode ws = pick (torn ws) Torn (whole (readPack (body ws)))
+
+-- 1 torn, 2 misfiled
+abbrev pub decodedNumber : Decoded → ℕ
+decodedNumber Torn = 1
+decodedNumber Misfiled = 2
+decodedNumber (Pack i) = 0
+
+-- ---- the words of a pack
+
+abbrev pub builtInCode : BuiltIn → ℕ
+builtInCode (In.Other places) = places
+builtInCode (In.PrimitiveIndex places) = 2 ^ 24 * 1 + places
+builtInCode (In.DrawIndex places) = 2 ^ 24 * 2 + places
+builtInCode (In.FragDepth places) = 2 ^ 24 * 3 + places
+builtInCode (In.ClipDistances size) = 2 ^ 24 * 4 + size
+
+abbrev pub varyingWords : Varying → List ℕ
+varyingWords (Var.Local location iv) = ofKind 12 location ∷ varWord iv ∷ []
+varyingWords (Var.BuiltIn b) = ofKind 14 (builtInCode b) ∷ []
+
+-- the words of records, one after the other
+unfoldable pub concat : {A : Type 0} → (A → List ℕ) → List A → List ℕ
+concat words [] = []
+concat words (a ∷ others) = words a ++ concat words others
+
+unfoldable pub packName : List ℕ → List ℕ
+packName [] = []
+packName (a ∷ []) = a ∷ []
+packName (a ∷ b ∷ []) = (a + 2 ^ 8 * b) ∷ []
+packName (a ∷ b ∷ c ∷ []) = (a + 2 ^ 8 * b + 2 ^ 16 * c) ∷ []
+packName (a ∷ b ∷ c ∷ d ∷ bytes) = (a + 2 ^ 8 * b + 2 ^ 16 * c + 2 ^ 24 * d) ∷ packName bytes
+
+abbrev pub meshFlag : MeshRecord → ℕ
+meshFlag Mesh.Absent = 0
+meshFlag (Mesh.Info info) = 1
+
+abbrev pub meshWords : MeshRecord → List ℕ
+meshWords Mesh.Absent = []
+meshWords (Mesh.Info info) =
+    ofKind 10 (info .«max_vertices») ∷ ofKind 10 (info .«max_primitives») ∷ ofKind 10 (topologyCode (info .«primitive_topology»)) ∷ []
+
+abbrev pub workgroupWords : WorkgroupSize → List ℕ
+workgroupWords size = ofKind 8 (size .x) ∷ ofKind 8 (size .y) ∷ ofKind 8 (size .z) ∷ []
+
+abbrev pub headWord : EntryPoint → ℕ
+headWord e = ofKind 7 (2 ^ 24 * stageCode (e .stage) + (2 ^ 16 * length (e .name) + (2 * meshFlag (e .mesh) + flag (e .dual))))
+
+abbrev pub countsWord : EntryPoint → ℕ
+countsWord e =
+    ofKind 15 (2 ^ 18 * length (e .resources) + (2 ^ 12 * length (e .pairs) + (2 ^ 6 * length (e .inputs) + length (e .outputs))))
+
+abbrev pub indexWords : ℕ → List ℕ
+indexWords i = ofKind 5 i ∷ []
+
+abbrev pub pairWords : SamplingPair → List ℕ
+pairWords p = ofKind 5 (2 ^ 8 * p .texture + p .sampler) ∷ []
+
+unfoldable pub entryPointWords : EntryPoint → List ℕ
+entryPointWords e =
+    headWord e ∷ (packName (e .name) ++ (workgroupWords (e .workgroup) ++ (payloadWord (e .payload) ∷ (meshWords (e .mesh)
+    ++ (countsWord e ∷ (concat indexWords (e .resources) ++ (concat pairWords (e .pairs)
+    ++ (concat varyingWords (e .inputs) ++ concat varyingWords (e .outputs)))))))))
+
+abbrev pub limitWords : Limits → List ℕ
+limitWords l =
+    ofKind 3 (l .«max_inter_stage_shader_variables») ∷ ofKind 3 (l .«max_color_attachments»)
+    ∷ ofKind 3 (l .«max_compute_workgroup_size_x») ∷ ofKind 3 (l .«max_compute_workgroup_size_y»)
+    ∷ ofKind 3 (l .«max_compute_workgroup_size_z») ∷ ofKind 3 (l .«max_compute_invocations_per_workgroup»)
+    ∷ ofKind 3 (l .«max_task_invocations_per_dimension») ∷ ofKind 3 (l .«max_task_invocations_per_workgroup»)
+    ∷ ofKind 3 (l .«max_mesh_invocations_per_dimension») ∷ ofKind 3 (l .«max_mesh_invocations_per_workgroup»)
+    ∷ ofKind 3 (l .«max_mesh_output_vertices») ∷ ofKind 3 (l .«max_mesh_output_primitives»)
+    ∷ ofKind 3 (l .«max_task_payload_size») ∷ []
+
+-- all but the first and the closing word
+unfoldable pub recordWords : Interface → List ℕ
+recordWords i =
+    ofKind 2 (2 ^ 16 * length (i .resources) + length (i .entries))
+    ∷ (limitWords (i .limits) ++ (concat resourceWords (i .resources) ++ concat entryPointWords (i .entries)))
+
+abbrev pub openWords : Interface → List ℕ
+openWords i = ofKind 1 (2 ^ 16 * 1 + (length (recordWords i) + 2)) ∷ recordWords i
+
+-- the pack, closed by its sum
+unfoldable pub encode : Interface → List ℕ
+encode i = openWords i ++ ((sumOf (openWords i) % 2 ^ 32) ∷ [])

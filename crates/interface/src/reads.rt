@@ -1,0 +1,191 @@
+// What stands in a pack: codes, varyings and pairs at a position, and of an accepted pack its limits and counts.
+ghost use mathlib.Core.Path.{_≡_};
+ghost use Prim.Native.Nat.{_+_, _<_, _≤_, _^_};
+ghost use lib.ListN.{length, drop};
+ghost use Rattle.word.specs.Words.{wordAt, contentOf};
+ghost use Rattle.interface.specs.Meaning.{EntryPoint, Interface};
+ghost use Rattle.interface.specs.Format.{stageAt, stageCode, topologyAt, builtInOf, pairOf, decode, decodedNumber};
+ghost use Rattle.interface.specs.Reads.{varying, varyingWidth, interfaceOf, standing, entryNth};
+ghost use Rattle.interface.specs.Parts.{resourceCount, entryCount, Placed};
+use crate::parts::head_at;
+use crate::parts::parts_at;
+use crate::types::BuiltIn;
+use crate::types::EntryParts;
+use crate::types::Limits;
+use crate::types::PrimitiveTopology;
+use crate::types::SamplingPair;
+use crate::types::ShaderStage;
+use crate::types::Varying;
+use word::content;
+use word::kind;
+use word::word;
+
+pub fn stage_at(code: u32) -> ShaderStage
+    ensures { λ r. ⌜ r ≡ stageAt code ⌝ }
+{
+    if code == 0 {
+        return ShaderStage::Vertex;
+    }
+    if code == 1 {
+        return ShaderStage::Fragment;
+    }
+    if code == 2 {
+        return ShaderStage::Compute;
+    }
+    if code == 3 {
+        return ShaderStage::Task;
+    }
+    ShaderStage::Mesh
+}
+
+pub fn stage_code(stage: ShaderStage) -> u32
+    ensures { λ r. ⌜ r ≡ stageCode stage ⌝ }
+    ensures { λ r. ⌜ r < 5 ⌝ }
+{
+    match stage {
+        ShaderStage::Vertex => 0,
+        ShaderStage::Fragment => 1,
+        ShaderStage::Compute => 2,
+        ShaderStage::Task => 3,
+        ShaderStage::Mesh => 4,
+    }
+}
+
+pub fn topology_at(code: u32) -> PrimitiveTopology
+    ensures { λ r. ⌜ r ≡ topologyAt code ⌝ }
+{
+    if code == 0 {
+        return PrimitiveTopology::PointList;
+    }
+    if code == 1 {
+        return PrimitiveTopology::LineList;
+    }
+    if code == 2 {
+        return PrimitiveTopology::LineStrip;
+    }
+    if code == 3 {
+        return PrimitiveTopology::TriangleList;
+    }
+    PrimitiveTopology::TriangleStrip
+}
+
+// The built-in that a word of kind 14 means.
+pub fn built_in_of(w: u32) -> BuiltIn
+    ensures { λ r. ⌜ r ≡ builtInOf w ⌝ }
+{
+    let code = w / 0x100_0000 % 8;
+    if code == 0 {
+        return BuiltIn::Other { places: w % 256 };
+    }
+    if code == 1 {
+        return BuiltIn::PrimitiveIndex { places: w % 256 };
+    }
+    if code == 2 {
+        return BuiltIn::DrawIndex { places: w % 256 };
+    }
+    if code == 3 {
+        return BuiltIn::FragDepth { places: w % 256 };
+    }
+    BuiltIn::ClipDistances {
+        array_size: w % 256,
+    }
+}
+
+// The varying at a position.
+pub fn varying_at(pack: &[u32], at: usize) -> Varying
+    requires { ⌜ at < 2 ^ 60 ⌝ }
+    ensures { λ r. ⌜ r ≡ varying (drop at (now (pack .entry))) ⌝ }
+{
+    let w = word(pack, at);
+    if kind(w) == 12 {
+        let iv = varying::var_of(word(pack, at + 1));
+        return Varying::Local {
+            location: content(w),
+            iv,
+        };
+    }
+    let built_in = built_in_of(w);
+    Varying::BuiltIn { built_in }
+}
+
+// How many words the varying at a position takes.
+pub fn varying_width(pack: &[u32], at: usize) -> usize
+    requires { ⌜ at < 2 ^ 60 ⌝ }
+    ensures { λ r. ⌜ r ≡ varyingWidth (drop at (now (pack .entry))) ⌝ }
+    ensures { λ r. ⌜ r ≤ 2 ⌝ }
+{
+    if kind(word(pack, at)) == 12 {
+        return 2;
+    }
+    1
+}
+
+// The sampling pair at a position.
+pub fn pair_at(pack: &[u32], at: usize) -> SamplingPair
+    ensures { λ r. ⌜ r ≡ pairOf (wordAt (now (pack .entry)) at) ⌝ }
+    ensures { λ r. ⌜ (r .texture < 256) × (r .sampler < 256) ⌝ }
+{
+    let w = word(pack, at);
+    SamplingPair {
+        texture: w / 256 % 256,
+        sampler: w % 256,
+    }
+}
+
+fn limit(pack: &[u32], at: usize) -> u32
+    ensures { λ r. ⌜ r ≡ contentOf (wordAt (now (pack .entry)) at) ⌝ }
+{
+    content(word(pack, at))
+}
+
+// The limits of an accepted pack.
+pub fn limits(pack: &[u32]) -> Limits
+    requires { ⌜ decodedNumber (decode (now pack)) ≡ 0 ⌝ }
+    ensures { λ r. ⌜ r ≡ interfaceOf (decode (now (pack .entry))) .limits ⌝ }
+{
+    Limits {
+        max_inter_stage_shader_variables: limit(pack, 2),
+        max_color_attachments: limit(pack, 3),
+        max_compute_workgroup_size_x: limit(pack, 4),
+        max_compute_workgroup_size_y: limit(pack, 5),
+        max_compute_workgroup_size_z: limit(pack, 6),
+        max_compute_invocations_per_workgroup: limit(pack, 7),
+        max_task_invocations_per_dimension: limit(pack, 8),
+        max_task_invocations_per_workgroup: limit(pack, 9),
+        max_mesh_invocations_per_dimension: limit(pack, 10),
+        max_mesh_invocations_per_workgroup: limit(pack, 11),
+        max_mesh_output_vertices: limit(pack, 12),
+        max_mesh_output_primitives: limit(pack, 13),
+        max_task_payload_size: limit(pack, 14),
+    }
+}
+
+// How many entry points an accepted pack has.
+pub fn entry_count(pack: &[u32]) -> usize
+    requires { ⌜ decodedNumber (decode (now pack)) ≡ 0 ⌝ }
+    ensures { λ r. ⌜ r ≡ length (interfaceOf (decode (now (pack .entry))) .entries) ⌝ }
+    ensures { λ r. ⌜ r ≡ entryCount (now (pack .entry)) ⌝ }
+    ensures { λ r. ⌜ r ≤ 16 ⌝ }
+{
+    (word(pack, 1) % 0x1_0000) as usize
+}
+
+// How many resources an accepted pack has.
+pub fn resource_count(pack: &[u32]) -> usize
+    requires { ⌜ decodedNumber (decode (now pack)) ≡ 0 ⌝ }
+    ensures { λ r. ⌜ r ≡ length (interfaceOf (decode (now (pack .entry))) .resources) ⌝ }
+    ensures { λ r. ⌜ r ≡ resourceCount (now (pack .entry)) ⌝ }
+    ensures { λ r. ⌜ r ≤ 128 ⌝ }
+{
+    (word(pack, 1) / 0x1_0000 % 0x800) as usize
+}
+
+// The parts of the entry point at a place among those of an accepted pack.
+pub fn entry_parts(pack: &[u32], position: usize) -> EntryParts
+    requires { ⌜ decodedNumber (decode (now pack)) ≡ 0 ⌝ }
+    requires { ⌜ position < length (interfaceOf (decode (now pack)) .entries) ⌝ }
+    ensures { λ r. ⌜ standing (now (pack .entry)) r ≡ entryNth (interfaceOf (decode (now (pack .entry))) .entries) position ⌝ }
+    ensures { λ r. ⌜ Placed (now (pack .entry)) r ⌝ }
+{
+    parts_at(pack, head_at(pack, position))
+}

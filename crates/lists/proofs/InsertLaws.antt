@@ -1,0 +1,139 @@
+-- A variable put into a stage list by its location, over its meaning.
+use Prim.Native.Nat.{ℕ, zero, suc, _+_, _-_, _*_, _^_, _<_, _≤_}
+use native.Mathlib.Omega.{arith}
+use mathlib.Core.Path.{_≡_, refl, sym, ap, _∙_}
+use mathlib.Core.Bool.{Bool, true, false}
+use mathlib.Core.List.{List, [], _∷_}
+use lib.Dec.{eqb, ltb}
+use lib.ListN.{length}
+use borrow.Author.Tests.{eqb-true, eqb-false, ltb-true, ltb-false, eq-eqb, ne-eqb, lt-ltb, le-ltb}
+use Rattle.word.specs.Choice.{pick}
+use Rattle.varying.specs.Format.{locatedHeld}
+use Rattle.varying.specs.declared.Located.{Located}
+use Rattle.varying.proofs.Checks.{by-test}
+use Rattle.lists.specs.Meaning.{StageIo, every, rising, varyingAt, isProvided, insert, inserted}
+use Rattle.lists.specs.Format.{outGood}
+use Rattle.lists.specs.declared.types.Provided.the-variants as Pro
+use Rattle.lists.proofs.Records.{first-passes, rest-passes}
+use Rattle.lists.proofs.StageLists.{Good, good, is-good}
+
+-- ---- the three places of a variable
+
+module _ (v w : Located) (vs : List Located) where
+  pub insert-before : v .location < w .location → insert v (w ∷ vs) ≡ v ∷ w ∷ vs
+  unfolding insert
+  insert-before h = rw (lt-ltb (v .location) (w .location) h)
+
+  pub insert-over : v .location ≡ w .location → insert v (w ∷ vs) ≡ v ∷ vs
+  unfolding insert
+  insert-over h = rw (le-ltb (v .location) (w .location) (omega arith), eq-eqb (v .location) (w .location) h)
+
+  pub insert-behind : w .location ≤ v .location → (v .location ≡ w .location → ⊥) → insert v (w ∷ vs) ≡ w ∷ insert v vs
+  unfolding insert
+  insert-behind h n = rw (le-ltb (v .location) (w .location) h, ne-eqb (v .location) (w .location) n)
+
+  -- by which of them it is
+  pub insert-cases : {P : Type 0} → (v .location < w .location → P) → (v .location ≡ w .location → P)
+      → (w .location < v .location → P) → P
+  insert-cases below equal above =
+      by-test (ltb (v .location) (w .location))
+      (λ t. below (ltb-true (v .location) (w .location) t))
+      (λ f. by-test (eqb (v .location) (w .location))
+      (λ t. equal (eqb-true (v .location) (w .location) t))
+      (λ g. above (omega (arith, ltb-false (v .location) (w .location) f, eqb-false (v .location) (w .location) g))))
+
+-- ---- the order stays
+
+abbrev starts : ℕ → List Located → Bool
+starts n [] = true
+starts n (w ∷ vs) = ltb n (w .location)
+
+rising-cons : (v : Located) (vs : List Located) → rising (v ∷ vs) ≡ pick (starts (v .location) vs) (rising vs) false
+unfolding rising
+rising-cons v [] = refl
+rising-cons v (w ∷ vs) = refl
+
+module _ (w : Located) (vs : List Located) (h : rising (w ∷ vs) ≡ true) where
+  rising-first : starts (w .location) vs ≡ true
+  rising-first = first-passes (starts (w .location) vs) (rising vs) (sym (rising-cons w vs) ∙ h)
+
+  rising-rest : rising vs ≡ true
+  rising-rest = rest-passes (starts (w .location) vs) (rising vs) (sym (rising-cons w vs) ∙ h)
+
+starts-insert : (n : ℕ) (v : Located) (vs : List Located) → starts n vs ≡ true → n < v .location → starts n (insert v vs) ≡ true
+unfolding insert
+starts-insert n v [] h k = lt-ltb n (v .location) k
+starts-insert n v (w ∷ vs) h k =
+    insert-cases v w vs
+    (λ b. rw (insert-before v w vs b) (lt-ltb n (v .location) k))
+    (λ e. rw (insert-over v w vs e) (lt-ltb n (v .location) k))
+    (λ a. rw (insert-behind v w vs (omega arith) (λ e. omega arith)) h)
+
+pub rising-insert : (v : Located) (vs : List Located) → rising vs ≡ true → rising (insert v vs) ≡ true
+unfolding insert
+rising-insert v [] h = rising-cons v [] ∙ h
+rising-insert v (w ∷ vs) h =
+    insert-cases v w vs
+    (λ b. rw (insert-before v w vs b) (rising-cons v (w ∷ vs) ∙ rw (lt-ltb (v .location) (w .location) b, h)))
+    (λ e. rw (insert-over v w vs e) (rising-cons v vs ∙ rw (e, rising-first w vs h, rising-rest w vs h)))
+    (λ a. rw (insert-behind v w vs (omega arith) (λ e. omega arith))
+    (rising-cons w (insert v vs) ∙ rw (starts-insert (w .location) v vs (rising-first w vs h) a, rising-insert v vs (rising-rest w vs h))))
+
+-- ---- a new location makes the list longer
+
+missing-below : (n : ℕ) (w : Located) (vs : List Located) → rising (w ∷ vs) ≡ true → n < w .location → varyingAt n vs ≡ Pro.Missing
+unfolding varyingAt
+missing-below n w [] h k = refl
+missing-below n w (x ∷ vs) h k =
+    let l : w .location < x .location = ltb-true (w .location) (x .location) (rising-first w (x ∷ vs) h) in
+    let m : n < x .location = omega arith in
+    rw (ne-eqb (x .location) n (λ e. omega arith)) (missing-below n x vs (rising-rest w (x ∷ vs) h) m)
+
+abbrev pub longer : Bool → ℕ → ℕ
+longer b n = pick b n (suc n)
+
+longer-over : (b : Bool) (n : ℕ) → suc (longer b n) ≡ longer b (suc n)
+longer-over true n = refl
+longer-over false n = refl
+
+pub insert-length : (v : Located) (vs : List Located) → rising vs ≡ true
+    → length (insert v vs) ≡ longer (isProvided (varyingAt (v .location) vs)) (length vs)
+unfolding insert varyingAt
+insert-length v [] h = refl
+insert-length v (w ∷ vs) h =
+    insert-cases v w vs
+    (λ b. rw (insert-before v w vs b, ne-eqb (w .location) (v .location) (λ e. omega arith), missing-below (v .location) w vs h b))
+    (λ e. rw (insert-over v w vs e, eq-eqb (w .location) (v .location) (sym e)))
+    (λ a. rw (insert-behind v w vs (omega arith) (λ e. omega arith), ne-eqb (w .location) (v .location) (λ e. omega arith))
+    (ap suc (insert-length v vs (rising-rest w vs h)) ∙ longer-over (isProvided (varyingAt (v .location) vs)) (length vs)))
+
+longer-most : (b : Bool) (n : ℕ) → longer b n ≤ n + 1
+longer-most true n = omega arith
+longer-most false n = omega arith
+
+-- ---- the rules stay
+
+every-insert : (test : Located → Bool) (v : Located) (vs : List Located) → test v ≡ true → every test vs ≡ true → every test (insert v vs) ≡ true
+unfolding insert every
+every-insert test v [] t h = rw t
+every-insert test v (w ∷ vs) t h =
+    let p = first-passes (test w) (every test vs) h in
+    let q = rest-passes (test w) (every test vs) h in
+    insert-cases v w vs
+    (λ b. rw (insert-before v w vs b, t, p, q))
+    (λ e. rw (insert-over v w vs e, t, q))
+    (λ a. rw (insert-behind v w vs (omega arith) (λ e. omega arith), p, every-insert test v vs t q))
+
+pub good-inserted : (v : Located) (S : StageIo) → outGood S ≡ true → locatedHeld v ≡ true → length (S .varyings) < 63 → outGood (inserted v S) ≡ true
+unfolding inserted
+good-inserted v S h t few =
+    let g : Good S = good S h in
+    let n = insert-length v (S .varyings) (g .rises) in
+    let m = longer-most (isProvided (varyingAt (v .location) (S .varyings))) (length (S .varyings)) in
+    is-good (inserted v S)
+    (record {
+      few = rw n (omega (arith, m));
+      payload = g .payload;
+      held = every-insert locatedHeld v (S .varyings) t (g .held);
+      rises = rising-insert v (S .varyings) (g .rises);
+    })

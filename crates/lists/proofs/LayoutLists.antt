@@ -1,0 +1,143 @@
+-- A layout and its words: what is well formed is exactly what the writer makes.
+use Prim.Native.Nat.{ℕ, zero, suc, _+_, _-_, _*_, _/_, _%_, _^_, _<_, _≤_}
+use native.Mathlib.Omega.{arith}
+use mathlib.Core.Path.{_≡_, refl, sym, ap, _∙_}
+use mathlib.Core.Bool.{Bool, true, false, _&&_}
+use mathlib.Core.List.{List, [], _∷_, _++_, map}
+use lib.Dec.{eqb, leb, ltb}
+use lib.ListN.{length, drop, length-append}
+use borrow.Author.Tests.{eqb-true, leb-true, eq-eqb, le-leb}
+use Rattle.word.specs.Words.{wordAt, kindOf, bits, ofKind}
+use Rattle.resource.specs.Format.{entryWords, entryOf}
+use Rattle.varying.proofs.Checks.{first, second, both}
+use Rattle.lists.specs.Meaning.{Layout, every, entryPlaces, distinctEntries}
+use Rattle.lists.specs.Format.{shortEnough, past, records, each, flat, places, groupsOf, countOf, readEntry, entryGood, entryFits, readEntries}
+use Rattle.lists.specs.Format.{layoutHead, layoutFiled, decodeLayout, encodeLayout, layoutGood}
+use Rattle.lists.proofs.Records.{read-length, room-length, flat-length, flat-read, every-read, read-flat, past-flat, each-flat}
+use Rattle.lists.proofs.Forms.{entry-form}
+
+-- ---- what well-formed words say
+
+pub record Filed (ws : List ℕ) : Type 0 where
+  pub short : length ws ≤ 1024
+  pub kind : kindOf (wordAt ws 0) ≡ 17
+  pub groups : groupsOf ws ≤ 8
+  pub holds : 1 + 4 * countOf ws ≤ length ws
+  pub good : each 4 (entryGood (groupsOf ws)) (countOf ws) (drop 1 ws) ≡ true
+  pub distinct : distinctEntries (readEntries (countOf ws) (drop 1 ws)) ≡ true
+
+pub filed : (ws : List ℕ) → layoutFiled ws ≡ true → Filed ws
+unfolding layoutFiled layoutHead
+filed ws h =
+    record {
+      short = search (leb-true, first);
+      kind = search (eqb-true, first, second);
+      groups = search (leb-true, first, second);
+      holds = search (leb-true, first, second) depth 6;
+      good = search (first, second) depth 7;
+      distinct = search (second) depth 7;
+    }
+
+pub record Good (L : Layout) : Type 0 where
+  pub short : 1 + 4 * length (L .entries) + length (L .room) ≤ 1024
+  pub groups : L .groups ≤ 8
+  pub held : every (entryFits (L .groups)) (L .entries) ≡ true
+  pub distinct : distinctEntries (L .entries) ≡ true
+
+pub good : (L : Layout) → layoutGood L ≡ true → Good L
+unfolding layoutGood
+good L h =
+    record {
+      short = search (leb-true, first);
+      groups = search (leb-true, first, second);
+      held = search (first, second);
+      distinct = search second;
+    }
+
+pub is-good : (L : Layout) → Good L → layoutGood L ≡ true
+unfolding layoutGood
+is-good L g =
+    rw (le-leb (1 + 4 * length (L .entries) + length (L .room)) 1024 (g .short), le-leb (L .groups) 8 (g .groups), g .held, g .distinct)
+
+-- ---- there and back
+
+pub encode-decode : (ws : List ℕ) → layoutFiled ws ≡ true → encodeLayout (decodeLayout ws) ≡ ws
+unfolding encodeLayout decodeLayout countOf groupsOf
+encode-decode [] h = absurd (omega (arith, filed [] h .kind))
+encode-decode (w ∷ ws) h =
+    let f : Filed (w ∷ ws) = filed (w ∷ ws) h in
+    let k : kindOf w ≡ 17 = f .kind in
+    let head : ofKind 17 (2 ^ 16 * bits 26 16 w + bits 15 0 w) ≡ w = omega arith in
+    rw (read-length 4 readEntry (bits 15 0 w) ws, head, flat-read (entry-form (bits 26 16 w)) (bits 15 0 w) ws (omega (arith, f .holds)) (f .good))
+
+pub good-decode : (ws : List ℕ) → layoutFiled ws ≡ true → layoutGood (decodeLayout ws) ≡ true
+unfolding decodeLayout countOf groupsOf
+good-decode [] h = absurd (omega (arith, filed [] h .kind))
+good-decode (w ∷ ws) h =
+    let f : Filed (w ∷ ws) = filed (w ∷ ws) h in
+    let g = bits 26 16 w in
+    let n = bits 15 0 w in
+    is-good (decodeLayout (w ∷ ws))
+    (record {
+      short = omega (arith, f .short, f .holds, read-length 4 readEntry n ws, room-length 4 n ws);
+      groups = f .groups;
+      held = every-read (entry-form g) n ws (f .good);
+      distinct = f .distinct;
+    })
+
+-- the head of a layout's words
+module _ (L : Layout) (h : layoutGood L ≡ true) where
+  head-kind : kindOf (wordAt (encodeLayout L) 0) ≡ 17
+  unfolding encodeLayout
+  head-kind = let g : Good L = good L h in omega (arith, g .short, g .groups)
+
+  head-groups : groupsOf (encodeLayout L) ≡ L .groups
+  unfolding encodeLayout groupsOf
+  head-groups = let g : Good L = good L h in omega (arith, g .short, g .groups)
+
+  head-count : countOf (encodeLayout L) ≡ length (L .entries)
+  unfolding encodeLayout countOf
+  head-count = let g : Good L = good L h in omega (arith, g .short, g .groups)
+
+  entries-again : readEntries (length (L .entries)) (drop 1 (encodeLayout L)) ≡ L .entries
+  unfolding encodeLayout
+  entries-again =
+      read-flat (entry-form (L .groups)) (L .entries) (L .room) (good L h .held)
+
+  room-again : past 4 (length (L .entries)) (drop 1 (encodeLayout L)) ≡ L .room
+  unfolding encodeLayout
+  room-again = past-flat (entry-form (L .groups)) (L .entries) (L .room)
+
+  entries-pass : each 4 (entryGood (L .groups)) (length (L .entries)) (drop 1 (encodeLayout L)) ≡ true
+  unfolding encodeLayout
+  entries-pass =
+      each-flat (entry-form (L .groups)) (L .entries) (L .room) (good L h .held)
+
+  words-length : length (encodeLayout L) ≡ 1 + 4 * length (L .entries) + length (L .room)
+  unfolding encodeLayout
+  words-length =
+      omega (
+        arith,
+        length-append (flat entryWords (L .entries)) (L .room),
+        flat-length (entry-form (L .groups)) (L .entries),
+      )
+
+  pub decode-encode : decodeLayout (encodeLayout L) ≡ L
+  unfolding decodeLayout
+  decode-encode = rw (head-groups, head-count, entries-again, room-again)
+
+  pub filed-encode : layoutFiled (encodeLayout L) ≡ true
+  unfolding layoutFiled layoutHead
+  filed-encode =
+      let g : Good L = good L h in
+      rw (
+        head-groups,
+        head-count,
+        head-kind,
+        entries-again,
+        entries-pass,
+        le-leb (length (encodeLayout L)) 1024 (omega (arith, words-length, g .short)),
+        le-leb (L .groups) 8 (g .groups),
+        le-leb (1 + 4 * length (L .entries)) (length (encodeLayout L)) (omega (arith, words-length)),
+        g .distinct,
+      )

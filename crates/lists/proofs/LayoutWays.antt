@@ -1,0 +1,95 @@
+-- The code's ways through a layout list.
+use Prim.Native.Nat.{ℕ, zero, suc, _+_, _-_, _*_, _/_, _%_, _^_, _<_, _≤_}
+use native.Mathlib.Omega.{arith}
+use mathlib.Core.Path.{_≡_, refl, sym, ap, _∙_}
+use mathlib.Core.Bool.{Bool, true, false, not, _&&_}
+use mathlib.Core.List.{List, [], _∷_, _++_, map}
+use lib.Dec.{eqb, leb, ltb}
+use lib.ListN.{length, drop}
+use lib.Seq.{drop-drop}
+use borrow.Author.Tests.{not-true, not-false}
+use Rattle.word.specs.Choice.{pick}
+use Rattle.word.specs.Words.{wordAt, kindOf, contentOf, bits}
+use Rattle.resource.specs.Format.{entryFiledAt, entryAt, entryOf}
+use Rattle.resource.specs.declared.types.ResourceBinding.{ResourceBinding}
+use Rattle.resource.specs.declared.types.BindGroupLayoutEntry.{BindGroupLayoutEntry}
+use Rattle.lists.specs.Meaning.{Layout, placeFrom, distinctPlaces, distinctEntries, entryPlaces, findEntry, foundBelow, entryNth, emptyEntry}
+use Rattle.lists.specs.Format.{records, each, countOf, groupsOf, places, readEntry, entryGood, readEntries, layoutHead, layoutFiled, decodeLayout}
+use Rattle.lists.specs.declared.types.Found.{Found}
+use Rattle.lists.proofs.Records.{read-length, read-mapped, nth-record}
+use Rattle.lists.proofs.LayoutLaws.{nth-getD}
+use Rattle.lists.proofs.Words.{here, there}
+
+pub head-word : (ws : List ℕ) (w : ℕ) (r : Bool) → w ≡ wordAt ws 0
+    → r ≡ (eqb (kindOf w) 17 && (leb (bits 26 16 w) 8 && leb (1 + 4 * bits 15 0 w) (length ws))) → r ≡ layoutHead ws
+unfolding layoutHead countOf groupsOf
+head-word ws w r e h = rw (← e) h
+
+-- ---- an entry
+
+module _ (l : List ℕ) (at groups : ℕ) (b : Bool) (e : b ≡ entryFiledAt l at) where
+  filed-there : entryFiledAt (drop at l) 0 ≡ b
+  filed-there = rw (here l at, there l at 1, there l at 2, there l at 3) (sym e)
+
+  pub entry-not : b ≡ false → false ≡ entryGood groups (drop at l)
+  entry-not h = rw (filed-there, h)
+
+  pub entry-is : (w : ℕ) → b ≡ true → w ≡ wordAt l at → ltb (bits 26 23 w) groups ≡ entryGood groups (drop at l)
+  entry-is w h f = rw (filed-there, h, here l at, ← f)
+
+pub good-begins : (ws : List ℕ) (g n : ℕ) (l : List ℕ) → g ≡ groupsOf ws → n ≡ countOf ws
+    → each 4 (entryGood (groupsOf ws)) (countOf ws) l ≡ each 4 (entryGood g) n l
+good-begins ws g n l e f = rw (e, f)
+
+-- ---- places
+
+pub entry-places : (n : ℕ) (ws : List ℕ) → entryPlaces (readEntries n ws) ≡ places 4 n ws
+unfolding entryOf
+entry-places n ws = read-mapped 4 readEntry (λ e. e .bind) n ws
+
+pub entries-distinct : (n : ℕ) (ws : List ℕ) (r : Bool) → r ≡ distinctPlaces (places 4 n ws) → r ≡ distinctEntries (readEntries n ws)
+entries-distinct n ws r h = rw (entry-places n ws) h
+
+pub entry-found : (l : List ℕ) (n : ℕ) (place : ResourceBinding) (r : Found) → n ≡ countOf l → r ≡ placeFrom place (places 4 n (drop 1 l)) 0
+    → r ≡ findEntry place (decodeLayout l)
+unfolding decodeLayout
+entry-found l n place r e h = rw (← e, entry-places n (drop 1 l)) h
+
+pub entries-counted : (l : List ℕ) → length (decodeLayout l .entries) ≡ countOf l
+unfolding decodeLayout
+entries-counted l = read-length 4 readEntry (countOf l) (drop 1 l)
+
+pub entry-below : (l : List ℕ) (n : ℕ) (r : Found) → n ≡ countOf l → foundBelow n r ≡ true → foundBelow (length (decodeLayout l .entries)) r ≡ true
+entry-below l n r e h = rw (entries-counted l, ← e) h
+
+pub groups-decoded : (l : List ℕ) (r : ℕ) → r ≡ groupsOf l → r ≡ decodeLayout l .groups
+unfolding decodeLayout
+groups-decoded l r h = h
+
+-- ---- the entry at a position
+
+pub nth-read : (n i : ℕ) (ws : List ℕ) → i < n → entryNth (readEntries n ws) i ≡ readEntry (drop (4 * i) ws)
+nth-read n i ws h = nth-getD (readEntries n ws) i ∙ nth-record 4 readEntry n i ws emptyEntry h
+
+nth-past : (n i : ℕ) (ws : List ℕ) → n ≤ i → entryNth (readEntries n ws) i ≡ emptyEntry
+unfolding entryNth records
+nth-past zero i ws h = refl
+nth-past (suc n) zero ws h = absurd (omega arith)
+nth-past (suc n) (suc i) ws h = nth-past n i (drop 4 ws) (omega arith)
+
+module _ (l : List ℕ) (i n : ℕ) (e : n ≡ countOf l) where
+  pub entry-read : (r : BindGroupLayoutEntry) → i < n → r ≡ entryAt l (1 + 4 * i) → r ≡ entryNth (decodeLayout l .entries) i
+  unfolding decodeLayout
+  entry-read r h f =
+      rw (
+        nth-read (countOf l) i (drop 1 l) (omega arith),
+        drop-drop (4 * i) 1 l,
+        here l (1 + 4 * i),
+        there l (1 + 4 * i) 1,
+        there l (1 + 4 * i) 2,
+        there l (1 + 4 * i) 3,
+      ) f
+
+  pub entry-past : n ≤ i → emptyEntry ≡ entryNth (decodeLayout l .entries) i
+  unfolding decodeLayout
+  entry-past h = sym (nth-past (countOf l) i (drop 1 l) (omega arith))

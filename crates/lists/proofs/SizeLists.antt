@@ -1,0 +1,124 @@
+-- A size list and its words: what is well formed is exactly what the writer makes.
+use Prim.Native.Nat.{ℕ, zero, suc, _+_, _-_, _*_, _/_, _%_, _^_, _<_, _≤_}
+use native.Mathlib.Omega.{arith}
+use mathlib.Core.Path.{_≡_, refl, sym, ap, _∙_}
+use mathlib.Core.Bool.{Bool, true, false, _&&_}
+use mathlib.Core.List.{List, [], _∷_, _++_}
+use lib.Dec.{eqb, leb, ltb}
+use lib.ListN.{length, drop, length-append}
+use borrow.Author.Tests.{eqb-true, leb-true, eq-eqb, le-leb}
+use Rattle.word.specs.Words.{wordAt, kindOf, bits, ofKind}
+use Rattle.varying.proofs.Checks.{first, second, both}
+use Rattle.lists.specs.Meaning.{Sizes, every, distinctSizes}
+use Rattle.lists.specs.Format.{past, records, each, flat, countOf, readSize, sizeGood, sizeWords, sizeHeld, readSizes}
+use Rattle.lists.specs.Format.{sizesHead, sizesFiled, decodeSizes, encodeSizes, sizesGood}
+use Rattle.lists.proofs.Records.{read-length, room-length, flat-length, flat-read, every-read, read-flat, past-flat, each-flat}
+use Rattle.lists.proofs.Forms.{size-form}
+
+-- ---- what well-formed words say
+
+pub record Filed (ws : List ℕ) : Type 0 where
+  pub short : length ws ≤ 1024
+  pub kind : kindOf (wordAt ws 0) ≡ 20
+  pub rest : bits 26 16 (wordAt ws 0) ≡ 0
+  pub holds : 1 + 2 * countOf ws ≤ length ws
+  pub good : each 2 sizeGood (countOf ws) (drop 1 ws) ≡ true
+  pub distinct : distinctSizes (readSizes (countOf ws) (drop 1 ws)) ≡ true
+
+pub filed : (ws : List ℕ) → sizesFiled ws ≡ true → Filed ws
+unfolding sizesFiled sizesHead
+filed ws h =
+    record {
+      short = search (leb-true, first);
+      kind = search (eqb-true, first, second);
+      rest = search (eqb-true, first, second);
+      holds = search (leb-true, first, second) depth 6;
+      good = search (first, second) depth 7;
+      distinct = search second depth 7;
+    }
+
+pub record Good (S : Sizes) : Type 0 where
+  pub short : 1 + 2 * length (S .records) + length (S .room) ≤ 1024
+  pub held : every sizeHeld (S .records) ≡ true
+  pub distinct : distinctSizes (S .records) ≡ true
+
+pub good : (S : Sizes) → sizesGood S ≡ true → Good S
+unfolding sizesGood
+good S h = record { short = search (leb-true, first); held = search (first, second); distinct = search second }
+
+pub is-good : (S : Sizes) → Good S → sizesGood S ≡ true
+unfolding sizesGood
+is-good S g = rw (le-leb (1 + 2 * length (S .records) + length (S .room)) 1024 (g .short), g .held, g .distinct)
+
+-- ---- there and back
+
+pub encode-decode : (ws : List ℕ) → sizesFiled ws ≡ true → encodeSizes (decodeSizes ws) ≡ ws
+unfolding encodeSizes decodeSizes countOf
+encode-decode [] h = absurd (omega (arith, filed [] h .kind))
+encode-decode (w ∷ ws) h =
+    let f : Filed (w ∷ ws) = filed (w ∷ ws) h in
+    let k : kindOf w ≡ 20 = f .kind in
+    let z : bits 26 16 w ≡ 0 = f .rest in
+    let head : ofKind 20 (bits 15 0 w) ≡ w = omega arith in
+    rw (read-length 2 readSize (bits 15 0 w) ws, head, flat-read size-form (bits 15 0 w) ws (omega (arith, f .holds)) (f .good))
+
+pub good-decode : (ws : List ℕ) → sizesFiled ws ≡ true → sizesGood (decodeSizes ws) ≡ true
+unfolding decodeSizes countOf
+good-decode [] h = absurd (omega (arith, filed [] h .kind))
+good-decode (w ∷ ws) h =
+    let f : Filed (w ∷ ws) = filed (w ∷ ws) h in
+    let n = bits 15 0 w in
+    is-good (decodeSizes (w ∷ ws))
+    (record {
+      short = omega (arith, f .short, f .holds, read-length 2 readSize n ws, room-length 2 n ws);
+      held = every-read size-form n ws (f .good);
+      distinct = f .distinct;
+    })
+
+module _ (S : Sizes) (h : sizesGood S ≡ true) where
+  head-kind : kindOf (wordAt (encodeSizes S) 0) ≡ 20
+  unfolding encodeSizes
+  head-kind = omega (arith, good S h .short)
+
+  head-rest : bits 26 16 (wordAt (encodeSizes S) 0) ≡ 0
+  unfolding encodeSizes
+  head-rest = omega (arith, good S h .short)
+
+  head-count : countOf (encodeSizes S) ≡ length (S .records)
+  unfolding encodeSizes countOf
+  head-count = omega (arith, good S h .short)
+
+  records-again : readSizes (length (S .records)) (drop 1 (encodeSizes S)) ≡ S .records
+  unfolding encodeSizes
+  records-again = read-flat size-form (S .records) (S .room) (good S h .held)
+
+  room-again : past 2 (length (S .records)) (drop 1 (encodeSizes S)) ≡ S .room
+  unfolding encodeSizes
+  room-again = past-flat size-form (S .records) (S .room)
+
+  records-pass : each 2 sizeGood (length (S .records)) (drop 1 (encodeSizes S)) ≡ true
+  unfolding encodeSizes
+  records-pass = each-flat size-form (S .records) (S .room) (good S h .held)
+
+  words-length : length (encodeSizes S) ≡ 1 + 2 * length (S .records) + length (S .room)
+  unfolding encodeSizes
+  words-length = omega (arith, length-append (flat sizeWords (S .records)) (S .room), flat-length size-form (S .records))
+
+  pub decode-encode : decodeSizes (encodeSizes S) ≡ S
+  unfolding decodeSizes
+  decode-encode = rw (head-count, records-again, room-again)
+
+  pub filed-encode : sizesFiled (encodeSizes S) ≡ true
+  unfolding sizesFiled sizesHead
+  filed-encode =
+      let g : Good S = good S h in
+      rw (
+        head-count,
+        head-rest,
+        head-kind,
+        records-again,
+        records-pass,
+        le-leb (length (encodeSizes S)) 1024 (omega (arith, words-length, g .short)),
+        le-leb (1 + 2 * length (S .records)) (length (encodeSizes S)) (omega (arith, words-length)),
+        g .distinct,
+      )

@@ -1,0 +1,173 @@
+-- What the code's stores into a size list make of it.
+use Prim.Native.Nat.{ℕ, zero, suc, _+_, _-_, _*_, _/_, _%_, _^_, _<_, _≤_, max}
+use native.Mathlib.Omega.{arith}
+use mathlib.Core.Path.{_≡_, refl, sym, ap, _∙_}
+use mathlib.Core.Bool.{Bool, true, false, _&&_}
+use mathlib.Core.List.{List, [], _∷_, _++_}
+use lib.Dec.{leb, eqb}
+use lib.ListN.{length, drop, getD, set, length-append, length-drop, length-map}
+use lib.Seq.{set-getD}
+use borrow.Author.Tests.{eqb-true, le-leb, lt-leb}
+use Rattle.word.specs.Words.{wordAt, kindOf, contentOf, bits, ofKind}
+use Rattle.resource.specs.Format.{placeWord, placeHeld}
+use Rattle.resource.specs.declared.types.ResourceBinding.{ResourceBinding}
+use Rattle.varying.proofs.Checks.{first, second}
+use Rattle.lists.specs.Meaning.{Sizes, placeFrom, placeIn, sizePlaces, sizeHas, raiseAt, sizeRecord, sizeFits, recorded, fits}
+use Rattle.lists.specs.Format.{put, past, records, each, flat, countOf, places, readSize, readSizes, sizeGood, sizeWords}
+use Rattle.lists.specs.Format.{sizesFiled, decodeSizes, encodeSizes, sizesGood}
+use Rattle.lists.specs.declared.types.SizeRecord.{SizeRecord}
+use Rattle.lists.specs.declared.types.Found.{Found}
+use Rattle.lists.specs.declared.types.Found.the-variants.{At, Nothing}
+use Rattle.lists.proofs.Words.{put-next, there}
+use Rattle.lists.proofs.Records.{read-length, room-length, nth-record, each-nth, flat-read, put-last, set-flat}
+use Rattle.lists.proofs.Forms.{size-form}
+use Rattle.lists.proofs.PlaceLaws.{FoundAt, found-there}
+use Rattle.lists.proofs.PlaceWays.{place-found, place-lacks}
+use Rattle.lists.proofs.SizeLists.{Filed, filed, encode-decode, decode-encode, filed-encode, good-decode}
+use Rattle.lists.proofs.SizeLaws.{raised, noRecord, raised-set, length-raised, good-recorded}
+use Rattle.lists.proofs.SizeWays.{size-places}
+
+-- ---- where the place is
+
+module _ (s : List ℕ) (place : ResourceBinding) (n : ℕ) (r : Found) (en : n ≡ countOf s) (er : r ≡ placeFrom place (places 2 n (drop 1 s)) 0) where
+  sought : r ≡ placeFrom place (sizePlaces (decodeSizes s .records)) 0
+  unfolding decodeSizes
+  sought = rw (size-places (countOf s) (drop 1 s), ← en) er
+
+  pub size-lacks : r ≡ Nothing → sizeHas place (decodeSizes s .records) ≡ false
+  size-lacks h = sym (place-lacks place (sizePlaces (decodeSizes s .records)) r sought h)
+
+  module _ (i : ℕ) (h : r ≡ At i) where
+    size-there : placeFrom place (sizePlaces (decodeSizes s .records)) 0 ≡ At i
+    size-there = sym sought ∙ h
+
+    pub size-has : sizeHas place (decodeSizes s .records) ≡ true
+    size-has = sym (place-found place (sizePlaces (decodeSizes s .records)) r sought i h)
+
+    pub size-fits : true ≡ sizeFits place (decodeSizes s)
+    size-fits = rw size-has
+
+    size-below : i < n
+    unfolding decodeSizes
+    size-below =
+        let f : FoundAt place (sizePlaces (decodeSizes s .records)) 0 i (noRecord .bind) = found-there place (noRecord .bind) (sizePlaces (decodeSizes s .records)) 0 i size-there in
+        omega (arith, f .there, length-map (decodeSizes s .records) (λ (x : SizeRecord). x .bind), read-length 2 readSize (countOf s) (drop 1 s))
+
+    module _ (f : sizesFiled s ≡ true) where
+      pub index-inside : 2 * i + 2 < length s
+      index-inside = omega (arith, filed s f .holds, size-below)
+
+      pub index-scaled : 2 * i < 2 ^ 64
+      index-scaled = omega (arith, filed s f .holds, filed s f .short, size-below)
+
+      pub index-placed : 2 * i + 2 < 2 ^ 64
+      index-placed = omega (arith, filed s f .holds, filed s f .short, size-below)
+
+-- ---- a record raised
+
+raised-tail : (n i size : ℕ) (ws : List ℕ) → 2 * n ≤ length ws → each 2 sizeGood n ws ≡ true → i < n
+    → set ws (2 * i + 1) (ofKind 6 (max (contentOf (wordAt ws (2 * i + 1))) size))
+    ≡ flat sizeWords (set (readSizes n ws) i (raised size (getD (readSizes n ws) i noRecord))) ++ past 2 n ws
+raised-tail n i size ws h t k =
+    let ss = readSizes n ws in
+    let v = ofKind 6 (max (contentOf (wordAt ws (2 * i + 1))) size) in
+    let b : i < length ss = omega (arith, read-length 2 readSize n ws) in
+    let z : getD ss i noRecord .size ≡ contentOf (wordAt ws (2 * i + 1))
+    = ap (λ (x : SizeRecord). x .size) (nth-record 2 readSize n i ws noRecord k) ∙ rw (there ws (2 * i) 1) in
+    let c : sizeWords (raised size (getD ss i noRecord)) ≡ set (sizeWords (getD ss i noRecord)) 1 v = rw z in
+    ap (λ l. set l (2 * i + 1) v) (sym (flat-read size-form n ws h t))
+    ∙ set-flat size-form ss (past 2 n ws) i 1 v (raised size (getD ss i noRecord)) noRecord b (omega arith) c
+
+raised-words : (s : List ℕ) (place : ResourceBinding) (i size : ℕ) → sizesFiled s ≡ true → placeFrom place (sizePlaces (decodeSizes s .records)) 0 ≡ At i
+    → i < countOf s → sizeHas place (decodeSizes s .records) ≡ true
+    → set s (2 * i + 2) (ofKind 6 (max (contentOf (wordAt s (2 * i + 2))) size)) ≡ encodeSizes (recorded place size (decodeSizes s))
+unfolding encodeSizes decodeSizes recorded countOf
+raised-words [] place i size f e k has = absurd (omega (arith, filed [] f .kind))
+raised-words (w ∷ ws) place i size f e k has =
+    let t : Filed (w ∷ ws) = filed (w ∷ ws) f in
+    let n = bits 15 0 w in
+    let q : kindOf w ≡ 20 = t .kind in
+    let y : bits 26 16 w ≡ 0 = t .rest in
+    let a : 2 * i + 2 ≡ suc (2 * i + 1) = omega arith in
+    let head : ofKind 20 n ≡ w = omega arith in
+    let z : i - 0 ≡ i = omega arith in
+    let r = raised-set place size (readSizes n ws) 0 i e in
+    rw (
+      has,
+      a,
+      length-raised place size (readSizes n ws),
+      read-length 2 readSize n ws,
+      head,
+      r,
+      z,
+      raised-tail n i size ws (omega (arith, t .holds)) (t .good) k,
+    )
+
+size-kind : (s : List ℕ) (i : ℕ) → sizesFiled s ≡ true → i < countOf s → kindOf (wordAt s (2 * i + 2)) ≡ 6
+size-kind s i f k =
+    let g : sizeGood (drop (2 * i) (drop 1 s)) ≡ true = each-nth 2 sizeGood (countOf s) i (drop 1 s) (filed s f .good) k in
+    let q : kindOf (wordAt (drop (2 * i) (drop 1 s)) 1) ≡ 6 = search (eqb-true, first, second) in
+    let z : 1 + (2 * i + 1) ≡ 2 * i + 2 = omega arith in
+    rw (there (drop 1 s) (2 * i) 1, there s 1 (2 * i + 1), z) at q
+
+pub size-raised : (s s′ : List ℕ) (place : ResourceBinding) (size n i : ℕ) (r : Found) → sizesFiled s ≡ true → n ≡ countOf s
+    → r ≡ placeFrom place (places 2 n (drop 1 s)) 0 → r ≡ At i → s′ ≡ set s (2 * i + 2) (max (wordAt s (2 * i + 2)) (0x30000000 + size))
+    → s′ ≡ encodeSizes (recorded place size (decodeSizes s))
+size-raised s s′ place size n i r f en er h e =
+    let b : i < countOf s = rw (← en) (size-below s place n r en er i h) in
+    let m : max (wordAt s (2 * i + 2)) (0x30000000 + size) ≡ ofKind 6 (max (contentOf (wordAt s (2 * i + 2))) size) = omega (arith, size-kind s i f b) in
+    e ∙ rw m (raised-words s place i size f (size-there s place n r en er i h) b (size-has s place n r en er i h))
+
+-- ---- a new record
+
+module _ (s : List ℕ) (place : ResourceBinding) (size n : ℕ) (f : sizesFiled s ≡ true) (en : n ≡ countOf s) (new : sizeHas place (decodeSizes s .records) ≡ false) where
+  room-is : 1 + 2 * n + length (decodeSizes s .room) ≡ length s
+  unfolding decodeSizes
+  room-is = omega (arith, filed s f .holds, room-length 2 (countOf s) (drop 1 s), length-drop 1 s)
+
+  pub push-lacks : length s < 1 + 2 * n + 2 → false ≡ sizeFits place (decodeSizes s)
+  push-lacks h = rw (new, lt-leb 2 (length (decodeSizes s .room)) (omega (arith, room-is)))
+
+  pub push-fits : 1 + 2 * n + 2 ≤ length s → true ≡ sizeFits place (decodeSizes s)
+  push-fits h = rw (new, le-leb 2 (length (decodeSizes s .room)) (omega (arith, room-is)))
+
+  pub push-refused : length s < 1 + 2 * n + 2 → s ≡ encodeSizes (recorded place size (decodeSizes s))
+  unfolding recorded
+  push-refused h = rw (new, lt-leb 2 (length (decodeSizes s .room)) (omega (arith, room-is))) (sym (encode-decode s f))
+
+pub head-more : (s : List ℕ) (w : ℕ) → sizesFiled s ≡ true → w ≡ wordAt s 0 → w + 1 < 2 ^ 32
+head-more s w f e = let k : kindOf w ≡ 20 = rw e (filed s f .kind) in omega arith
+
+pushed-words : (s : List ℕ) (place : ResourceBinding) (size : ℕ) → sizesFiled s ≡ true → 1 + 2 * countOf s + 2 ≤ length s
+    → set (put s (1 + 2 * countOf s) (sizeWords (sizeRecord place size))) 0 (wordAt s 0 + 1)
+    ≡ encodeSizes (record { records = decodeSizes s .records ++ (sizeRecord place size ∷ []); room = drop 2 (decodeSizes s .room) })
+unfolding encodeSizes decodeSizes countOf
+pushed-words [] place size f h = absurd (omega arith)
+pushed-words (w ∷ ws) place size f h =
+    let t : Filed (w ∷ ws) = filed (w ∷ ws) f in
+    let k : kindOf w ≡ 20 = t .kind in
+    let y : bits 26 16 w ≡ 0 = t .rest in
+    let n = bits 15 0 w in
+    let few : 1 + 2 * n ≤ 1024 = omega (arith, t .short) in
+    let c : length (readSizes n ws ++ (sizeRecord place size ∷ [])) ≡ n + 1
+    = length-append (readSizes n ws) (sizeRecord place size ∷ []) ∙ rw (read-length 2 readSize n ws) in
+    let head : ofKind 20 (n + 1) ≡ w + 1 = omega arith in
+    rw (put-next w ws (2 * n) (sizeWords (sizeRecord place size)), c, head, put-last size-form n ws (omega arith) (t .good) (sizeRecord place size))
+
+pub push-stored : (s s′ : List ℕ) (place : ResourceBinding) (size n w p : ℕ) → sizesFiled s ≡ true → n ≡ countOf s → sizeHas place (decodeSizes s .records) ≡ false
+    → w ≡ wordAt s 0 → 1 + 2 * n + 2 ≤ length s → p ≡ placeWord place → s′ ≡ put s (1 + 2 * n) (p ∷ (0x30000000 + size) ∷ [])
+    → set s′ 0 (w + 1) ≡ encodeSizes (recorded place size (decodeSizes s))
+unfolding recorded
+push-stored s s′ place size n w p f en new ew h ep e =
+    rw (new, le-leb 2 (length (decodeSizes s .room)) (omega (arith, room-is s place size n f en new)), e, ep, ew, en)
+    (pushed-words s place size f (rw en at h))
+
+-- ---- what holds of the words after either
+
+module _ (s s′ : List ℕ) (place : ResourceBinding) (size : ℕ) (f : sizesFiled s ≡ true) (p : placeHeld place ≡ true) (o : 1 ≤ size) (l : size < 2 ^ 27)
+    (e : s′ ≡ encodeSizes (recorded place size (decodeSizes s))) where
+  pub record-decoded : decodeSizes s′ ≡ recorded place size (decodeSizes s)
+  record-decoded = rw e (decode-encode (recorded place size (decodeSizes s)) (good-recorded place size (decodeSizes s) (good-decode s f) p o l))
+
+  pub record-filed : sizesFiled s′ ≡ true
+  record-filed = rw e (filed-encode (recorded place size (decodeSizes s)) (good-recorded place size (decodeSizes s) (good-decode s f) p o l))

@@ -1,0 +1,103 @@
+-- The code's ways through a stage list.
+use Prim.Native.Nat.{ℕ, zero, suc, _+_, _-_, _*_, _^_, _<_, _≤_}
+use native.Mathlib.Omega.{arith}
+use native.Mathlib.Nat.{add-zero}
+use mathlib.Core.Path.{_≡_, refl, sym, ap, _∙_}
+use mathlib.Core.Bool.{Bool, true, false, not, _&&_}
+use mathlib.Core.List.{List, [], _∷_}
+use lib.Dec.{eqb, leb, ltb}
+use lib.ListN.{length, drop, getD}
+use lib.Seq.{getD-drop}
+use borrow.Author.Tests.{eq-eqb, ne-eqb, lt-ltb, le-ltb}
+use Rattle.word.specs.Choice.{pick}
+use Rattle.word.specs.Words.{wordAt, kindOf, contentOf, bits}
+use Rattle.varying.specs.Format.{locationFiled, varFiled, varOf, payloadFiled, payloadOf}
+use Rattle.varying.specs.declared.InterfaceVar.{InterfaceVar}
+use Rattle.varying.specs.declared.Payload.{Payload}
+use Rattle.lists.specs.Meaning.{rising, varyingAt}
+use Rattle.lists.specs.Format.{records, countOf, primitiveAt, readLocated, locatedGood, readVaryings, stageHead, decodeStage}
+use Rattle.lists.specs.declared.types.PrimitiveIndex.{PrimitiveIndex}
+use Rattle.lists.specs.declared.types.Provided.{Provided}
+use Rattle.lists.specs.declared.types.Provided.the-variants as Pro
+use Rattle.lists.proofs.Records.{left-cons, left-none}
+use Rattle.lists.proofs.Words.{here, there}
+
+-- ---- the head
+
+module _ (ws : List ℕ) (w : ℕ) (r : Bool) (e : w ≡ wordAt ws 0) where
+  pub head-word : r ≡ (eqb (kindOf w) 11 && (ltb (bits 26 25 w) 3 && (eqb (bits 24 16 w) 0 && (leb (bits 15 0 w) 63
+      && (leb (2 + 2 * bits 15 0 w) (length ws) && payloadFiled (wordAt ws 1)))))) → r ≡ stageHead ws
+  unfolding stageHead countOf
+  head-word h = rw (← e) h
+
+pub payload-word : (ws : List ℕ) (p : ℕ) (r : Bool) → p ≡ wordAt ws 1 → r ≡ payloadFiled p → r ≡ payloadFiled (wordAt ws 1)
+payload-word ws p r e h = rw (← e) h
+
+pub primitive-word : (ws : List ℕ) (w : ℕ) (r : PrimitiveIndex) → w ≡ wordAt ws 0 → r ≡ primitiveAt (bits 26 25 w) → r ≡ decodeStage ws .primitive
+unfolding decodeStage
+primitive-word ws w r e h = rw (← e) h
+
+pub payload-decoded : (ws : List ℕ) (w : ℕ) (r : Payload) → w ≡ wordAt ws 1 → r ≡ payloadOf w → r ≡ decodeStage ws .payload
+unfolding decodeStage
+payload-decoded ws w r e h = rw (← e) h
+
+-- ---- a record
+
+module _ (l : List ℕ) (at x : ℕ) (a : Bool) (e : x ≡ wordAt l at) (f : a ≡ locationFiled x) where
+  pub located-not : a ≡ false → false ≡ locatedGood (drop at l)
+  located-not h = rw (here l at, ← e, ← f, h)
+
+  pub located-is : (y : ℕ) (b : Bool) → a ≡ true → y ≡ wordAt l (at + 1) → b ≡ varFiled y → b ≡ locatedGood (drop at l)
+  located-is y b h g k = rw (here l at, there l at 1, ← e, ← f, ← g, h, ← k)
+
+-- ---- rising locations
+
+rising-step : (l : List ℕ) (k at : ℕ) → 2 ≤ k → rising (readVaryings k (drop at l))
+    ≡ pick (ltb (contentOf (wordAt l at)) (contentOf (wordAt l (at + 2)))) (rising (readVaryings (k - 1) (drop (at + 2) l))) false
+unfolding rising
+rising-step l k at h =
+    let z : k ≡ 0 → ⊥ = λ e. omega arith in
+    let y : k - 1 ≡ 0 → ⊥ = λ e. omega arith in
+    rw (left-cons 2 readLocated l k at z, left-cons 2 readLocated l (k - 1) (at + 2) y, here l at, here l (at + 2))
+
+rising-end : (k : ℕ) (ws : List ℕ) → k < 2 → rising (readVaryings k ws) ≡ true
+unfolding rising records
+rising-end zero ws h = refl
+rising-end (suc zero) ws h = refl
+rising-end (suc (suc k)) ws h = absurd (omega arith)
+
+pub rising-counted : (n m : ℕ) (ws : List ℕ) (r : Bool) → n ≡ m → r ≡ rising (readVaryings n ws) → r ≡ rising (readVaryings m ws)
+rising-counted n m ws r e h = rw (← e) h
+
+module _ (l : List ℕ) (k at : ℕ) (goal : Bool) (inv : goal ≡ rising (readVaryings k (drop at l))) where
+  module _ (a b : ℕ) (h : 2 ≤ k) (eb : b ≡ contentOf (wordAt l (at + 2))) (ea : a ≡ contentOf (wordAt l at)) where
+    pub rising-falls : b ≤ a → false ≡ goal
+    rising-falls n = sym (inv ∙ rw (rising-step l k at h, ← ea, ← eb, le-ltb a b n))
+
+    pub rising-onward : a < b → goal ≡ rising (readVaryings (k - 1) (drop (at + 2) l))
+    rising-onward n = inv ∙ rw (rising-step l k at h, ← ea, ← eb, lt-ltb a b n)
+
+  pub rising-ended : k < 2 → true ≡ goal
+  rising-ended h = sym (inv ∙ rising-end k (drop at l) h)
+
+-- ---- the variable at a location
+
+pub varying-begins : (l : List ℕ) (n location : ℕ) → n ≡ countOf l
+    → varyingAt location (decodeStage l .varyings) ≡ varyingAt location (readVaryings n (drop 2 l))
+unfolding decodeStage
+varying-begins l n location e = rw e
+
+module _ (l : List ℕ) (k at location : ℕ) (goal : Provided) (inv : goal ≡ varyingAt location (readVaryings k (drop at l))) where
+  module _ (c : ℕ) (h : k ≡ 0 → ⊥) (ec : c ≡ contentOf (wordAt l at)) where
+    pub varying-hit : (y : ℕ) (v : InterfaceVar) → c ≡ location → y ≡ wordAt l (at + 1) → v ≡ varOf y → Pro.Var v ≡ goal
+    unfolding varyingAt
+    varying-hit y v q ey ev =
+        sym (inv ∙ rw (left-cons 2 readLocated l k at h, here l at, there l at 1, ← ec, ← ey, ← ev, eq-eqb c location q))
+
+    pub varying-miss : (c ≡ location → ⊥) → goal ≡ varyingAt location (readVaryings (k - 1) (drop (at + 2) l))
+    unfolding varyingAt
+    varying-miss q = inv ∙ rw (left-cons 2 readLocated l k at h, here l at, ← ec, ne-eqb c location q)
+
+  pub varying-ended : k ≡ 0 → Pro.Missing ≡ goal
+  unfolding varyingAt
+  varying-ended h = sym (inv ∙ rw (left-none 2 readLocated k (drop at l) h))

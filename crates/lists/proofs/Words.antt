@@ -1,0 +1,66 @@
+-- Words at a position, and words written there.
+use Prim.Native.Nat.{ℕ, zero, suc, _+_, _<_, _≤_, max}
+use native.Mathlib.Omega.{arith}
+use native.Mathlib.Nat.{add-zero}
+use native.Mathlib.Numerals.{add-one}
+use mathlib.Core.Path.{_≡_, refl, sym, ap, _∙_}
+use mathlib.Core.List.{List, [], _∷_, _++_, append-assoc}
+use lib.ListN.{length, take, drop, set, length-append, length-take, length-drop}
+use lib.Seq.{getD-drop, set-getD, sets, sets-eq, take-at, drop-at, drop-drop, length-take-le}
+use Rattle.word.specs.Words.{wordAt}
+use Rattle.lists.specs.Format.{put}
+
+-- the words of the record at a position
+pub here : (l : List ℕ) (at : ℕ) → wordAt (drop at l) 0 ≡ wordAt l at
+here l at = getD-drop at l 0 0 ∙ rw add-zero
+
+pub there : (l : List ℕ) (at k : ℕ) → wordAt (drop at l) k ≡ wordAt l (at + k)
+there l at k = getD-drop at l k 0
+
+-- ---- words written
+
+pub stored-two : (l : List ℕ) (at a b : ℕ) → at + 2 ≤ length l → set (set l at a) (at + 1) b ≡ put l at (a ∷ b ∷ [])
+unfolding put
+stored-two l at a b h = rw (add-one at) (sets-eq (a ∷ b ∷ []) l at h ∙ append-assoc (take at l) (a ∷ b ∷ []) (drop (at + 2) l))
+
+module _ (l : List ℕ) (at : ℕ) (p : List ℕ) (h : at + length p ≤ length l) where
+  before : length (take at l ++ p) ≡ at + length p
+  before = length-append (take at l) p ∙ rw (length-take-le at l (omega arith))
+
+  whole : put l at p ≡ take at l ++ p ++ drop (at + length p) l
+  unfolding put
+  whole = sym (append-assoc (take at l) p (drop (at + length p) l))
+
+  pub take-put : take (at + length p) (put l at p) ≡ take at l ++ p
+  take-put = rw whole (take-at (take at l ++ p) (drop (at + length p) l) (at + length p) before)
+
+  pub drop-put : drop (at + length p) (put l at p) ≡ drop (at + length p) l
+  drop-put = rw whole (drop-at (take at l ++ p) (drop (at + length p) l) (at + length p) before)
+
+pub put-put : (l : List ℕ) (at : ℕ) (p q : List ℕ) → at + length p + length q ≤ length l → put (put l at p) (at + length p) q ≡ put l at (p ++ q)
+unfolding put
+put-put l at p q h =
+    let k : at + length p ≤ length l = omega arith in
+    let c : drop (at + length p + length q) (put l at p) ≡ drop (at + length p + length q) l
+    = sym (drop-drop (length q) (at + length p) (put l at p)) ∙ (ap (drop (length q)) (drop-put l at p k) ∙ drop-drop (length q) (at + length p) l) in
+    let e : at + length (p ++ q) ≡ at + length p + length q = rw length-append (omega arith) in
+    rw (take-put l at p k, c, e, append-assoc (take at l) p (q ++ drop (at + length p + length q) l), append-assoc p q (drop (at + length p + length q) l))
+
+pub put-next : (w : ℕ) (l : List ℕ) (at : ℕ) (p : List ℕ) → put (w ∷ l) (1 + at) p ≡ w ∷ put l at p
+unfolding put
+put-next w l at p =
+    let a : 1 + at ≡ suc at = omega arith in
+    let b : suc at + length p ≡ suc (at + length p) = omega arith in
+    rw (a, b)
+
+pub set-behind : {A : Type 0} (p q : List A) (n : ℕ) (a : A) → set (p ++ q) (length p + n) a ≡ p ++ set q n a
+set-behind [] q n a = let e : 0 + n ≡ n = omega arith in rw e
+set-behind (x ∷ p) q n a = let e : suc (length p) + n ≡ suc (length p + n) = omega arith in rw (e, set-behind p q n a)
+
+-- the larger of a word and the one at a position
+module _ (l : List ℕ) (at w : ℕ) where
+  pub word-raised : wordAt l at < w → set l at w ≡ set l at (max (wordAt l at) w)
+  word-raised h = let m : max (wordAt l at) w ≡ w = omega arith in rw m
+
+  pub word-kept : w ≤ wordAt l at → l ≡ set l at (max (wordAt l at) w)
+  word-kept h = let m : max (wordAt l at) w ≡ wordAt l at = omega arith in rw m (sym (set-getD l at 0))

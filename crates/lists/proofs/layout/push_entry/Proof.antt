@@ -1,0 +1,22 @@
+use Rattle.varying.proofs.Checks.{first, second}
+use Rattle.lists.proofs.LayoutStores.{room-lacks, room-fits, words-kept, head-more, push-stored, push-decoded, push-filed}
+use borrow.Author.Needs.{needs}
+use Rattle.lists.proofs.layout.push_entry.Statement.{statement}
+use Rattle.lists.proofs.layout.push_entry.Tie as tie
+
+pub push-entry-spec : {M : Type 1} → statement M
+push-entry-spec =
+    tie.close
+    (tie.spec
+    (λ c κs. search needs)  -- count-requires
+    (λ c. search needs)  -- mul-at
+    (λ c. search needs)  -- add-at
+    (λ c. search needs)  -- add-if1
+    (λ c. search needs)  -- same-length
+    (λ c. (search room-lacks, (search words-kept, (search needs, search needs))))  -- returns
+    (λ c κs. search needs)  -- word-requires
+    (λ c κs. (search needs, search first))  -- store-entry-requires
+    (λ c. search head-more)  -- add-l
+    (λ c. search needs)  -- slice-write-l
+    (λ c. search needs)  -- same-length-2
+    (λ c. (search room-fits, (search push-stored, (search push-decoded, search push-filed)))))  -- returns-2

@@ -1,0 +1,16 @@
+use Rattle.lists.proofs.StageWays.{located-is, located-not}
+use borrow.Author.Needs.{needs}
+use Rattle.lists.proofs.stage_io.located_good.Statement.{statement}
+use Rattle.lists.proofs.stage_io.located_good.Tie as tie
+
+pub located-good-spec : {M : Type 1} → statement M
+located-good-spec =
+    tie.close
+    (tie.spec
+    (λ c κs. search needs)  -- word-requires
+    (λ c κs. search needs)  -- location-filed-requires
+    (λ c. search needs)  -- add-word
+    (λ c κs. search needs)  -- word-requires-2
+    (λ c κs. search needs)  -- var-filed-requires
+    (λ c. search located-is)  -- returns
+    (λ c. search located-not))  -- returns-2

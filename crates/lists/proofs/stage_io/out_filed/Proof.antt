@@ -1,0 +1,19 @@
+use Rattle.lists.proofs.Ways.{test-fails, test-passes}
+use Rattle.lists.specs.Format.{outFiled}
+use Rattle.lists.proofs.StageWays.{rising-counted}
+use borrow.Author.Needs.{needs}
+use Rattle.lists.proofs.stage_io.out_filed.Statement.{statement}
+use Rattle.lists.proofs.stage_io.out_filed.Tie as tie
+
+pub out-filed-spec : {M : Type 1} → statement M
+unfolding outFiled
+out-filed-spec =
+    tie.close
+    (tie.spec
+    (λ c κs. search needs)  -- stage-head-requires
+    (λ c. search test-fails)  -- returns
+    (λ c κs. search needs)  -- varyings-good-requires
+    (λ c. search (test-fails, test-passes))  -- returns-2
+    (λ c κs. search needs)  -- count-requires
+    (λ c κs. search needs)  -- rises-requires
+    (λ c. search (test-passes, rising-counted)))  -- returns-3

@@ -1,0 +1,16 @@
+use Rattle.lists.proofs.Words.{word-raised, word-kept}
+use borrow.Author.Needs.{needs}
+use Rattle.lists.proofs.stores.raise_word.Statement.{statement}
+use Rattle.lists.proofs.stores.raise_word.Tie as tie
+
+pub raise-word-spec : {M : Type 1} → statement M
+raise-word-spec =
+    tie.close
+    (tie.spec
+    (λ c. search needs)  -- mul-if1
+    (λ c. search needs)  -- slice-read-if1
+    (λ c. search needs)  -- mul-l
+    (λ c. search needs)  -- slice-write-l
+    (λ c. search needs)  -- same-length
+    (λ c. search word-raised)  -- returns
+    (λ c. search word-kept))  -- returns-2

@@ -1,0 +1,160 @@
+// A layout list: whether it is one, what it holds, a new entry, and a stage joined to one.
+ghost use mathlib.Core.Path.{_≡_};
+ghost use mathlib.Core.Bool.{Bool, true, false};
+ghost use Prim.Native.Nat.{_+_, _<_, _≤_};
+ghost use lib.ListN.{length, drop};
+ghost use Rattle.word.specs.Choice.{pick};
+ghost use Rattle.resource.specs.Format.{entryHeld, entryWords};
+ghost use Rattle.lists.specs.Meaning.{findEntry, foundBelow, entryNth, entryHas, fits, pushed, joined};
+ghost use Rattle.lists.specs.Format.{countOf, groupsOf, each, put, entryGood, entryFits, layoutHead, layoutFiled, decodeLayout, encodeLayout};
+use crate::heads::count;
+use crate::heads::groups;
+use crate::places::distinct_places;
+use crate::places::find_place;
+use crate::stores::store_two;
+use crate::types::Found;
+use crate::visibility::join_bit;
+use resource::binding_codes::binding_word;
+use resource::binding_codes::least_word;
+use resource::entry_words::entry_at;
+use resource::entry_words::entry_filed;
+use resource::resource_words::place_word;
+use resource::types::BindGroupLayoutEntry;
+use resource::types::BindingType;
+use resource::types::ResourceBinding;
+use word::word;
+
+fn layout_head(l: &[u32]) -> bool
+    ensures { λ r. ⌜ r ≡ layoutHead (now (l .entry)) ⌝ }
+{
+    let w = word(l, 0);
+    if w / 0x800_0000 != 17 {
+        return false;
+    }
+    if 8 < w / 0x1_0000 % 0x800 {
+        return false;
+    }
+    let n = (w % 0x1_0000) as usize;
+    1 + 4 * n <= l.len()
+}
+
+// Whether an entry stands at a position, with its group below the count.
+fn entry_good(l: &[u32], at: usize, groups: u32) -> bool
+    ensures { λ r. ⌜ r ≡ entryGood groups (drop at (now (l .entry))) ⌝ }
+{
+    if entry_filed(l, at) {
+        return word(l, at) / 0x80_0000 % 16 < groups;
+    }
+    false
+}
+
+fn entries_good(l: &[u32]) -> bool
+    ensures { λ r. ⌜ r ≡ each 4 (entryGood (groupsOf (now (l .entry)))) (countOf (now (l .entry))) (drop 1 (now (l .entry))) ⌝ }
+{
+    let bound = groups(l);
+    let mut at: usize = 1;
+    let mut left = count(l);
+    while left != 0 {
+        if !entry_good(l, at, bound) {
+            return false;
+        }
+        at += 4;
+        left -= 1;
+    }
+    true
+}
+
+// Whether words are a layout list.
+pub fn layout_filed(l: &[u32]) -> bool
+    ensures { λ r. ⌜ r ≡ layoutFiled (now (l .entry)) ⌝ }
+{
+    if 1024 < l.len() {
+        return false;
+    }
+    if !layout_head(l) {
+        return false;
+    }
+    if !entries_good(l) {
+        return false;
+    }
+    distinct_places(l, 4)
+}
+
+pub fn group_count(l: &[u32]) -> u32
+    ensures { λ r. ⌜ r ≡ decodeLayout (now (l .entry)) .groups ⌝ }
+{
+    groups(l)
+}
+
+// The position of the entry at a place.
+pub fn find_entry(l: &[u32], place: ResourceBinding) -> Found
+    ensures { λ r. ⌜ r ≡ findEntry place (decodeLayout (now (l .entry))) ⌝ }
+    ensures { λ r. ⌜ foundBelow (length (decodeLayout (now (l .entry)) .entries)) r ≡ true ⌝ }
+{
+    find_place(l, 1, count(l), 4, place)
+}
+
+// The entry at a position; past the last, one that serves nothing.
+pub fn entry(l: &[u32], index: usize) -> BindGroupLayoutEntry
+    ensures { λ r. ⌜ r ≡ entryNth (decodeLayout (now (l .entry)) .entries) index ⌝ }
+{
+    if index < count(l) {
+        return entry_at(l, 1 + 4 * index);
+    }
+    let bind = ResourceBinding {
+        group: 0,
+        binding: 0,
+    };
+    BindGroupLayoutEntry {
+        bind,
+        ty: BindingType::ExternalTexture,
+        visibility: 0,
+    }
+}
+
+// An entry's four words stored at a position.
+fn store_entry(l: &mut [u32], at: usize, e: BindGroupLayoutEntry)
+    requires { ⌜ at + 4 ≤ length (now l) ⌝ }
+    requires { ⌜ entryHeld e ≡ true ⌝ }
+    ensures { λ _. ⌜ now (l .exit) ≡ put (now (l .entry)) at (entryWords e) ⌝ }
+{
+    let bind = e.bind;
+    let ty = e.ty;
+    let visibility = 0x9800_0000 + e.visibility;
+    store_two(l, at, place_word(bind), binding_word(ty));
+    store_two(l, at + 2, least_word(ty), visibility);
+}
+
+// A new entry at the end, or nothing where the free room is too small.
+pub fn push_entry(l: &mut [u32], e: BindGroupLayoutEntry) -> bool
+    requires { ⌜ layoutFiled (now l) ≡ true ⌝ }
+    requires { ⌜ entryFits (decodeLayout (now l) .groups) e ≡ true ⌝ }
+    requires { ⌜ entryHas (e .bind) (decodeLayout (now l) .entries) ≡ false ⌝ }
+    ensures { λ r. ⌜ r ≡ fits 4 (decodeLayout (now (l .entry)) .room) ⌝ }
+    ensures { λ r. ⌜ now (l .exit) ≡ encodeLayout (pick r (pushed (decodeLayout (now (l .entry))) e) (decodeLayout (now (l .entry)))) ⌝ }
+    ensures { λ r. ⌜ decodeLayout (now (l .exit)) ≡ pick r (pushed (decodeLayout (now (l .entry))) e) (decodeLayout (now (l .entry))) ⌝ }
+    ensures { λ r. ⌜ layoutFiled (now (l .exit)) ≡ true ⌝ }
+{
+    let n = count(l);
+    let at = 1 + 4 * n;
+    if l.len() < at + 4 {
+        return false;
+    }
+    let head = word(l, 0);
+    store_entry(l, at, e);
+    l[0] = head + 1;
+    true
+}
+
+// A stage's bit joined to the visibility of the entry at a position.
+pub fn join_visibility(l: &mut [u32], index: usize, stage: u32)
+    requires { ⌜ layoutFiled (now l) ≡ true ⌝ }
+    requires { ⌜ (index < length (decodeLayout (now l) .entries)) × (stage ≤ 4) ⌝ }
+    ensures { λ _. ⌜ now (l .exit) ≡ encodeLayout (joined stage (decodeLayout (now (l .entry))) index) ⌝ }
+    ensures { λ _. ⌜ decodeLayout (now (l .exit)) ≡ joined stage (decodeLayout (now (l .entry))) index ⌝ }
+    ensures { λ _. ⌜ layoutFiled (now (l .exit)) ≡ true ⌝ }
+{
+    let at = 4 * index + 4;
+    let visibility = join_bit(word::content(word(l, at)), stage);
+    l[at] = 0x9800_0000 + visibility;
+}

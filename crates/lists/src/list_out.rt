@@ -1,0 +1,96 @@
+// What a stage hands on, written into the list out: its variables by rising location.
+ghost use mathlib.Core.Path.{_≡_};
+ghost use mathlib.Core.Bool.{Bool, true};
+ghost use mathlib.Core.List.{[], _∷_};
+ghost use Prim.Native.Nat.{_+_, _*_, _<_, _≤_, _^_};
+ghost use lib.ListN.{length, take, drop};
+ghost use Rattle.varying.specs.Format.{varFiled, varOf, locatedHeld, locatedWords, payloadHeld};
+ghost use Rattle.lists.specs.Meaning.{insert, inserted};
+ghost use Rattle.lists.specs.Format.{put, each, flat, locatedGood, readVaryings, outFiled, decodeStage, encodeStage};
+use crate::heads::count;
+use crate::out_words::payload_word;
+use crate::out_words::primitive_word;
+use crate::out_words::var_word;
+use crate::stage_io::location_at;
+use crate::stores::store_two;
+use crate::types::PrimitiveIndex;
+use varying::Located;
+use varying::Payload;
+use word::word;
+
+// The head and the payload of a list without variables.
+pub fn begin_out(out: &mut [u32], primitive: PrimitiveIndex, payload: Payload)
+    requires { ⌜ 2 ≤ length (now out) ⌝ }
+    requires { ⌜ payloadHeld payload ≡ true ⌝ }
+    ensures { λ _. ⌜ now (out .exit) ≡ encodeStage (record { primitive = primitive; payload = payload; varyings = []; room = drop 2 (now (out .entry)) }) ⌝ }
+    ensures { λ _. ⌜ decodeStage (now (out .exit)) ≡ record { primitive = primitive; payload = payload; varyings = []; room = drop 2 (now (out .entry)) } ⌝ }
+    ensures { λ _. ⌜ outFiled (now (out .exit)) ≡ true ⌝ }
+{
+    let head = primitive_word(primitive);
+    let second = payload_word(payload);
+    store_two(out, 0, head, second);
+}
+
+// Two words written before as many records, each of which moves up by one.
+fn shift(out: &mut [u32], from: usize, n: usize, first: u32, second: u32)
+    requires { ⌜ (from + 2 * n + 2 ≤ length (now out)) × (from + 2 * n < 2 ^ 60) ⌝ }
+    ensures { λ _. ⌜ now (out .exit) ≡ put (now (out .entry)) from (first ∷ second ∷ take (2 * n) (drop from (now (out .entry)))) ⌝ }
+{
+    let mut at = from;
+    let mut left = n;
+    let mut a = first;
+    let mut b = second;
+    while left != 0 {
+        let c = word(out, at);
+        let d = word(out, at + 1);
+        store_two(out, at, a, b);
+        a = c;
+        b = d;
+        at += 2;
+        left -= 1;
+    }
+    store_two(out, at, a, b);
+}
+
+// A variable put into its place among as many: 1 where its location is new.
+fn place(out: &mut [u32], n: usize, location: u32, var: u32) -> u32
+    requires { ⌜ (2 + 2 * n + 2 ≤ length (now out)) × (n < 0x1_0000) × (each 2 locatedGood n (drop 2 (now out)) ≡ true) ⌝ }
+    requires { ⌜ (location < 2 ^ 27) × (varFiled var ≡ true) ⌝ }
+    ensures { λ _. ⌜ now (out .exit) ≡ put (now (out .entry)) 2 (flat locatedWords (insert (record { location = location; var = varOf var }) (readVaryings n (drop 2 (now (out .entry)))))) ⌝ }
+    ensures { λ r. ⌜ length (insert (record { location = location; var = varOf var }) (readVaryings n (drop 2 (now (out .entry))))) ≡ n + r ⌝ }
+    ensures { λ r. ⌜ r ≤ 1 ⌝ }
+{
+    let mut at: usize = 2;
+    let mut left = n;
+    while left != 0 {
+        let here = location_at(out, at);
+        if location < here {
+            shift(out, at, left, 0x6000_0000 + location, var);
+            return 1;
+        }
+        if location == here {
+            store_two(out, at, 0x6000_0000 + location, var);
+            return 0;
+        }
+        at += 2;
+        left -= 1;
+    }
+    store_two(out, at, 0x6000_0000 + location, var);
+    1
+}
+
+// A variable put into the list by its location; of equal locations the last is kept.
+pub fn insert_out(out: &mut [u32], v: Located)
+    requires { ⌜ (outFiled (now out) ≡ true) × (locatedHeld v ≡ true) ⌝ }
+    requires { ⌜ (length (decodeStage (now out) .varyings) < 63) × (2 ≤ length (decodeStage (now out) .room)) ⌝ }
+    ensures { λ _. ⌜ now (out .exit) ≡ encodeStage (inserted v (decodeStage (now (out .entry)))) ⌝ }
+    ensures { λ _. ⌜ decodeStage (now (out .exit)) ≡ inserted v (decodeStage (now (out .entry))) ⌝ }
+    ensures { λ _. ⌜ outFiled (now (out .exit)) ≡ true ⌝ }
+{
+    let n = count(out);
+    let head = word(out, 0);
+    let var = v.var;
+    let second = var_word(var);
+    let more = place(out, n, v.location, second);
+    out[0] = head + more;
+}

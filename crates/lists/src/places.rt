@@ -1,0 +1,73 @@
+// Places, each in the first word of a record of some width.
+ghost use mathlib.Core.Path.{_≡_};
+ghost use mathlib.Core.Bool.{Bool, true};
+ghost use Prim.Native.Nat.{_<_, _≤_, _^_};
+ghost use lib.ListN.{drop};
+ghost use Rattle.word.specs.Words.{wordAt};
+ghost use Rattle.resource.specs.Format.{placeOf};
+ghost use Rattle.lists.specs.Meaning.{samePlace, placeFrom, placeIn, distinctPlaces, foundBelow};
+ghost use Rattle.lists.specs.Format.{countOf, places};
+use crate::heads::count;
+use crate::types::Found;
+use resource::resource_words::place_of;
+use resource::types::ResourceBinding;
+use word::word;
+
+fn same_place(a: ResourceBinding, b: ResourceBinding) -> bool
+    ensures { λ r. ⌜ r ≡ samePlace a b ⌝ }
+{
+    a.group == b.group && a.binding == b.binding
+}
+
+// The place that stands at a position.
+pub fn place_at(l: &[u32], at: usize) -> ResourceBinding
+    ensures { λ r. ⌜ r ≡ placeOf (wordAt (now (l .entry)) at) ⌝ }
+{
+    place_of(word(l, at))
+}
+
+// Which of the records from a position on has the place.
+pub fn find_place(l: &[u32], from: usize, n: usize, width: usize, place: ResourceBinding) -> Found
+    requires { ⌜ (from < 2 ^ 32) × (n < 2 ^ 32) × (width ≤ 4) ⌝ }
+    ensures { λ r. ⌜ r ≡ placeFrom place (places width n (drop from (now (l .entry)))) 0 ⌝ }
+    ensures { λ r. ⌜ foundBelow n r ≡ true ⌝ }
+{
+    let mut at = from;
+    let mut i: usize = 0;
+    while i < n {
+        if same_place(place_at(l, at), place) {
+            return Found::At { index: i };
+        }
+        at += width;
+        i += 1;
+    }
+    Found::Nothing
+}
+
+fn has_place(l: &[u32], from: usize, n: usize, width: usize, place: ResourceBinding) -> bool
+    requires { ⌜ (from < 2 ^ 32) × (n < 2 ^ 32) × (width ≤ 4) ⌝ }
+    ensures { λ r. ⌜ r ≡ placeIn place (places width n (drop from (now (l .entry)))) ⌝ }
+{
+    match find_place(l, from, n, width, place) {
+        Found::At { index: _ } => true,
+        Found::Nothing => false,
+    }
+}
+
+// Whether no two records have one place.
+pub fn distinct_places(l: &[u32], width: usize) -> bool
+    requires { ⌜ width ≤ 4 ⌝ }
+    ensures { λ r. ⌜ r ≡ distinctPlaces (places width (countOf (now (l .entry))) (drop 1 (now (l .entry)))) ⌝ }
+{
+    let mut at: usize = 1;
+    let mut left = count(l);
+    while left != 0 {
+        let place = place_at(l, at);
+        at += width;
+        left -= 1;
+        if has_place(l, at, left, width, place) {
+            return false;
+        }
+    }
+    true
+}

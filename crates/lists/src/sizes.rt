@@ -1,0 +1,114 @@
+// A size list: whether it is one, and a size recorded.
+ghost use mathlib.Core.Path.{_≡_};
+ghost use mathlib.Core.Bool.{Bool, true, false};
+ghost use Prim.Native.Nat.{_<_, _≤_, _^_};
+ghost use lib.ListN.{drop};
+ghost use Rattle.resource.specs.Format.{placeHeld};
+ghost use Rattle.lists.specs.Meaning.{sizeHas, sizeFits, recorded};
+ghost use Rattle.lists.specs.Format.{countOf, each, sizeGood, sizesHead, sizesFiled, decodeSizes, encodeSizes};
+use crate::heads::count;
+use crate::places::distinct_places;
+use crate::places::find_place;
+use crate::stores::raise_word;
+use crate::stores::store_two;
+use crate::types::Found;
+use resource::resource_words::place_word;
+use resource::types::ResourceBinding;
+use word::word;
+
+fn sizes_head(l: &[u32]) -> bool
+    ensures { λ r. ⌜ r ≡ sizesHead (now (l .entry)) ⌝ }
+{
+    let w = word(l, 0);
+    if w / 0x800_0000 != 20 {
+        return false;
+    }
+    if w / 0x1_0000 % 0x800 != 0 {
+        return false;
+    }
+    let n = (w % 0x1_0000) as usize;
+    1 + 2 * n <= l.len()
+}
+
+// Whether a place and a size of at least 1 stand at a position.
+fn size_good(l: &[u32], at: usize) -> bool
+    requires { ⌜ at < 2 ^ 60 ⌝ }
+    ensures { λ r. ⌜ r ≡ sizeGood (drop at (now (l .entry))) ⌝ }
+{
+    if word(l, at) / 0x800_0000 != 4 {
+        return false;
+    }
+    let size = word(l, at + 1);
+    size / 0x800_0000 == 6 && size % 0x800_0000 != 0
+}
+
+fn sizes_good(l: &[u32]) -> bool
+    ensures { λ r. ⌜ r ≡ each 2 sizeGood (countOf (now (l .entry))) (drop 1 (now (l .entry))) ⌝ }
+{
+    let mut at: usize = 1;
+    let mut left = count(l);
+    while left != 0 {
+        if !size_good(l, at) {
+            return false;
+        }
+        at += 2;
+        left -= 1;
+    }
+    true
+}
+
+// Whether words are a size list.
+pub fn sizes_filed(l: &[u32]) -> bool
+    ensures { λ r. ⌜ r ≡ sizesFiled (now (l .entry)) ⌝ }
+{
+    if 1024 < l.len() {
+        return false;
+    }
+    if !sizes_head(l) {
+        return false;
+    }
+    if !sizes_good(l) {
+        return false;
+    }
+    distinct_places(l, 2)
+}
+
+// A new record at the end, or nothing where the free room is too small.
+fn push_size(s: &mut [u32], place: ResourceBinding, size: u64) -> bool
+    requires { ⌜ sizesFiled (now s) ≡ true ⌝ }
+    requires { ⌜ placeHeld place ≡ true ⌝ }
+    requires { ⌜ (1 ≤ size) × (size < 2 ^ 27) ⌝ }
+    requires { ⌜ sizeHas place (decodeSizes (now s) .records) ≡ false ⌝ }
+    ensures { λ r. ⌜ r ≡ sizeFits place (decodeSizes (now (s .entry))) ⌝ }
+    ensures { λ r. ⌜ now (s .exit) ≡ encodeSizes (recorded place size (decodeSizes (now (s .entry)))) ⌝ }
+{
+    let n = count(s);
+    let at = 1 + 2 * n;
+    if s.len() < at + 2 {
+        return false;
+    }
+    let head = word(s, 0);
+    store_two(s, at, place_word(place), 0x3000_0000 + size as u32);
+    s[0] = head + 1;
+    true
+}
+
+// A size recorded at a place: the larger where it has a record, else a new one where there is room.
+pub fn record_size(s: &mut [u32], place: ResourceBinding, size: u64) -> bool
+    requires { ⌜ sizesFiled (now s) ≡ true ⌝ }
+    requires { ⌜ placeHeld place ≡ true ⌝ }
+    requires { ⌜ (1 ≤ size) × (size < 2 ^ 27) ⌝ }
+    ensures { λ r. ⌜ r ≡ sizeFits place (decodeSizes (now (s .entry))) ⌝ }
+    ensures { λ r. ⌜ now (s .exit) ≡ encodeSizes (recorded place size (decodeSizes (now (s .entry)))) ⌝ }
+    ensures { λ r. ⌜ decodeSizes (now (s .exit)) ≡ recorded place size (decodeSizes (now (s .entry))) ⌝ }
+    ensures { λ r. ⌜ sizesFiled (now (s .exit)) ≡ true ⌝ }
+{
+    let n = count(s);
+    match find_place(s, 1, n, 2, place) {
+        Found::At { index } => {
+            raise_word(s, 2 * index + 2, 0x3000_0000 + size as u32);
+            true
+        }
+        Found::Nothing => push_size(s, place, size),
+    }
+}

@@ -1,0 +1,148 @@
+// What the stage before provides: its variables by rising location, its payload and its primitive index.
+ghost use mathlib.Core.Path.{_≡_};
+ghost use mathlib.Core.Bool.{Bool};
+ghost use Prim.Native.Nat.{_<_, _≤_, _+_, _*_, _^_};
+ghost use lib.ListN.{length, drop};
+ghost use Rattle.word.specs.Words.{wordAt, contentOf};
+ghost use Rattle.lists.specs.Meaning.{rising, varyingAt};
+ghost use Rattle.lists.specs.Format.{countOf, each, locatedGood, readVaryings, primitiveAt, stageHead, outFiled, stageFiled, decodeStage};
+use crate::heads::count;
+use crate::types::PrimitiveIndex;
+use crate::types::Provided;
+use varying::Payload;
+use word::word;
+
+// The head, the payload, and as many variables as are counted.
+fn stage_head(l: &[u32]) -> bool
+    ensures { λ r. ⌜ r ≡ stageHead (now (l .entry)) ⌝ }
+{
+    let w = word(l, 0);
+    if w / 0x800_0000 != 11 {
+        return false;
+    }
+    if 3 <= w / 0x200_0000 % 4 {
+        return false;
+    }
+    if w / 0x1_0000 % 0x200 != 0 {
+        return false;
+    }
+    let n = w % 0x1_0000;
+    if 63 < n {
+        return false;
+    }
+    if l.len() < 2 + 2 * (n as usize) {
+        return false;
+    }
+    varying::payload_filed(word(l, 1))
+}
+
+// The location that stands at a position.
+pub fn location_at(l: &[u32], at: usize) -> u32
+    ensures { λ r. ⌜ r ≡ contentOf (wordAt (now (l .entry)) at) ⌝ }
+    ensures { λ r. ⌜ r < 2 ^ 27 ⌝ }
+{
+    word::content(word(l, at))
+}
+
+fn located_good(l: &[u32], at: usize) -> bool
+    requires { ⌜ at < 2 ^ 60 ⌝ }
+    ensures { λ r. ⌜ r ≡ locatedGood (drop at (now (l .entry))) ⌝ }
+{
+    if varying::location_filed(word(l, at)) {
+        return varying::var_filed(word(l, at + 1));
+    }
+    false
+}
+
+// Whether each variable has a location and a variable's word.
+fn varyings_good(l: &[u32]) -> bool
+    ensures { λ r. ⌜ r ≡ each 2 locatedGood (countOf (now (l .entry))) (drop 2 (now (l .entry))) ⌝ }
+{
+    let mut at: usize = 2;
+    let mut left = count(l);
+    while left != 0 {
+        if !located_good(l, at) {
+            return false;
+        }
+        at += 2;
+        left -= 1;
+    }
+    true
+}
+
+// Whether each location is below the next.
+fn rises(l: &[u32], n: usize) -> bool
+    requires { ⌜ n < 0x1_0000 ⌝ }
+    ensures { λ r. ⌜ r ≡ rising (readVaryings n (drop 2 (now (l .entry)))) ⌝ }
+{
+    let mut at: usize = 2;
+    let mut left = n;
+    while 2 <= left {
+        if location_at(l, at + 2) <= location_at(l, at) {
+            return false;
+        }
+        at += 2;
+        left -= 1;
+    }
+    true
+}
+
+// Whether words are a stage list, of whatever length.
+pub fn out_filed(l: &[u32]) -> bool
+    ensures { λ r. ⌜ r ≡ outFiled (now (l .entry)) ⌝ }
+{
+    if !stage_head(l) {
+        return false;
+    }
+    if !varyings_good(l) {
+        return false;
+    }
+    rises(l, count(l))
+}
+
+// Whether words are a stage list.
+pub fn stage_filed(l: &[u32]) -> bool
+    ensures { λ r. ⌜ r ≡ stageFiled (now (l .entry)) ⌝ }
+{
+    if 1024 < l.len() {
+        return false;
+    }
+    out_filed(l)
+}
+
+// The variable provided at a location.
+pub fn varying_at(l: &[u32], location: u32) -> Provided
+    ensures { λ r. ⌜ r ≡ varyingAt location (decodeStage (now (l .entry)) .varyings) ⌝ }
+{
+    let mut at: usize = 2;
+    let mut left = count(l);
+    while left != 0 {
+        if location_at(l, at) == location {
+            return Provided::Var {
+                var: varying::var_of(word(l, at + 1)),
+            };
+        }
+        at += 2;
+        left -= 1;
+    }
+    Provided::Missing
+}
+
+pub fn primitive_index(l: &[u32]) -> PrimitiveIndex
+    ensures { λ r. ⌜ r ≡ decodeStage (now (l .entry)) .primitive ⌝ }
+{
+    let code = word(l, 0) / 0x200_0000 % 4;
+    if code == 0 {
+        return PrimitiveIndex::None;
+    }
+    if code == 1 {
+        return PrimitiveIndex::False;
+    }
+    PrimitiveIndex::True
+}
+
+pub fn payload(l: &[u32]) -> Payload
+    ensures { λ r. ⌜ r ≡ decodeStage (now (l .entry)) .payload ⌝ }
+{
+    varying::payload_of(word(l, 1))
+}

@@ -1,0 +1,26 @@
+// Records written into a list.
+ghost use mathlib.Core.Path.{_≡_};
+ghost use mathlib.Core.List.{[], _∷_};
+ghost use Prim.Native.Nat.{_+_, _<_, _≤_, max};
+ghost use lib.ListN.{length, set};
+ghost use Rattle.word.specs.Words.{wordAt};
+ghost use Rattle.lists.specs.Format.{put};
+
+// Two words stored at a position.
+pub fn store_two(l: &mut [u32], at: usize, first: u32, second: u32)
+    requires { ⌜ at + 2 ≤ length (now l) ⌝ }
+    ensures { λ _. ⌜ now (l .exit) ≡ put (now (l .entry)) at (first ∷ second ∷ []) ⌝ }
+{
+    l[at] = first;
+    l[at + 1] = second;
+}
+
+// The larger of a word and the one at a position stored there.
+pub fn raise_word(l: &mut [u32], at: usize, w: u32)
+    requires { ⌜ at < length (now l) ⌝ }
+    ensures { λ _. ⌜ now (l .exit) ≡ set (now (l .entry)) at (max (wordAt (now (l .entry)) at) w) ⌝ }
+{
+    if l[at] < w {
+        l[at] = w;
+    }
+}

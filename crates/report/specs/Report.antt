@@ -1,0 +1,96 @@
+-- What the program prints (document 01, 'Deliveries': 'A program reads a pack's bytes …').
+use Prim.Native.Nat.{ℕ, _+_, _*_, _%_}
+use mathlib.Core.Bool.{Bool, true, false, _||_, not}
+use mathlib.Core.List.{List, [], _∷_, _++_}
+use lib.Dec.{eqb, ltb}
+use lib.ListN.{length, take, replicate}
+use Rattle.word.specs.Choice.{pick}
+use Rattle.word.specs.Answers.{refused}
+use Rattle.varying.specs.declared.Payload.the-variants as Pay
+use Rattle.lists.specs.Format.{encodeLayout, encodeSizes, encodeStage, countOf}
+use Rattle.lists.specs.declared.types.PrimitiveIndex.the-variants as Index
+use Rattle.interface.specs.Meaning.{EntryPoint, Interface}
+use Rattle.interface.specs.Format.{Decoded, Torn, Misfiled, Pack, decode, stageCode}
+use Rattle.stage.specs.Meaning.{Call, Outcome}
+use Rattle.stage.specs.Stage.{checkStage}
+use Rattle.report.specs.Text.{wordsOf, line, hexLines}
+
+-- 'over one list of 8 groups and 1,024 words'
+abbrev pub emptyLayout : List ℕ
+emptyLayout = encodeLayout (record { groups = 8; entries = []; room = replicate 1023 0 })
+
+-- 'from an empty one': no primitive index, no payload, no varyings; with room for as many words as a stage can hand on
+abbrev pub emptyStage : List ℕ
+emptyStage = encodeStage (record { primitive = Index.None; payload = Pay.Absent; varyings = []; room = replicate 126 0 })
+
+abbrev pub emptySizes : List ℕ
+emptySizes = encodeSizes (record { records = []; room = [] })
+
+-- the layout list and the stage list as the entry points so far left them, and the text so far
+pub record Run : Type 0 where
+  pub layout : List ℕ
+  pub io : List ℕ
+  pub text : List ℕ
+
+abbrev pub ran : List ℕ → List ℕ → List ℕ → Run
+ran layout io text = record { layout = layout; io = io; text = text }
+
+-- 'derives each entry point …, triangles, no dual source, depth attached'
+abbrev pub stageCall : List ℕ → EntryPoint → List ℕ → List ℕ → Call
+stageCall pack e layout io =
+    record {
+      pack = pack;
+      layout = layout;
+      sizes = emptySizes;
+      inputs = io;
+      out = emptyStage;
+      stage = stageCode (e .stage);
+      name = e .name;
+      topology = 3;
+      mode = 1;
+      dual = 0;
+      depth = 1;
+    }
+
+unfoldable pub derived : List ℕ → EntryPoint → List ℕ → List ℕ → Outcome
+derived pack e layout io = checkStage (stageCall pack e layout io)
+
+-- 'feeding each accepted list on'; after a refusal the last accepted one is still fed on
+abbrev pub fedOn : Outcome → List ℕ → List ℕ
+fedOn o io = pick (eqb (o .answer .number) 0) (o .out) io
+
+abbrev pub noted : ℕ → Run → Outcome → Run
+noted stage r o = ran (o .layout) (fedOn o (r .io)) (r .text ++ line stage (o .answer))
+
+-- one entry point
+abbrev pub runEntry : List ℕ → EntryPoint → Run → Run
+runEntry pack e r = noted (stageCode (e .stage)) r (derived pack e (r .layout) (r .io))
+
+-- 'each entry point in order'
+unfoldable pub runEntries : List ℕ → List EntryPoint → Run → Run
+runEntries pack [] r = r
+runEntries pack (e ∷ es) r = let next = runEntry pack e r in runEntries pack es next
+
+abbrev pub startRun : Run
+startRun = ran emptyLayout emptyStage []
+
+-- 'at the end the used layout words in lower-case hex'
+abbrev pub usedWords : List ℕ → List ℕ
+usedWords layout = take (1 + 4 * countOf layout) layout
+
+abbrev pub runText : Run → List ℕ
+runText r = r .text ++ hexLines (usedWords (r .layout))
+
+-- 'A pack refused prints stage 9 and no words'
+abbrev pub refusedPack : ℕ → List ℕ
+refusedPack number = line 9 (refused number)
+
+abbrev pub decodedText : List ℕ → Decoded → List ℕ
+decodedText pack Torn = refusedPack 1
+decodedText pack Misfiled = refusedPack 2
+decodedText pack (Pack i) = runText (runEntries pack (i .entries) startRun)
+
+-- 'a byte count not divisible by 4 is 1', and so is more than a pack can hold
+unfoldable pub report : List ℕ → List ℕ
+report bytes =
+    pick (not (eqb (length bytes % 4) 0) || ltb 16384 (length bytes)) (refusedPack 1) (decodedText (wordsOf bytes) (decode (wordsOf bytes)))

@@ -1,0 +1,13 @@
+pub mod Truth
+pub mod UseLaws
+pub mod DeriveLaws
+pub mod ResourceLaws
+pub mod CodeLaws
+pub mod EntryLaws
+pub mod ReadLaws
+pub mod HandBack
+pub mod EntryFormat
+pub mod ResourceFormat
+pub mod SameBinding
+pub mod AnswerLaws
+pub mod Examples

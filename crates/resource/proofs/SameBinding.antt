@@ -1,0 +1,37 @@
+-- Binding types that words can hold are told apart by their code and least size; the numbers of the answers.
+use Prim.Native.Nat.{ℕ}
+use mathlib.Core.Path.{_≡_, refl}
+use mathlib.Core.Bool.{true}
+use mathlib.Core.List.{List, [], _∷_, List·Memᴰ, List·Memᴰ·head, List·Memᴰ·tail}
+use borrow.Author.Tests.{eqb-true, eq-eqb}
+use Rattle.resource.specs.Rules.{useNumber}
+use Rattle.resource.specs.Format.{bindingCode, leastSize, sameBinding, formatHeld}
+use Rattle.resource.specs.declared.types.BindingType.{BindingType}
+use Rattle.resource.specs.declared.types.BindingUse.{BindingUse}
+use Rattle.resource.specs.declared.types.BindingUse.the-variants as Use
+use Rattle.resource.proofs.Truth.{first, second}
+use Rattle.resource.proofs.EntryFormat.{type-read}
+
+-- the same where and, for held types, only where they are equal
+pub same-binding : (a b : BindingType) → a ≡ b → sameBinding a b ≡ true
+same-binding a b e = rw (e, eq-eqb (bindingCode b) (bindingCode b) refl, eq-eqb (leastSize b) (leastSize b) refl)
+
+pub same-binding-eq : (a b : BindingType) → formatHeld a ≡ true → formatHeld b ≡ true → sameBinding a b ≡ true → a ≡ b
+same-binding-eq a b p q h =
+    let c : bindingCode a ≡ bindingCode b = search (eqb-true, first) in
+    let l : leastSize a ≡ leastSize b = search (eqb-true, second) in
+    cc (type-read a p, type-read b q)
+
+-- an answer on a binding's use has one of these numbers and no other
+abbrev pub useNumbers : List ℕ
+useNumbers = 0 ∷ 22 ∷ 23 ∷ 25 ∷ 26 ∷ 27 ∷ 28 ∷ 30 ∷ []
+
+pub use-numbers : (u : BindingUse) → List·Memᴰ (useNumber u) useNumbers
+use-numbers Use.Accepted = List·Memᴰ·head refl
+use-numbers Use.WrongType = List·Memᴰ·tail (List·Memᴰ·head refl)
+use-numbers Use.WrongAddressSpace = List·Memᴰ·tail (List·Memᴰ·tail (List·Memᴰ·head refl))
+use-numbers Use.WrongBufferSize = search (List·Memᴰ·tail, List·Memᴰ·head) depth 12
+use-numbers Use.WrongTextureViewDimension = search (List·Memᴰ·tail, List·Memᴰ·head) depth 12
+use-numbers Use.WrongTextureClass = search (List·Memᴰ·tail, List·Memᴰ·head) depth 12
+use-numbers Use.WrongSamplerComparison = search (List·Memᴰ·tail, List·Memᴰ·head) depth 12
+use-numbers Use.BadStorageFormat = search (List·Memᴰ·tail, List·Memᴰ·head) depth 12

@@ -1,0 +1,42 @@
+-- Truth values of tests.
+use Prim.Native.Nat.{ℕ, zero, suc, _<_}
+use native.Mathlib.Omega.{arith}
+use mathlib.Core.Path.{_≡_, refl}
+use mathlib.Core.Bool.{Bool, true, false, _&&_, _||_, false≢true}
+use lib.Dec.{eqb}
+use borrow.Author.Tests.{eqb-true, eqb-false}
+
+pub first : (a b : Bool) → a && b ≡ true → a ≡ true
+first true b h = refl
+first false b h = h
+
+pub second : (a b : Bool) → a && b ≡ true → b ≡ true
+second true b h = h
+second false b h = absurd (false≢true h)
+
+pub or-right : (a b : Bool) → b ≡ true → a || b ≡ true
+or-right true b h = refl
+or-right false b h = h
+
+pub by-test : {P : Type 0} (b : Bool) → (b ≡ true → P) → (b ≡ false → P) → P
+by-test true t f = t refl
+by-test false t f = f refl
+
+pub never : {P : Type 0} (b : Bool) → b ≡ true → b ≡ false → P
+never true t f = absurd (false≢true (rw f))
+never false t f = absurd (false≢true t)
+
+-- a test computed at every number below a bound
+abbrev pub allBelow : ℕ → (ℕ → Bool) → Bool
+allBelow zero test = true
+allBelow (suc n) test = test n && allBelow n test
+
+pub below : (n : ℕ) (test : ℕ → Bool) → allBelow n test ≡ true → (c : ℕ) → c < n → test c ≡ true
+below zero test h c k = absurd (omega arith)
+below (suc n) test h c k =
+    by-test (eqb c n) (λ t. rw (eqb-true c n t) (first (test n) (allBelow n test) h))
+    (λ f. let d : c ≡ n → ⊥ = eqb-false c n f in below n test (second (test n) (allBelow n test) h) c (omega arith))
+
+-- so a code below a bound comes back from what it stands for
+pub codes-back : (n : ℕ) (code : ℕ → ℕ) → allBelow n (λ c. eqb (code c) c) ≡ true → (c : ℕ) → c < n → code c ≡ c
+codes-back n code h c k = eqb-true (code c) c (below n (λ c. eqb (code c) c) h c k)

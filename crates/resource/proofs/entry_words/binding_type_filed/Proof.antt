@@ -1,0 +1,26 @@
+use Rattle.resource.specs.Format.{bindingTypeFiled}
+use Rattle.word.proofs.Tests.{tests}
+use borrow.Author.Needs.{needs}
+use Rattle.resource.proofs.entry_words.binding_type_filed.Statement.{statement}
+use Rattle.resource.proofs.entry_words.binding_type_filed.Tie as tie
+
+pub binding-type-filed-spec : {M : Type 1} → statement M
+unfolding bindingTypeFiled
+binding-type-filed-spec =
+    tie.close
+    (tie.spec
+    (λ c. search tests)  -- returns
+    (λ c. search tests)  -- returns-2
+    (λ c. search tests)  -- returns-3
+    (λ c. search tests)  -- returns-4
+    (λ c. search tests)  -- returns-5
+    (λ c. search tests)  -- returns-6
+    (λ c. search tests)  -- returns-7
+    (λ c. search tests)  -- returns-8
+    (λ c. search tests)  -- returns-9
+    (λ c. search tests)  -- returns-10
+    (λ c. search tests)  -- returns-11
+    (λ c. search tests)  -- returns-12
+    (λ c. search tests)  -- returns-13
+    (λ c. search tests)  -- returns-14
+    (λ c. search tests))  -- returns-15

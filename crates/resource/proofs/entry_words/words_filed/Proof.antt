@@ -1,0 +1,18 @@
+use Rattle.resource.specs.Format.{entryFiled}
+use Rattle.resource.proofs.EntryLaws.{entry-bits}
+use Rattle.word.proofs.Tests.{tests}
+use borrow.Author.Needs.{needs}
+use Rattle.resource.proofs.entry_words.words_filed.Statement.{statement}
+use Rattle.resource.proofs.entry_words.words_filed.Tie as tie
+
+pub words-filed-spec : {M : Type 1} → statement M
+unfolding entryFiled
+words-filed-spec =
+    tie.close
+    (tie.spec
+    (λ c. search (entry-bits, tests))  -- returns
+    (λ c. search (entry-bits, tests))  -- returns-2
+    (λ c κs. search needs)  -- binding-type-filed-requires
+    (λ c κs. search needs)  -- least-filed-requires
+    (λ c. search (entry-bits, tests))  -- returns-3
+    (λ c. search (entry-bits, tests)))  -- returns-4

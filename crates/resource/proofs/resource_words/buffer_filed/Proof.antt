@@ -1,0 +1,13 @@
+use Rattle.word.proofs.Tests.{tests}
+use borrow.Author.Needs.{needs}
+use Rattle.resource.proofs.resource_words.buffer_filed.Statement.{statement}
+use Rattle.resource.proofs.resource_words.buffer_filed.Tie as tie
+
+pub buffer-filed-spec : {M : Type 1} → statement M
+buffer-filed-spec =
+    tie.close
+    (tie.spec
+    (λ c. search tests)  -- returns
+    (λ c. search tests)  -- returns-2
+    (λ c. search tests)  -- returns-3
+    (λ c. search tests))  -- returns-4

@@ -1,0 +1,11 @@
+use Rattle.word.proofs.Tests.{tests}
+use borrow.Author.Needs.{needs}
+use Rattle.resource.proofs.resource_words.size_filed.Statement.{statement}
+use Rattle.resource.proofs.resource_words.size_filed.Tie as tie
+
+pub size-filed-spec : {M : Type 1} → statement M
+size-filed-spec =
+    tie.close
+    (tie.spec
+    (λ c. search tests)  -- returns
+    (λ c. search tests))  -- returns-2

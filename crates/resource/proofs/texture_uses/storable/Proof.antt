@@ -1,0 +1,12 @@
+use Rattle.word.proofs.Tests.{tests}
+use borrow.Author.Needs.{needs}
+use Rattle.resource.proofs.texture_uses.storable.Statement.{statement}
+use Rattle.resource.proofs.texture_uses.storable.Tie as tie
+
+pub storable-spec : {M : Type 1} → statement M
+storable-spec =
+    tie.close
+    (tie.spec
+    (λ c. search tests)  -- returns
+    (λ c. search tests)  -- returns-2
+    (λ c. search tests))  -- returns-3

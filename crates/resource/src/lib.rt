@@ -1,0 +1,9 @@
+// Shader resources and layout entries: what they are, when a layout entry serves a resource, and the entry a resource asks for.
+pub mod binding_codes;
+pub mod check_words;
+pub mod derives;
+pub mod entry_words;
+pub mod resource_words;
+pub mod texture_uses;
+pub mod types;
+pub mod uses;

@@ -1,0 +1,152 @@
+-- Demand 1: a stage check always answers with a number of document 01's table, and says what a refusal leaves in the lent lists.
+use Prim.Native.Nat.{ℕ}
+use mathlib.Core.Path.{_≡_, refl, sym, ap, _∙_}
+use mathlib.Core.Bool.{Bool, true, false, not}
+use mathlib.Core.List.{List, [], _∷_, _++_}
+use lib.Dec.{eqb, ltb}
+use lib.ListN.{length}
+use native.Mathlib.Omega.{arith}
+use borrow.Author.Tests.{eqb-true, eqb-false, ne-eqb, not-true}
+use Rattle.word.specs.Choice.{pick}
+use Rattle.word.specs.Answers.{refused}
+use Rattle.lists.specs.Meaning.{Layout, Sizes}
+use Rattle.lists.specs.Format.{decodeLayout, decodeSizes, decodeStage, encodeLayout, encodeSizes}
+use Rattle.interface.specs.Meaning.{EntryPoint, Interface}
+use Rattle.interface.specs.Format.{Decoded, Torn, Misfiled, Pack, decode, stageAt}
+use Rattle.interface.specs.Reads.{entryNth}
+use Rattle.interface.specs.Rules.{findEntryPoint}
+use Rattle.interface.specs.declared.types.Chosen.{Chosen}
+use Rattle.interface.specs.declared.types.Chosen.the-variants as Ch
+use Rattle.stage.specs.Meaning.{Call, Outcome, State}
+use Rattle.stage.specs.Resources.{resourceSteps}
+use Rattle.stage.specs.Stage.{requestOf, judgement, stageBody, finish, runBody, unchanged, callGood, outWords, onEntryPoint, onChosen, onDecoded, checkStage}
+use Rattle.stage.specs.Table.{among, early, stepNumbers}
+use Rattle.stage.proofs.Numbers.{body-known}
+
+-- ---- numbers of a list
+
+each : (ℕ → Bool) → List ℕ → Bool
+each f [] = true
+each f (m ∷ ms) = let rest = each f ms in pick (f m) rest false
+
+each-among : (f : ℕ → Bool) (ms : List ℕ) (n : ℕ) → each f ms ≡ true → among ms n ≡ true → f n ≡ true
+unfolding each among
+each-among f [] n e h = absurd (never h)
+  where
+    never : false ≡ true → ⊥
+    never p = let z : _≡_ {A = ℕ} 0 1 = cc in omega arith
+each-among f (m ∷ ms) n e h = go (each-among f ms n) (eqb n m) (f m) refl refl e h
+  where
+    go : (each f ms ≡ true → among ms n ≡ true → f n ≡ true) → (b t : Bool) → eqb n m ≡ b → f m ≡ t → pick t (each f ms) false ≡ true → pick b true (among ms n) ≡ true → f n ≡ true
+    go more true true eb et e h = rw (eqb-true n m eb) et
+    go more false true eb et e h = more e h
+    go more true false eb et e h = let z : _≡_ {A = ℕ} 0 1 = cc in absurd (omega arith)
+    go more false false eb et e h = let z : _≡_ {A = ℕ} 0 1 = cc in absurd (omega arith)
+
+steps-late : each (λ m. not (among early m)) stepNumbers ≡ true
+unfolding each among
+steps-late = refl
+
+-- no number of a step is one of the early refusals
+late : (n : ℕ) → among stepNumbers n ≡ true → not (among early n) ≡ true
+late n h = each-among (λ m. not (among early m)) stepNumbers n steps-late h
+
+-- ---- a stage check is an early refusal that changes nothing, or the run of its steps
+
+pub data Case (c : Call) : Outcome → Type 0 where
+  stopped : (n : ℕ) → among early n ≡ true → Case c (unchanged c n)
+  ran : (i : Interface) (e : EntryPoint) → Case c (runBody c i e)
+
+pub cases : (c : Call) → Case c (checkStage c)
+unfolding checkStage among
+cases c = on-decoded (decode (c .pack))
+  where
+    on-entry : (i : Interface) (e : EntryPoint) (b : Bool) → Case c (pick b (unchanged c 4) (runBody c i e))
+    on-entry i e true = stopped 4 refl
+    on-entry i e false = ran i e
+
+    on-chosen : (i : Interface) (f : Chosen) → Case c (onChosen c i f)
+    on-chosen i (Ch.At k) = on-entry i (entryNth (i .entries) k) (ltb (length (c .out)) (outWords (entryNth (i .entries) k)))
+    on-chosen i Ch.Absent = stopped 10 refl
+    on-chosen i Ch.Several = stopped 10 refl
+
+    on-good : (i : Interface) (b : Bool)
+        → Case c (pick b (onChosen c i (findEntryPoint (stageAt (c .stage)) (c .name) (i .entries))) (unchanged c 3))
+    on-good i true = on-chosen i (findEntryPoint (stageAt (c .stage)) (c .name) (i .entries))
+    on-good i false = stopped 3 refl
+
+    on-decoded : (d : Decoded) → Case c (onDecoded c d)
+    on-decoded Torn = stopped 1 refl
+    on-decoded Misfiled = stopped 2 refl
+    on-decoded (Pack i) = on-good i (callGood c)
+
+-- ---- the theorems
+
+body-number : (c : Call) (i : Interface) (e : EntryPoint) → among stepNumbers (runBody c i e .answer .number) ≡ true
+unfolding runBody finish
+body-number c i e = body-known (requestOf c) i e (decodeStage (c .inputs)) (decodeLayout (c .layout)) (decodeSizes (c .sizes)) .known
+
+in-table : (ms ns : List ℕ) (n : ℕ) → among ns n ≡ true → among (ms ++ ns) n ≡ true
+unfolding among
+in-table [] ns n h = h
+in-table (m ∷ ms) ns n h = go (eqb n m) (in-table ms ns n h)
+  where
+    go : (b : Bool) → among (ms ++ ns) n ≡ true → pick b true (among (ms ++ ns) n) ≡ true
+    go true k = refl
+    go false k = k
+
+early-each : each (among (early ++ stepNumbers)) early ≡ true
+unfolding each among
+early-each = refl
+
+early-in-table : (n : ℕ) → among early n ≡ true → among (early ++ stepNumbers) n ≡ true
+early-in-table n h = each-among (among (early ++ stepNumbers)) early n early-each h
+
+-- 'gets an acceptance or one of document 01's numbered refusals, always'
+pub demand1-answered : (c : Call) → among (early ++ stepNumbers) (checkStage c .answer .number) ≡ true
+demand1-answered c = go (checkStage c) (cases c)
+  where
+    go : (o : Outcome) → Case c o → among (early ++ stepNumbers) (o .answer .number) ≡ true
+    go o (stopped n h) = early-in-table n h
+    go o (ran i e) = in-table early stepNumbers (runBody c i e .answer .number) (body-number c i e)
+
+-- 'Refusals 1 to 4 and 10 to 12 change no lent buffer'
+pub demand1-unchanged : (c : Call) → among early (checkStage c .answer .number) ≡ true → checkStage c ≡ unchanged c (checkStage c .answer .number)
+demand1-unchanged c = go (checkStage c) (cases c)
+  where
+    go : (o : Outcome) → Case c o → among early (o .answer .number) ≡ true → o ≡ unchanged c (o .answer .number)
+    go o (stopped n h) a = refl
+    go o (ran i e) a = absurd (both-ways (late (runBody c i e .answer .number) (body-number c i e)) a)
+      where
+        both-ways : not (among early (runBody c i e .answer .number)) ≡ true → among early (runBody c i e .answer .number) ≡ true → ⊥
+        both-ways p q = let z : _≡_ {A = ℕ} 0 1 = cc (not-true (among early (runBody c i e .answer .number)) p) in omega arith
+
+-- 'and the list handed out is untouched', on every refusal
+pub demand1-out : (c : Call) → (checkStage c .answer .number ≡ 0 → ⊥) → checkStage c .out ≡ c .out
+unfolding runBody finish
+demand1-out c = go (checkStage c) (cases c)
+  where
+    go : (o : Outcome) → Case c o → (o .answer .number ≡ 0 → ⊥) → o .out ≡ c .out
+    go o (stopped n h) z = refl
+    go o (ran i e) z =
+        rw (ne-eqb (stageBody (requestOf c) i e (decodeStage (c .inputs)) (decodeLayout (c .layout)) (decodeSizes (c .sizes)) .answer .number) 0 z)
+
+-- what the resources of an entry point recorded
+abbrev pub recordedBy : Call → Interface → EntryPoint → State
+recordedBy c i e =
+    resourceSteps (requestOf c .stage) (requestOf c .derived) (i .resources) (e .pairs) (e .resources) (decodeLayout (c .layout)) (decodeSizes (c .sizes))
+
+-- 'Any other keeps exactly the layout and size records made by the steps before it': whichever step ends a run, the lists are those that the
+-- resources left, and a resource that is refused is the last that recorded anything
+pub demand1-kept : (c : Call) (i : Interface) (e : EntryPoint)
+    → (runBody c i e .layout ≡ encodeLayout (recordedBy c i e .layout)) × (runBody c i e .sizes ≡ encodeSizes (recordedBy c i e .sizes))
+unfolding runBody finish stageBody
+demand1-kept c i e = go (eqb (recordedBy c i e .answer .number) 0)
+  where
+    go : (b : Bool)
+        → (encodeLayout (pick b (record { answer = judgement (requestOf c) i e (decodeStage (c .inputs)) (recordedBy c i e .layout); layout = recordedBy c i e .layout; sizes = recordedBy c i e .sizes }) (recordedBy c i e) .layout)
+        ≡ encodeLayout (recordedBy c i e .layout))
+        × (encodeSizes (pick b (record { answer = judgement (requestOf c) i e (decodeStage (c .inputs)) (recordedBy c i e .layout); layout = recordedBy c i e .layout; sizes = recordedBy c i e .sizes }) (recordedBy c i e) .sizes)
+        ≡ encodeSizes (recordedBy c i e .sizes))
+    go true = (refl, refl)
+    go false = (refl, refl)

@@ -1,0 +1,15 @@
+pub mod Both
+pub mod VaryingLaws
+pub mod WorkgroupLaws
+pub mod InputLaws
+pub mod OutputLaws
+pub mod LastLaws
+pub mod StateLaws
+pub mod ResourceParts
+pub mod ResourceLaws
+pub mod ResourceWalk
+pub mod PairLaws
+pub mod JudgeLaws
+pub mod RunLaws
+pub mod Numbers
+pub mod Demand1

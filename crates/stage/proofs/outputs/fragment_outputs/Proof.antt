@@ -1,0 +1,20 @@
+use Rattle.stage.proofs.Both.{sequence}
+use Rattle.stage.proofs.OutputLaws.{inputs-stand, colours-stand, attachments-stand}
+use borrow.Author.Needs.{needs}
+use Rattle.stage.proofs.outputs.fragment_outputs.Statement.{statement}
+use Rattle.stage.proofs.outputs.fragment_outputs.Tie as tie
+
+pub fragment-outputs-spec : {M : Type 1} → statement M
+fragment-outputs-spec =
+    tie.close
+    (tie.spec
+    (λ c κs. search needs)  -- word-requires
+    (λ c κs. search needs)  -- inputs-counted-requires
+    (λ c κs. search needs)  -- fragment-places-requires
+    (λ c. search (sequence, inputs-stand))  -- returns
+    (λ c κs. search needs)  -- outputs-counted-requires
+    (λ c κs. search needs)  -- location-uses-requires
+    (λ c. search (sequence, inputs-stand, colours-stand))  -- returns-2
+    (λ c κs. search needs)  -- word-requires-2
+    (λ c κs. search needs)  -- attachment-use-requires
+    (λ c. search (sequence, inputs-stand, colours-stand, attachments-stand)))  -- returns-3

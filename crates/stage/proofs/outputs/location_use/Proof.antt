@@ -1,0 +1,17 @@
+use Rattle.stage.proofs.OutputLaws.{location-below, location-past, location-none}
+use borrow.Author.Needs.{needs}
+use Rattle.stage.proofs.outputs.location_use.Statement.{statement}
+use Rattle.stage.proofs.outputs.location_use.Tie as tie
+
+pub location-use-spec : {M : Type 1} → statement M
+location-use-spec =
+    tie.close
+    (tie.spec
+    (λ c. search needs)  -- enum-known-v
+    (λ c κs. search needs)  -- accepted-requires
+    (λ c. search location-below)  -- returns
+    (λ c κs. search needs)  -- new-requires
+    (λ c. search needs)  -- enum-told
+    (λ c κs. search needs)  -- accepted-requires-2
+    (λ c. search location-past)  -- returns-2
+    (λ c. search location-none))  -- returns-3

@@ -1,0 +1,28 @@
+use Rattle.stage.specs.Interfaces.{placesStep, fragmentOutputs}
+use Rattle.stage.proofs.OutputLaws.{places-at, vertex-stands}
+use borrow.Author.Needs.{needs}
+use Rattle.stage.proofs.outputs.places_step.Statement.{statement}
+use Rattle.stage.proofs.outputs.places_step.Tie as tie
+
+pub places-step-spec : {M : Type 1} → statement M
+unfolding placesStep fragmentOutputs
+places-step-spec =
+    tie.close
+    (tie.spec
+    (λ c. search needs)  -- enum-told
+    (λ c κs. search needs)  -- word-requires
+    (λ c κs. search needs)  -- outputs-counted-requires
+    (λ c κs. search needs)  -- vertex-outputs-requires
+    (λ c. search needs)  -- enum-told-2
+    (λ c κs. search needs)  -- fragment-outputs-requires
+    (λ c. search needs)  -- enum-told-3
+    (λ c κs. search needs)  -- accepted-requires
+    (λ c. search needs)  -- enum-told-4
+    (λ c κs. search needs)  -- accepted-requires-2
+    (λ c. search needs)  -- enum-told-5
+    (λ c κs. search needs)  -- accepted-requires-3
+    (λ c. search (places-at, vertex-stands))  -- returns
+    (λ c. search places-at)  -- returns-2
+    (λ c. search places-at)  -- returns-3
+    (λ c. search places-at)  -- returns-4
+    (λ c. search places-at))  -- returns-5

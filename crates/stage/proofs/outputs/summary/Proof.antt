@@ -1,0 +1,34 @@
+use Prim.Native.Nat.{_+_, _*_, _<_, _^_}
+use mathlib.Core.Path.{_≡_}
+use lib.ListN.{drop}
+use Rattle.interface.specs.Reads.{varyings}
+use Rattle.stage.specs.Interfaces.{summaryOf}
+use Rattle.stage.proofs.OutputLaws.{plus, Within, within-start, within-more, part-locals, part-clip, part-built-in, summary-start, summary-onward, summary-ended}
+use borrow.Author.Needs.{needs}
+use Rattle.stage.proofs.outputs.summary.Statement.{statement}
+use Rattle.stage.proofs.outputs.summary.Tie as tie
+
+abbrev Inv-loop : tie.InvT-loop
+Inv-loop pack from n s₀ at₀ left₀ s at left =
+    (at + 2 * left < 2 ^ 41) × Within s left × (summaryOf (varyings n (drop from pack)) ≡ plus s (summaryOf (varyings left (drop at pack))))
+
+abbrev μ-loop : tie.MeasureT-loop
+μ-loop pack from n s₀ at₀ left₀ s at left = left
+
+pub summary-spec : {M : Type 1} → statement M
+summary-spec =
+    tie.close
+    (tie.spec
+    Inv-loop
+    μ-loop
+    (λ c κs. search needs)  -- taking-requires
+    (λ c. (search needs, search within-start, search summary-start))  -- loop-holds
+    (λ c κs. search needs)  -- varying-at-requires
+    (λ c κs. search needs)  -- varying-summary-requires
+    (λ c κs. (search needs, (search part-locals, search part-clip, search part-built-in)))  -- joined-requires
+    (λ c κs. search needs)  -- varying-width-requires
+    (λ c. search needs)  -- add-at
+    (λ c. search needs)  -- sub-left
+    (λ c. search needs)  -- loop-less
+    (λ c. (search needs, search within-more, search summary-onward))  -- loop-again
+    (λ c. (search summary-ended, search needs)))  -- returns

@@ -1,0 +1,16 @@
+use Rattle.word.proofs.Tests.{tests}
+use Rattle.stage.proofs.PairLaws.{pair-refused}
+use borrow.Author.Needs.{needs}
+use Rattle.stage.proofs.pairs.pair_answer.Statement.{statement}
+use Rattle.stage.proofs.pairs.pair_answer.Tie as tie
+
+pub pair-answer-spec : {M : Type 1} → statement M
+pair-answer-spec =
+    tie.close
+    (tie.spec
+    (λ c κs. search needs)  -- accepted-requires
+    (λ c. search tests)  -- returns
+    (λ c κs. search needs)  -- place-word-requires
+    (λ c κs. search needs)  -- place-word-requires-2
+    (λ c κs. search needs)  -- new-requires
+    (λ c. search pair-refused))  -- returns-2

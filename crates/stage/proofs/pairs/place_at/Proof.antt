@@ -1,0 +1,12 @@
+use Rattle.stage.proofs.PairLaws.{place-listed}
+use borrow.Author.Needs.{needs}
+use Rattle.stage.proofs.pairs.place_at.Statement.{statement}
+use Rattle.stage.proofs.pairs.place_at.Tie as tie
+
+pub place-at-spec : {M : Type 1} → statement M
+place-at-spec =
+    tie.close
+    (tie.spec
+    (λ c κs. search needs)  -- index-requires
+    (λ c κs. search needs)  -- resource-at-requires
+    (λ c. (search place-listed, search needs)))  -- returns

@@ -1,0 +1,15 @@
+use Rattle.stage.proofs.ResourceLaws.{entry-unseen, entry-seen}
+use borrow.Author.Needs.{needs}
+use Rattle.stage.proofs.resources.entry_use.Statement.{statement}
+use Rattle.stage.proofs.resources.entry_use.Tie as tie
+
+pub entry-use-spec : {M : Type 1} → statement M
+entry-use-spec =
+    tie.close
+    (tie.spec
+    (λ c κs. search needs)  -- stage-code-requires
+    (λ c κs. search needs)  -- sees-requires
+    (λ c. search entry-unseen)  -- returns
+    (λ c κs. search needs)  -- check-binding-use-requires
+    (λ c κs. search needs)  -- use-number-requires
+    (λ c. search entry-seen))  -- returns-2

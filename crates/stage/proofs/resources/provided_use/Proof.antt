@@ -1,0 +1,18 @@
+use Rattle.stage.proofs.ResourceLaws.{provided-none, provided-at}
+use borrow.Author.Needs.{needs}
+use Rattle.stage.proofs.resources.provided_use.Statement.{statement}
+use Rattle.stage.proofs.resources.provided_use.Tie as tie
+
+pub provided-use-spec : {M : Type 1} → statement M
+provided-use-spec =
+    tie.close
+    (tie.spec
+    (λ c κs. search needs)  -- find-entry-requires
+    (λ c. search needs)  -- enum-told
+    (λ c κs. search needs)  -- binding-answer-requires
+    (λ c. search needs)  -- enum-known-found
+    (λ c κs. search needs)  -- entry-requires
+    (λ c κs. search needs)  -- entry-use-requires
+    (λ c κs. search needs)  -- binding-answer-requires-2
+    (λ c. search provided-none)  -- returns
+    (λ c. search provided-at))  -- returns-2

@@ -1,0 +1,17 @@
+use Rattle.stage.proofs.WorkgroupLaws.{use-large, use-zero, use-good}
+use borrow.Author.Needs.{needs}
+use Rattle.stage.proofs.workgroup.workgroup_use.Statement.{statement}
+use Rattle.stage.proofs.workgroup.workgroup_use.Tie as tie
+
+pub workgroup-use-spec : {M : Type 1} → statement M
+workgroup-use-spec =
+    tie.close
+    (tie.spec
+    (λ c κs. search needs)  -- too-large-requires
+    (λ c κs. search needs)  -- new-requires
+    (λ c. search use-large)  -- returns
+    (λ c κs. search needs)  -- product-zero-requires
+    (λ c κs. search needs)  -- new-requires-2
+    (λ c. search use-zero)  -- returns-2
+    (λ c κs. search needs)  -- accepted-requires
+    (λ c. search use-good))  -- returns-3

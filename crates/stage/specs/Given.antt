@@ -1,0 +1,31 @@
+-- What the steps behind the check of a pack are given: its resources by a table of their positions, and indexes that stand in it.
+use Prim.Native.Nat.{ℕ}
+use mathlib.Core.Bool.{Bool, _&&_}
+use mathlib.Core.List.{List}
+use lib.Dec.{ltb}
+use lib.ListN.{take}
+use Rattle.resource.specs.Format.{resourceHeld}
+use Rattle.resource.specs.declared.types.Resource.{Resource}
+use Rattle.lists.specs.Meaning.{every}
+use Rattle.interface.specs.Reads.{resourcesAt}
+use Rattle.interface.specs.Parts.{resourceCount}
+use Rattle.interface.specs.declared.types.SamplingPair.{SamplingPair}
+
+-- the resources of a pack, each at its position in a table of as many
+unfoldable pub resourceTable : List ℕ → List ℕ → List Resource
+resourceTable ws offsets = resourcesAt ws (take (resourceCount ws) offsets)
+
+-- each is one that a pack can hold
+abbrev pub eachHeld : List Resource → Bool
+eachHeld rs = every resourceHeld rs
+
+-- each index is below the number of resources
+abbrev pub eachBelow : ℕ → List ℕ → Bool
+eachBelow count is = every (λ i. ltb i count) is
+
+-- and so are both indexes of each pair
+abbrev pub pairBelow : ℕ → SamplingPair → Bool
+pairBelow count p = ltb (p .texture) count && ltb (p .sampler) count
+
+abbrev pub pairsBelow : ℕ → List SamplingPair → Bool
+pairsBelow count ps = every (pairBelow count) ps

@@ -1,0 +1,7 @@
+pub mod Meaning
+pub mod Resources
+pub mod Interfaces
+pub mod Stage
+pub mod Given
+pub mod Judging
+pub mod Table

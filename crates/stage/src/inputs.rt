@@ -1,0 +1,219 @@
+// The inputs of an entry point against what the stage before provides.
+ghost use mathlib.Core.Path.{_≡_};
+ghost use mathlib.Core.Bool.{Bool, _||_};
+ghost use Prim.Native.Nat.{_+_, _<_, _≤_, _^_};
+ghost use lib.ListN.{drop};
+ghost use Rattle.word.specs.Choice.{pick};
+ghost use Rattle.resource.specs.Rules.{sameBool};
+ghost use Rattle.lists.specs.Format.{decodeStage};
+ghost use Rattle.interface.specs.Reads.{varyings, standing};
+ghost use Rattle.stage.specs.Interfaces.{vertexInput, fragmentInput, inputNumber, metLocal, metBuiltIn, startWalk, inputStep, inputSteps};
+use crate::types::InputWalk;
+use crate::types::Walked;
+use interface::parts::inputs_counted;
+use interface::reads::varying_at;
+use interface::reads::varying_width;
+use interface::types::BuiltIn;
+use interface::types::EntryParts;
+use interface::types::ShaderStage;
+use interface::types::Varying;
+use lists::types::Provided;
+use numeric::types::kind_code;
+use varying::InterfaceVar;
+use word::answer::Answer;
+use word::word;
+
+// A vertex input: the scalar kinds agree, and the shader's own is not per primitive.
+fn vertex_input(iv: InterfaceVar, provided: InterfaceVar) -> u32
+    ensures { λ r. ⌜ r ≡ vertexInput iv provided ⌝ }
+    ensures { λ r. ⌜ r ≤ 54 ⌝ }
+{
+    let ty = iv.ty;
+    let scalar = ty.scalar;
+    let kind = scalar.kind;
+    let provided_ty = provided.ty;
+    let provided_scalar = provided_ty.scalar;
+    let provided_kind = provided_scalar.kind;
+    if kind_code(kind) != kind_code(provided_kind) {
+        return 51;
+    }
+    if iv.per_primitive {
+        return 54;
+    }
+    0
+}
+
+// Both per primitive, or neither.
+fn per_primitive_use(shader: bool, provided: bool) -> u32
+    ensures { λ r. ⌜ r ≡ pick (sameBool shader provided) 0 54 ⌝ }
+    ensures { λ r. ⌜ r ≤ 54 ⌝ }
+{
+    if shader {
+        if provided {
+            return 0;
+        }
+        return 54;
+    }
+    if provided {
+        return 54;
+    }
+    0
+}
+
+// A fragment input: interpolation, sampling, type and the per-primitive bit, in this order.
+fn fragment_input(iv: InterfaceVar, provided: InterfaceVar) -> u32
+    ensures { λ r. ⌜ r ≡ fragmentInput iv provided ⌝ }
+    ensures { λ r. ⌜ r ≤ 54 ⌝ }
+{
+    if iv.interpolation != provided.interpolation {
+        return 52;
+    }
+    if iv.sampling != provided.sampling {
+        return 53;
+    }
+    let ty = iv.ty;
+    let provided_ty = provided.ty;
+    if ty.fits(provided_ty) {
+        return per_primitive_use(iv.per_primitive, provided.per_primitive);
+    }
+    51
+}
+
+// The refusal of a local input, 0 for none. Compute, task and mesh stages have no local inputs.
+pub fn input_number(stage: ShaderStage, iv: InterfaceVar, provided: Provided) -> u32
+    ensures { λ r. ⌜ r ≡ inputNumber stage iv provided ⌝ }
+    ensures { λ r. ⌜ r ≤ 54 ⌝ }
+{
+    match provided {
+        Provided::Missing => 50,
+        Provided::Var { var } => match stage {
+            ShaderStage::Vertex => vertex_input(iv, var),
+            ShaderStage::Fragment => fragment_input(iv, var),
+            ShaderStage::Compute => 51,
+            ShaderStage::Task => 51,
+            ShaderStage::Mesh => 51,
+        },
+    }
+}
+
+pub fn either(a: bool, b: bool) -> bool
+    ensures { λ r. ⌜ r ≡ (a || b) ⌝ }
+{
+    if a {
+        return true;
+    }
+    b
+}
+
+// The walk past a local input; interpolation 4 is per vertex.
+fn met_local(iv: InterfaceVar, walk: InputWalk) -> InputWalk
+    requires { ⌜ walk .locals < 2 ^ 31 ⌝ }
+    ensures { λ r. ⌜ r ≡ metLocal iv walk ⌝ }
+    ensures { λ r. ⌜ r .locals ≡ walk .locals + 1 ⌝ }
+{
+    InputWalk {
+        primitive_index: walk.primitive_index,
+        draw_index: walk.draw_index,
+        per_vertex: either(walk.per_vertex, iv.interpolation == 4),
+        locals: walk.locals + 1,
+    }
+}
+
+// The walk past a built-in input.
+fn met_built_in(built_in: BuiltIn, walk: InputWalk) -> InputWalk
+    ensures { λ r. ⌜ r ≡ metBuiltIn «built_in» walk ⌝ }
+    ensures { λ r. ⌜ r .locals ≡ walk .locals ⌝ }
+{
+    match built_in {
+        BuiltIn::Other { places: _ } => walk,
+        BuiltIn::PrimitiveIndex { places: _ } => InputWalk {
+            primitive_index: true,
+            draw_index: walk.draw_index,
+            per_vertex: walk.per_vertex,
+            locals: walk.locals,
+        },
+        BuiltIn::DrawIndex { places: _ } => InputWalk {
+            primitive_index: walk.primitive_index,
+            draw_index: true,
+            per_vertex: walk.per_vertex,
+            locals: walk.locals,
+        },
+        BuiltIn::FragDepth { places: _ } => walk,
+        BuiltIn::ClipDistances { array_size: _ } => walk,
+    }
+}
+
+// One input: a local one is judged, a built-in one is noted.
+pub fn input_step(stage: ShaderStage, inputs: &[u32], v: Varying, walk: InputWalk) -> Walked
+    requires { ⌜ walk .locals < 2 ^ 31 ⌝ }
+    ensures { λ r. ⌜ r ≡ inputStep stage (decodeStage (now (inputs .entry)) .varyings) v walk ⌝ }
+    ensures { λ r. ⌜ r .walk .locals ≤ walk .locals + 1 ⌝ }
+{
+    match v {
+        Varying::Local { location, iv } => {
+            let provided = lists::stage_io::varying_at(inputs, location);
+            let number = input_number(stage, iv, provided);
+            if number != 0 {
+                return Walked {
+                    walk,
+                    answer: Answer::new(number, location, 0, 0),
+                };
+            }
+            Walked {
+                walk: met_local(iv, walk),
+                answer: Answer::accepted(),
+            }
+        }
+        Varying::BuiltIn { built_in } => Walked {
+            walk: met_built_in(built_in, walk),
+            answer: Answer::accepted(),
+        },
+    }
+}
+
+// Each input in order, until one is refused.
+pub fn input_steps(
+    pack: &[u32],
+    from: usize,
+    n: usize,
+    inputs: &[u32],
+    stage: ShaderStage,
+) -> Walked
+    requires { ⌜ (from < 2 ^ 40) × (n ≤ 63) ⌝ }
+    ensures { λ r. ⌜ r ≡ inputSteps stage (decodeStage (now (inputs .entry)) .varyings)
+        (varyings n (drop from (now (pack .entry)))) startWalk ⌝ }
+{
+    let mut walk = InputWalk {
+        primitive_index: false,
+        draw_index: false,
+        per_vertex: false,
+        locals: 0,
+    };
+    let mut at = from;
+    let mut left = n;
+    while left != 0 {
+        let v = varying_at(pack, at);
+        let step = input_step(stage, inputs, v, walk);
+        let answer = step.answer;
+        if answer.number != 0 {
+            return step;
+        }
+        walk = step.walk;
+        at += varying_width(pack, at);
+        left -= 1;
+    }
+    Walked {
+        walk,
+        answer: Answer::accepted(),
+    }
+}
+
+// The inputs of the entry point whose parts stand at these positions.
+pub fn input_walk(pack: &[u32], parts: EntryParts, inputs: &[u32], stage: ShaderStage) -> Walked
+    requires { ⌜ parts .inputs < 2 ^ 40 ⌝ }
+    ensures { λ r. ⌜ r ≡ inputSteps stage (decodeStage (now (inputs .entry)) .varyings)
+        (standing (now (pack .entry)) parts .inputs) startWalk ⌝ }
+{
+    let n = inputs_counted(word(pack, parts.counts));
+    input_steps(pack, parts.inputs, n, inputs, stage)
+}

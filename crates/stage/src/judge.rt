@@ -1,0 +1,136 @@
+// The steps behind the resources: they alter no list.
+ghost use mathlib.Core.Path.{_≡_};
+ghost use mathlib.Core.Bool.{Bool, true, false};
+ghost use Prim.Native.Nat.{ℕ, _+_, _<_, _≤_, _^_};
+ghost use lib.ListN.{length, take, drop};
+ghost use Rattle.lists.specs.Format.{decodeLayout, decodeStage};
+ghost use Rattle.interface.specs.Reads.{resourcesAt, standing};
+ghost use Rattle.interface.specs.Parts.{Placed};
+ghost use Rattle.stage.specs.Judging.{request, behindInputs, judgedInputs};
+use crate::inputs::input_steps;
+use crate::last::last_step;
+use crate::outputs::places_step;
+use crate::types::InputWalk;
+use crate::types::Walked;
+use interface::parts::inputs_counted;
+use interface::reads::topology_at;
+use interface::types::EntryParts;
+use interface::types::EntryPointMeshInfo;
+use interface::types::Limits;
+use interface::types::MeshRecord;
+use interface::types::ShaderStage;
+use interface::types::WorkgroupSize;
+use varying::Payload;
+use word::answer::Answer;
+use word::content;
+use word::word;
+
+// The mesh record of an entry point.
+fn mesh_of(pack: &[u32], parts: EntryParts) -> MeshRecord
+    requires { ⌜ Placed (now pack) parts ⌝ }
+    ensures { λ r. ⌜ r ≡ standing (now (pack .entry)) parts .mesh ⌝ }
+{
+    if word(pack, parts.head) / 2 % 2 != 1 {
+        return MeshRecord::Absent;
+    }
+    let at = parts.workgroup + 4;
+    let info = EntryPointMeshInfo {
+        max_vertices: content(word(pack, at)),
+        max_primitives: content(word(pack, at + 1)),
+        primitive_topology: topology_at(content(word(pack, at + 2))),
+    };
+    MeshRecord::Info { info }
+}
+
+// The workgroup size of an entry point.
+fn workgroup_of(pack: &[u32], parts: EntryParts) -> WorkgroupSize
+    requires { ⌜ Placed (now pack) parts ⌝ }
+    ensures { λ r. ⌜ r ≡ standing (now (pack .entry)) parts .workgroup ⌝ }
+{
+    let at = parts.workgroup;
+    WorkgroupSize {
+        x: content(word(pack, at)),
+        y: content(word(pack, at + 1)),
+        z: content(word(pack, at + 2)),
+    }
+}
+
+// The task payload of an entry point.
+fn payload_of(pack: &[u32], parts: EntryParts) -> Payload
+    requires { ⌜ Placed (now pack) parts ⌝ }
+    ensures { λ r. ⌜ r ≡ standing (now (pack .entry)) parts .payload ⌝ }
+{
+    varying::payload_of(word(pack, parts.workgroup + 3))
+}
+
+// Places, outputs and what is judged last, once the inputs passed.
+fn after_inputs(
+    pack: &[u32],
+    parts: EntryParts,
+    limits: Limits,
+    inputs: &[u32],
+    stage: ShaderStage,
+    topology: u32,
+    dual: bool,
+    depth: bool,
+    walk: InputWalk,
+) -> Answer
+    requires { ⌜ Placed (now pack) parts ⌝ }
+    ensures { λ r. ⌜ r ≡ behindInputs (request stage topology dual depth) limits (standing (now (pack .entry)) parts)
+        (decodeStage (now (inputs .entry))) walk ⌝ }
+{
+    let places = places_step(
+        pack,
+        parts,
+        limits,
+        stage,
+        topology,
+        dual,
+        depth,
+        walk.locals,
+    );
+    if places.number != 0 {
+        return places;
+    }
+    let mesh = mesh_of(pack, parts);
+    let payload = payload_of(pack, parts);
+    let input = lists::stage_io::payload(inputs);
+    let written = lists::stage_io::primitive_index(inputs);
+    last_step(topology, limits, stage, mesh, payload, input, written, walk)
+}
+
+// The inputs, and what follows them.
+fn judge_inputs(
+    pack: &[u32],
+    parts: EntryParts,
+    limits: Limits,
+    inputs: &[u32],
+    stage: ShaderStage,
+    topology: u32,
+    dual: bool,
+    depth: bool,
+) -> Walked
+    requires { ⌜ Placed (now pack) parts ⌝ }
+    ensures { λ r. ⌜ r ≡ judgedInputs (request stage topology dual depth) limits (standing (now (pack .entry)) parts)
+        (decodeStage (now (inputs .entry))) ⌝ }
+{
+    let n = inputs_counted(word(pack, parts.counts));
+    let w = input_steps(pack, parts.inputs, n, inputs, stage);
+    let answer = w.answer;
+    if answer.number != 0 {
+        return w;
+    }
+    let walk = w.walk;
+    let answer = after_inputs(
+        pack,
+        parts,
+        limits,
+        inputs,
+        stage,
+        topology,
+        dual,
+        depth,
+        walk,
+    );
+    Walked { walk, answer }
+}

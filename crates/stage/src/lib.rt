@@ -1,0 +1,9 @@
+// One stage of a pipeline against its layout, its forerunner and the limits.
+pub mod inputs;
+pub mod judge;
+pub mod last;
+pub mod outputs;
+pub mod pairs;
+pub mod resources;
+pub mod types;
+pub mod workgroup;

@@ -1,0 +1,309 @@
+// Outputs of vertex and fragment stages, and the inter-stage places that both take.
+ghost use mathlib.Core.Path.{_≡_};
+ghost use mathlib.Core.Bool.{Bool, false, not, _&&_, _||_};
+ghost use mathlib.Core.List.{List, [], _∷_};
+ghost use Prim.Native.Nat.{_+_, _*_, _/_, _<_, _≤_, _^_};
+ghost use lib.ListN.{drop};
+ghost use Rattle.interface.specs.Reads.{varyings, standing};
+ghost use Rattle.stage.specs.Meaning.{both};
+ghost use Rattle.stage.specs.Interfaces.{summaryOf, locationUse, locationUses, countUse, pointPart, vertexOutputs, fragmentPlaces, attachmentUse, placesStep};
+use crate::inputs::either;
+use crate::types::Summary;
+use interface::parts::inputs_counted;
+use interface::parts::outputs_counted;
+use interface::reads::varying_at;
+use interface::reads::varying_width;
+use interface::types::BuiltIn;
+use interface::types::EntryParts;
+use interface::types::Limits;
+use interface::types::ShaderStage;
+use interface::types::Varying;
+use word::answer::Answer;
+use word::word;
+
+// A size over four, rounded up.
+fn quarters(size: u32) -> u32
+    ensures { λ r. ⌜ r ≡ (size + 3) / 4 ⌝ }
+{
+    if size % 4 == 0 {
+        return size / 4;
+    }
+    size / 4 + 1
+}
+
+// The summary of a built-in that takes inter-stage places.
+fn taking(places: u32, depth: bool, primitive: bool) -> Summary
+    ensures { λ r. ⌜ r ≡ record { locals = 0; «clip_places» = 0; «built_in_places» = places; depth = depth; primitive = primitive } ⌝ }
+{
+    Summary {
+        locals: 0,
+        clip_places: 0,
+        built_in_places: places,
+        depth,
+        primitive,
+    }
+}
+
+fn built_in_summary(built_in: BuiltIn) -> Summary
+    ensures { λ r. ⌜ r ≡ summaryOf (Varying.BuiltIn «built_in» ∷ []) ⌝ }
+{
+    match built_in {
+        BuiltIn::Other { places } => taking(places, false, false),
+        BuiltIn::PrimitiveIndex { places } => taking(places, false, true),
+        BuiltIn::DrawIndex { places } => taking(places, false, false),
+        BuiltIn::FragDepth { places } => taking(places, true, false),
+        BuiltIn::ClipDistances { array_size } => Summary {
+            locals: 0,
+            clip_places: quarters(array_size),
+            built_in_places: 0,
+            depth: false,
+            primitive: false,
+        },
+    }
+}
+
+fn varying_summary(v: Varying) -> Summary
+    ensures { λ r. ⌜ r ≡ summaryOf (v ∷ []) ⌝ }
+{
+    match v {
+        Varying::Local { location: _, iv: _ } => Summary {
+            locals: 1,
+            clip_places: 0,
+            built_in_places: 0,
+            depth: false,
+            primitive: false,
+        },
+        Varying::BuiltIn { built_in } => built_in_summary(built_in),
+    }
+}
+
+// Two summaries as one.
+fn joined(a: Summary, b: Summary) -> Summary
+    requires { ⌜ (a .locals < 2 ^ 31) × (a .«clip_places» < 2 ^ 31) × (a .«built_in_places» < 2 ^ 31) ⌝ }
+    requires { ⌜ (b .locals < 2 ^ 31) × (b .«clip_places» < 2 ^ 31) × (b .«built_in_places» < 2 ^ 31) ⌝ }
+    ensures { λ r. ⌜ r ≡ record {
+      locals = a .locals + b .locals;
+      «clip_places» = a .«clip_places» + b .«clip_places»;
+      «built_in_places» = a .«built_in_places» + b .«built_in_places»;
+      depth = a .depth || b .depth;
+      primitive = a .primitive || b .primitive;
+    } ⌝ }
+{
+    Summary {
+        locals: a.locals + b.locals,
+        clip_places: a.clip_places + b.clip_places,
+        built_in_places: a.built_in_places + b.built_in_places,
+        depth: either(a.depth, b.depth),
+        primitive: either(a.primitive, b.primitive),
+    }
+}
+
+// What stands among the varyings from a position on, in one pass.
+pub fn summary(pack: &[u32], from: usize, n: usize) -> Summary
+    requires { ⌜ (from < 2 ^ 40) × (n ≤ 63) ⌝ }
+    ensures { λ r. ⌜ r ≡ summaryOf (varyings n (drop from (now (pack .entry)))) ⌝ }
+    ensures { λ r. ⌜ (r .locals ≤ 63) × (r .«clip_places» ≤ 63 * 64) × (r .«built_in_places» ≤ 63 * 255) ⌝ }
+{
+    let mut s = taking(0, false, false);
+    let mut at = from;
+    let mut left = n;
+    while left != 0 {
+        let v = varying_at(pack, at);
+        let part = varying_summary(v);
+        s = joined(s, part);
+        at += varying_width(pack, at);
+        left -= 1;
+    }
+    s
+}
+
+// A local variable at or past a location is refused.
+fn location_use(v: Varying, number: u32, past: u32, limit: u32) -> Answer
+    ensures { λ r. ⌜ r ≡ locationUse number past limit v ⌝ }
+{
+    match v {
+        Varying::Local { location, iv: _ } => {
+            if location < past {
+                return Answer::accepted();
+            }
+            Answer::new(number, location, limit, 0)
+        }
+        Varying::BuiltIn { built_in: _ } => Answer::accepted(),
+    }
+}
+
+// The first local variable at or past a location.
+pub fn location_uses(
+    pack: &[u32],
+    from: usize,
+    n: usize,
+    number: u32,
+    past: u32,
+    limit: u32,
+) -> Answer
+    requires { ⌜ (from < 2 ^ 40) × (n ≤ 63) ⌝ }
+    ensures { λ r. ⌜ r ≡ locationUses number past limit (varyings n (drop from (now (pack .entry)))) ⌝ }
+{
+    let mut at = from;
+    let mut left = n;
+    while left != 0 {
+        let v = varying_at(pack, at);
+        let a = location_use(v, number, past, limit);
+        if a.number != 0 {
+            return a;
+        }
+        at += varying_width(pack, at);
+        left -= 1;
+    }
+    Answer::accepted()
+}
+
+fn count_use(number: u32, count: u32, places: u32, limit: u32) -> Answer
+    ensures { λ r. ⌜ r ≡ countUse number count places limit ⌝ }
+{
+    if places < count {
+        return Answer::new(number, count, limit, 0);
+    }
+    Answer::accepted()
+}
+
+// A point list takes one place.
+fn point_part(topology: u32) -> u32
+    ensures { λ r. ⌜ r ≡ pointPart topology ⌝ }
+    ensures { λ r. ⌜ r ≤ 1 ⌝ }
+{
+    if topology == 0 {
+        return 1;
+    }
+    0
+}
+
+// The outputs of a vertex stage against the places that a point list and clip distances leave.
+pub fn vertex_outputs(pack: &[u32], from: usize, n: usize, topology: u32, limit: u32) -> Answer
+    requires { ⌜ (from < 2 ^ 40) × (n ≤ 63) ⌝ }
+    ensures { λ r. ⌜ r ≡ vertexOutputs topology limit (varyings n (drop from (now (pack .entry)))) ⌝ }
+{
+    let s = summary(pack, from, n);
+    let clip = s.clip_places;
+    let taken = point_part(topology) + clip;
+    if limit < taken {
+        return Answer::refused(65);
+    }
+    if limit < 1 + clip {
+        return Answer::refused(65);
+    }
+    let locations = location_uses(pack, from, n, 60, limit - clip, limit);
+    if locations.number != 0 {
+        return locations;
+    }
+    count_use(61, s.locals, limit - taken, limit)
+}
+
+// The inputs of a fragment stage against the places that its built-in inputs leave.
+pub fn fragment_places(pack: &[u32], from: usize, n: usize, limit: u32, locals: u32) -> Answer
+    requires { ⌜ (from < 2 ^ 40) × (n ≤ 63) ⌝ }
+    ensures { λ r. ⌜ r ≡ fragmentPlaces limit locals (varyings n (drop from (now (pack .entry)))) ⌝ }
+{
+    let s = summary(pack, from, n);
+    let taken = s.built_in_places;
+    if limit < taken {
+        return Answer::refused(65);
+    }
+    let locations = location_uses(pack, from, n, 62, limit, limit);
+    if locations.number != 0 {
+        return locations;
+    }
+    count_use(63, locals, limit - taken, limit)
+}
+
+// What is wanted is not given.
+fn lacks(wanted: bool, given: bool) -> bool
+    ensures { λ r. ⌜ r ≡ (wanted && not given) ⌝ }
+{
+    if wanted {
+        return !given;
+    }
+    false
+}
+
+// Dual source blending asks for a shader that has it, and fragment depth for a depth attachment.
+pub fn attachment_use(
+    pack: &[u32],
+    from: usize,
+    n: usize,
+    dual: bool,
+    depth: bool,
+    shader: bool,
+) -> Answer
+    requires { ⌜ (from < 2 ^ 40) × (n ≤ 63) ⌝ }
+    ensures { λ r. ⌜ r ≡ attachmentUse dual depth shader (varyings n (drop from (now (pack .entry)))) ⌝ }
+{
+    if lacks(dual, shader) {
+        return Answer::refused(66);
+    }
+    let s = summary(pack, from, n);
+    if lacks(s.depth, depth) {
+        return Answer::refused(67);
+    }
+    Answer::accepted()
+}
+
+// The inputs and outputs of a fragment stage.
+pub fn fragment_outputs(
+    pack: &[u32],
+    parts: EntryParts,
+    limits: Limits,
+    dual: bool,
+    depth: bool,
+    locals: u32,
+) -> Answer
+    requires { ⌜ (parts .inputs < 2 ^ 40) × (parts .outputs < 2 ^ 40) ⌝ }
+    ensures { λ r. ⌜ r ≡ both (fragmentPlaces (limits .«max_inter_stage_shader_variables») locals (standing (now (pack .entry)) parts .inputs))
+        (both (locationUses 64 (limits .«max_color_attachments») (limits .«max_color_attachments») (standing (now (pack .entry)) parts .outputs))
+        (attachmentUse dual depth (standing (now (pack .entry)) parts .dual) (standing (now (pack .entry)) parts .outputs))) ⌝ }
+{
+    let counts = word(pack, parts.counts);
+    let inputs = inputs_counted(counts);
+    let limit = limits.max_inter_stage_shader_variables;
+    let places = fragment_places(pack, parts.inputs, inputs, limit, locals);
+    if places.number != 0 {
+        return places;
+    }
+    let most = limits.max_color_attachments;
+    let outputs = outputs_counted(counts);
+    let colours = location_uses(pack, parts.outputs, outputs, 64, most, most);
+    if colours.number != 0 {
+        return colours;
+    }
+    let shader = word(pack, parts.head) % 2 == 1;
+    attachment_use(pack, parts.outputs, outputs, dual, depth, shader)
+}
+
+// What a stage puts out, or a fragment stage takes in, against the places that there are.
+pub fn places_step(
+    pack: &[u32],
+    parts: EntryParts,
+    limits: Limits,
+    stage: ShaderStage,
+    topology: u32,
+    dual: bool,
+    depth: bool,
+    locals: u32,
+) -> Answer
+    requires { ⌜ (parts .inputs < 2 ^ 40) × (parts .outputs < 2 ^ 40) ⌝ }
+    ensures { λ r. ⌜ r ≡ placesStep stage
+        (record { stage = stage; topology = topology; derived = false; dual = dual; depth = depth })
+        limits (standing (now (pack .entry)) parts) locals ⌝ }
+{
+    match stage {
+        ShaderStage::Vertex => {
+            let n = outputs_counted(word(pack, parts.counts));
+            let limit = limits.max_inter_stage_shader_variables;
+            vertex_outputs(pack, parts.outputs, n, topology, limit)
+        }
+        ShaderStage::Fragment => fragment_outputs(pack, parts, limits, dual, depth, locals),
+        ShaderStage::Compute => Answer::accepted(),
+        ShaderStage::Task => Answer::accepted(),
+        ShaderStage::Mesh => Answer::accepted(),
+    }
+}

@@ -1,0 +1,24 @@
+// What the walk over an entry point's inputs has met.
+use word::answer::Answer;
+
+pub struct InputWalk {
+    pub primitive_index: bool,
+    pub draw_index: bool,
+    pub per_vertex: bool,
+    pub locals: u32,
+}
+
+// A walk as far as it went, and its answer.
+pub struct Walked {
+    pub walk: InputWalk,
+    pub answer: Answer,
+}
+
+// What stands among varyings: local ones, the places of clip distances and of other built-ins, fragment depth, a primitive index.
+pub struct Summary {
+    pub locals: u32,
+    pub clip_places: u32,
+    pub built_in_places: u32,
+    pub depth: bool,
+    pub primitive: bool,
+}

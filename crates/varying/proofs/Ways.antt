@@ -1,0 +1,34 @@
+-- The code's ways through the readers: a word's kind is asked for by a call.
+use Prim.Native.Nat.{ℕ}
+use mathlib.Core.Path.{_≡_, refl}
+use mathlib.Core.Bool.{Bool, true, false, _&&_, _||_}
+use lib.Dec.{eqb, ltb}
+use Rattle.word.specs.Words.{kindOf, bits, bit}
+use Rattle.numeric.specs.Format.{typeFiled, typeOf}
+use Rattle.numeric.specs.declared.types.NumericType.{NumericType}
+use Rattle.varying.specs.Format.{locationFiled, varFiled, varOf, payloadFiled}
+use Rattle.varying.specs.Rules.{samePayload}
+use Rattle.varying.specs.declared.InterfaceVar.{InterfaceVar}
+use Rattle.varying.specs.declared.Payload.{Payload}
+use Rattle.varying.specs.declared.Payload.the-variants as Pay
+
+module _ (w x : ℕ) (r : Bool) (e : x ≡ kindOf w) where
+  pub location-kind : r ≡ eqb x 12 → r ≡ locationFiled w
+  location-kind h = rw (← e) h
+
+  pub var-kind : r ≡ (eqb x 13 && (eqb (bits 11 10 w) 0 && (eqb (bits 26 19 w) 0 && (ltb (bits 14 12 w) 5 && (ltb (bits 17 15 w) 6 && typeFiled w))))) → r ≡ varFiled w
+  unfolding varFiled
+  var-kind h = rw (← e) h
+
+  pub payload-kind : r ≡ (eqb x 9 && (eqb (bit 26 w) 1 || eqb (bits 25 0 w) 0)) → r ≡ payloadFiled w
+  unfolding payloadFiled
+  payload-kind h = rw (← e) h
+
+pub var-parts : (w : ℕ) (t : NumericType) → t ≡ typeOf w
+    → _≡_ {A = InterfaceVar} (record { ty = t; interpolation = bits 14 12 w; sampling = bits 17 15 w; «per_primitive» = eqb (bit 18 w) 1 }) (varOf w)
+unfolding varOf
+var-parts w t e = rw e
+
+pub both-sized : (a b : Payload) (m n : ℕ) → a ≡ Pay.Size m → b ≡ Pay.Size n → eqb m n ≡ samePayload a b
+unfolding samePayload
+both-sized a b m n p q = rw (p, q)
