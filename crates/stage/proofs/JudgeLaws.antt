@@ -5,8 +5,9 @@ use mathlib.Core.Bool.{Bool, true, false}
 use mathlib.Core.List.{List}
 use lib.Dec.{eqb}
 use borrow.Author.Tests.{eq-eqb, ne-eqb, eqb-false}
-use lib.ListN.{drop}
+use lib.ListN.{drop, take, length}
 use Rattle.word.specs.Choice.{pick, yes}
+use Rattle.word.proofs.Tests.{yes-true, yes-false}
 use Rattle.word.specs.Words.{wordAt, contentOf, bits}
 use Rattle.word.specs.Answers.{accepted}
 use Rattle.word.specs.declared.answer.Answer.{Answer}
@@ -16,7 +17,8 @@ use Rattle.varying.specs.declared.Payload.{Payload}
 use Rattle.lists.specs.Meaning.{Layout, StageIo}
 use Rattle.lists.specs.declared.types.PrimitiveIndex.{PrimitiveIndex}
 use Rattle.interface.specs.Meaning.{EntryPoint, Interface}
-use Rattle.interface.specs.Format.{topologyAt}
+use Rattle.interface.specs.Format.{topologyAt, pairsOf}
+use Rattle.interface.specs.declared.types.SamplingPair.{SamplingPair}
 use Rattle.interface.specs.Reads.{standing, varyings}
 use Rattle.interface.specs.declared.types.ShaderStage.{ShaderStage}
 use Rattle.interface.specs.declared.types.ShaderStage.the-variants as Stage
@@ -29,6 +31,7 @@ use Rattle.interface.specs.declared.types.Limits.{Limits}
 use Rattle.stage.specs.Meaning.{Request, both}
 use Rattle.stage.specs.Resources.{pairUses}
 use Rattle.stage.specs.Interfaces.{workgroupStep, placesStep, lastStep, meshUse, payloadUse, payloadMatch, primitiveUse, drawUse, perVertexUse, inputSteps, startWalk, walked, fragmentOutputs}
+use Rattle.stage.specs.Given.{pairsBelow}
 use Rattle.stage.specs.Judging.{request, behindInputs, judgedInputs, stopAt, judged}
 use Rattle.stage.specs.Stage.{inputWalk, pairStep, afterInputs, judgement}
 use Rattle.stage.specs.declared.types.InputWalk.{InputWalk}
@@ -75,20 +78,20 @@ module _ (q : Request) (l : Limits) (ws : List ℕ) (p : EntryParts) (k n : ℕ)
   inputs-went a z ea = rw (← walk-is, eq-eqb (w .answer .number) 0 z, ← ea)
 
 -- the whole judgement: pairs, workgroup size, the rest
-module _ (derived : Bool) (q : Request) (rs : List Resource) (l : Limits) (e : EntryPoint) (inputs : StageIo) (L : Layout) (a : Answer)
+module _ (derived : Bool) (q : Request) (rs : List Resource) (l : Limits) (e : EntryPoint) (inputs : StageIo) (L : Layout) (a : Answer) (s : Walked)
     (ea : a ≡ pick (yes derived) accepted (pairUses L rs (e .pairs))) where
-  pub judged-pair : (a .number ≡ 0 → ⊥) → walked startWalk a ≡ judged derived q rs l e inputs L
+  pub judged-pair : s ≡ walked startWalk a → (a .number ≡ 0 → ⊥) → s ≡ judged derived q rs l e inputs L
   unfolding judged
-  judged-pair n = rw (← ea, ne-eqb (a .number) 0 n)
+  judged-pair es n = es ∙ rw (← ea, ne-eqb (a .number) 0 n)
 
-  module _ (b : Answer) (eb : b ≡ workgroupStep (q .stage) (e .workgroup) l) where
-    pub judged-size : a .number ≡ 0 → (b .number ≡ 0 → ⊥) → walked startWalk b ≡ judged derived q rs l e inputs L
+  module _ (b : Answer) (g : WorkgroupSize) (eg : g ≡ e .workgroup) (eb : b ≡ workgroupStep (q .stage) g l) where
+    pub judged-size : s ≡ walked startWalk b → a .number ≡ 0 → (b .number ≡ 0 → ⊥) → s ≡ judged derived q rs l e inputs L
     unfolding judged
-    judged-size z n = rw (← ea, eq-eqb (a .number) 0 z, ← eb, ne-eqb (b .number) 0 n)
+    judged-size es z n = es ∙ rw (← ea, eq-eqb (a .number) 0 z, ← eg, ← eb, ne-eqb (b .number) 0 n)
 
-    pub judged-rest : (w : Walked) → a .number ≡ 0 → b .number ≡ 0 → w ≡ judgedInputs q l e inputs → w ≡ judged derived q rs l e inputs L
+    pub judged-rest : a .number ≡ 0 → b .number ≡ 0 → s ≡ judgedInputs q l e inputs → s ≡ judged derived q rs l e inputs L
     unfolding judged
-    judged-rest w z y ew = rw (← ea, eq-eqb (a .number) 0 z, ← eb, eq-eqb (b .number) 0 y) ew
+    judged-rest z y es = es ∙ rw (← ea, eq-eqb (a .number) 0 z, ← eg, ← eb, eq-eqb (b .number) 0 y)
 
 -- ---- the judgement of the definition
 
@@ -188,3 +191,22 @@ module _ (ws : List ℕ) (p : EntryParts) where
       → c ≡ wordAt ws (p .workgroup + 2) → z ≡ contentOf c → _≡_ {A = WorkgroupSize} (record { x = x; y = y; z = z }) (standing ws p .workgroup)
   unfolding standing
   workgroup-there a b c x y z ea ex eb ey ec ez = rw (← ea, ← eb, ← ec, ← ex, ← ey, ← ez)
+
+-- the pairs of an entry point that stands at positions
+pub pairs-standing : (ws : List ℕ) (p : EntryParts) (k n : ℕ) → k ≡ wordAt ws (p .counts) → n ≡ bits 17 12 k
+    → pairsOf (take n (drop (p .pairs) ws)) ≡ standing ws p .pairs
+unfolding standing
+pairs-standing ws p k n ek en = rw (en, ek)
+
+pub pairs-given : (rs : List Resource) (ws : List ℕ) (p : EntryParts) (k n : ℕ) → k ≡ wordAt ws (p .counts) → n ≡ bits 17 12 k
+    → pairsBelow (length rs) (standing ws p .pairs) ≡ true → pairsBelow (length rs) (pairsOf (take n (drop (p .pairs) ws))) ≡ true
+pairs-given rs ws p k n ek en h = rw (pairs-standing ws p k n ek en) h
+
+pub pairs-provided : (L : Layout) (rs : List Resource) (ws : List ℕ) (p : EntryParts) (k n : ℕ) (derived : Bool) (r : Answer)
+    → k ≡ wordAt ws (p .counts) → n ≡ bits 17 12 k → derived ≡ false → r ≡ pairUses L rs (pairsOf (take n (drop (p .pairs) ws)))
+    → r ≡ pick (yes derived) accepted (pairUses L rs (standing ws p .pairs))
+pairs-provided L rs ws p k n derived r ek en d h = rw (yes-false derived d) (h ∙ rw (pairs-standing ws p k n ek en))
+
+pub pairs-derived : (L : Layout) (rs : List Resource) (ps : List SamplingPair) (derived : Bool) (r : Answer) → r ≡ accepted → derived ≡ true
+    → r ≡ pick (yes derived) accepted (pairUses L rs ps)
+pairs-derived L rs ps derived r e d = rw (yes-true derived d) e

@@ -4,15 +4,23 @@ ghost use mathlib.Core.Bool.{Bool, true, false};
 ghost use Prim.Native.Nat.{ℕ, _+_, _<_, _≤_, _^_};
 ghost use lib.ListN.{length, take, drop};
 ghost use Rattle.lists.specs.Format.{decodeLayout, decodeStage};
-ghost use Rattle.interface.specs.Reads.{resourcesAt, standing};
+ghost use Rattle.interface.specs.Reads.{standing};
 ghost use Rattle.interface.specs.Parts.{Placed};
-ghost use Rattle.stage.specs.Judging.{request, behindInputs, judgedInputs};
+ghost use Rattle.word.specs.Choice.{pick, yes};
+ghost use Rattle.word.specs.Answers.{accepted};
+ghost use Rattle.stage.specs.Given.{resourceTable, pairsBelow};
+ghost use Rattle.stage.specs.Interfaces.{walked, startWalk};
+ghost use Rattle.stage.specs.Resources.{pairUses};
+ghost use Rattle.stage.specs.Judging.{request, behindInputs, judgedInputs, judged};
 use crate::inputs::input_steps;
 use crate::last::last_step;
 use crate::outputs::places_step;
+use crate::pairs::pair_uses;
 use crate::types::InputWalk;
 use crate::types::Walked;
+use crate::workgroup::workgroup_step;
 use interface::parts::inputs_counted;
+use interface::parts::pairs_counted;
 use interface::reads::topology_at;
 use interface::types::EntryParts;
 use interface::types::EntryPointMeshInfo;
@@ -132,5 +140,63 @@ fn judge_inputs(
         depth,
         walk,
     );
+    Walked { walk, answer }
+}
+
+// Pairs, where the layout is provided.
+fn pair_step(pack: &[u32], parts: EntryParts, offsets: &[u32], layout: &[u32], derived: bool) -> Answer
+    requires { ⌜ Placed (now pack) parts ⌝ }
+    requires { ⌜ pairsBelow (length (resourceTable (now pack) (now offsets))) (standing (now pack) parts .pairs) ≡ true ⌝ }
+    ensures { λ r. ⌜ r ≡ pick (yes derived) accepted (pairUses (decodeLayout (now (layout .entry)))
+        (resourceTable (now (pack .entry)) (now (offsets .entry))) (standing (now (pack .entry)) parts .pairs)) ⌝ }
+{
+    if derived {
+        return Answer::accepted();
+    }
+    let n = pairs_counted(word(pack, parts.counts));
+    pair_uses(layout, pack, offsets, parts.pairs, n)
+}
+
+// All steps behind the resources: the walk over the inputs, and the answer.
+pub fn judge(
+    pack: &[u32],
+    parts: EntryParts,
+    offsets: &[u32],
+    limits: Limits,
+    layout: &[u32],
+    inputs: &[u32],
+    stage: ShaderStage,
+    topology: u32,
+    derived: bool,
+    dual: bool,
+    depth: bool,
+) -> Walked
+    requires { ⌜ Placed (now pack) parts ⌝ }
+    requires { ⌜ pairsBelow (length (resourceTable (now pack) (now offsets))) (standing (now pack) parts .pairs) ≡ true ⌝ }
+    ensures { λ r. ⌜ r ≡ judged derived (request stage topology dual depth) (resourceTable (now (pack .entry)) (now (offsets .entry))) limits
+        (standing (now (pack .entry)) parts) (decodeStage (now (inputs .entry))) (decodeLayout (now (layout .entry))) ⌝ }
+{
+    let pairs = pair_step(pack, parts, offsets, layout, derived);
+    if pairs.number != 0 {
+        return stopped(pairs);
+    }
+    let workgroup = workgroup_of(pack, parts);
+    let size = workgroup_step(stage, workgroup, limits);
+    if size.number != 0 {
+        return stopped(size);
+    }
+    judge_inputs(pack, parts, limits, inputs, stage, topology, dual, depth)
+}
+
+// A walk that was not begun.
+fn stopped(answer: Answer) -> Walked
+    ensures { λ r. ⌜ r ≡ walked startWalk answer ⌝ }
+{
+    let walk = InputWalk {
+        primitive_index: false,
+        draw_index: false,
+        per_vertex: false,
+        locals: 0,
+    };
     Walked { walk, answer }
 }
