@@ -144,7 +144,13 @@ fn judge_inputs(
 }
 
 // Pairs, where the layout is provided.
-fn pair_step(pack: &[u32], parts: EntryParts, offsets: &[u32], layout: &[u32], derived: bool) -> Answer
+fn pair_step(
+    pack: &[u32],
+    parts: EntryParts,
+    offsets: &[u32],
+    layout: &[u32],
+    derived: bool,
+) -> Answer
     requires { ⌜ Placed (now pack) parts ⌝ }
     requires { ⌜ pairsBelow (length (resourceTable (now pack) (now offsets))) (standing (now pack) parts .pairs) ≡ true ⌝ }
     ensures { λ r. ⌜ r ≡ pick (yes derived) accepted (pairUses (decodeLayout (now (layout .entry)))
