@@ -1,0 +1,15 @@
+use native.Mathlib.Omega.{arith}
+use mathlib.Core.Path.{sym}
+use lib.ListN.{length-set}
+use lib.Seq.{length-take-le}
+use borrow.Author.Needs.{needs}
+use Rattle.pack_damage.proofs.shortened.Statement.{statement}
+use Rattle.pack_damage.proofs.shortened.Tie as tie
+
+pub shortened-spec : {M : Type 1} → statement M
+shortened-spec =
+    tie.close
+    (tie.spec
+    (λ c. sym (length-take-le _ _ (omega arith)))  -- slice-aggregate-check-pack
+    (λ c κs. search needs)  -- check-pack-requires
+    (λ c. search needs))  -- returns
