@@ -25,10 +25,11 @@ use Rattle.stage.specs.Resources.{resourceNth, namedTexture, providedUse, resou
 use Rattle.stage.specs.Interfaces.{stageOut}
 use Rattle.stage.specs.Stage.{callGood, requestOf, inputWalk, judgement, runBody, checkStage}
 use Rattle.stage.specs.declared.types.InputWalk.{InputWalk}
+use Rattle.stage.proofs.GivenLaws.{resource-held, entry-pairs}
 use Rattle.handback.specs.HandBack.{derivedOver, putAgain, packKept, interfaceOfCall, entryOfCall, lacking, RoomEnough, used, Again}
 use Rattle.handback.proofs.Growth.{Grows}
 use Rattle.handback.proofs.Derives.{Placed, placed-grows}
-use Rattle.handback.proofs.Packs.{resource-held, entry-pairs, resource-kept, pairs-kept}
+use Rattle.handback.proofs.Packs.{resource-kept, pairs-kept}
 use Rattle.handback.proofs.Provides.{placed-serves, Accepts, provide-steps}
 use Rattle.handback.proofs.Pairs.{pairs-accepted}
 use Rattle.handback.proofs.Bodies.{body-accepts, provided-judged, others-mode}

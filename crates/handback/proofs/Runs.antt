@@ -16,10 +16,10 @@ use Rattle.stage.specs.Meaning.{Call, State}
 use Rattle.stage.specs.Resources.{resourceNth, namedTexture, resourceSteps}
 use Rattle.stage.specs.Interfaces.{stageOut}
 use Rattle.stage.specs.Stage.{requestOf, inputWalk, stageBody, finish, runBody, checkStage}
+use Rattle.stage.proofs.GivenLaws.{resource-held}
 use Rattle.handback.specs.HandBack.{derivedOver, runOver}
 use Rattle.handback.proofs.Growth.{Grows, grows-refl, grows-trans}
 use Rattle.handback.proofs.Derives.{Placed, Folded, derive-steps}
-use Rattle.handback.proofs.Packs.{resource-held}
 use Rattle.handback.proofs.Bodies.{body-layout, body-parts, derived-judged, others}
 use Rattle.handback.proofs.Calls.{Runs, runs-on, by-call}
 

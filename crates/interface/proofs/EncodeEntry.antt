@@ -110,7 +110,7 @@ indexes n few (i ∷ is) h =
     let l : Listed (indexFiled n) contents is (concat indexWords is) = indexes n few is (second (ltb i n) (every (λ i. ltb i n) is) h) in
     record { filed = rw (w .is, w .holds, b) (l .filed); again = rw (w .holds, l .again); counted = ap suc (l .counted) }
 
-type-below : (test : ResourceType → Bool) (rs : List Resource) (i : ℕ) → ofType test rs i ≡ true → i < length rs
+pub type-below : (test : ResourceType → Bool) (rs : List Resource) (i : ℕ) → ofType test rs i ≡ true → i < length rs
 unfolding ofType
 type-below test [] i h = let z : _≡_ {A = ℕ} 0 1 = cc in absurd (omega arith)
 type-below test (r ∷ rs) zero h = omega arith

@@ -12,6 +12,8 @@ pub mod EncodeNames
 pub mod EncodePack
 pub mod EncodeRecords
 pub mod EncodeVaryings
+pub mod Passing
+pub mod Packs
 pub mod Examples
 pub mod CheckCases
 pub mod CheckWords

@@ -9,6 +9,8 @@ pub mod ResourceParts
 pub mod ResourceLaws
 pub mod ResourceWalk
 pub mod PairLaws
+pub mod GivenLaws
+pub mod ListOutLaws
 pub mod JudgeLaws
 pub mod RunLaws
 pub mod Numbers

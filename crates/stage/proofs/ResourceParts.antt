@@ -8,7 +8,7 @@ use mathlib.Core.List.{List, [], _∷_}
 use lib.ListN.{length, take, drop, length-take}
 use lib.Seq.{drop-cons, getD-take}
 use Rattle.word.specs.Words.{wordAt, contentOf}
-use Rattle.resource.specs.Format.{resourceAt, resourceHeld}
+use Rattle.resource.specs.Format.{resourceAt, resourceHeld, typeHeld}
 use Rattle.resource.specs.declared.types.Resource.{Resource}
 use Rattle.lists.specs.Meaning.{every}
 use Rattle.lists.proofs.Records.{first-passes, rest-passes}
@@ -55,11 +55,11 @@ listed-at ws [] i h = absurd (omega arith)
 listed-at ws (o ∷ offsets) zero h = refl
 listed-at ws (o ∷ offsets) (suc i) h = listed-at ws offsets i (omega arith)
 
-listed-held : (rs : List Resource) (i : ℕ) → eachHeld rs ≡ true → i < length rs → resourceHeld (resourceNth rs i) ≡ true
-unfolding every resourceNth
-listed-held [] i h k = absurd (omega arith)
-listed-held (r ∷ rs) zero h k = first-passes (resourceHeld r) (eachHeld rs) h
-listed-held (r ∷ rs) (suc i) h k = listed-held rs i (rest-passes (resourceHeld r) (eachHeld rs) h) (omega arith)
+pub listed-held : (rs : List Resource) (i : ℕ) → eachHeld rs ≡ true → resourceHeld (resourceNth rs i) ≡ true
+unfolding every resourceNth typeHeld
+listed-held [] i h = refl
+listed-held (r ∷ rs) zero h = first-passes (resourceHeld r) (eachHeld rs) h
+listed-held (r ∷ rs) (suc i) h = listed-held rs i (rest-passes (resourceHeld r) (eachHeld rs) h)
 
 module _ (ws offsets : List ℕ) (i : ℕ) (h : i < length (resourceTable ws offsets)) where
   counted : (i < resourceCount ws) × (i < length (take (resourceCount ws) offsets))
@@ -73,4 +73,4 @@ module _ (ws offsets : List ℕ) (i : ℕ) (h : i < length (resourceTable ws off
   nth-at = listed-at ws (take (resourceCount ws) offsets) i (counted .1) ∙ rw (getD-take (resourceCount ws) offsets i 0 (counted .0))
 
   pub nth-held : eachHeld (resourceTable ws offsets) ≡ true → resourceHeld (resourceAt ws (wordAt offsets i)) ≡ true
-  nth-held e = rw nth-at at (listed-held (resourceTable ws offsets) i e h)
+  nth-held e = rw nth-at at (listed-held (resourceTable ws offsets) i e)

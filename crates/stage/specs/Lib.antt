@@ -5,3 +5,4 @@ pub mod Stage
 pub mod Given
 pub mod Judging
 pub mod Table
+pub mod ListOut

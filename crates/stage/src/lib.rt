@@ -2,6 +2,7 @@
 pub mod inputs;
 pub mod judge;
 pub mod last;
+pub mod list_out;
 pub mod outputs;
 pub mod pairs;
 pub mod resources;

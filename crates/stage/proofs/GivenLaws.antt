@@ -1,0 +1,94 @@
+-- What an accepted pack gives to the steps behind its check.
+use Prim.Native.Nat.{ℕ}
+use native.Mathlib.Omega.{arith}
+use mathlib.Core.Path.{_≡_, refl}
+use mathlib.Core.Bool.{Bool, true}
+use mathlib.Core.List.{List, [], _∷_}
+use borrow.Author.Tests.{lt-ltb}
+use lib.Dec.{ltb}
+use lib.ListN.{length}
+use Rattle.resource.specs.Format.{resourceHeld}
+use Rattle.resource.specs.declared.types.Resource.{Resource}
+use Rattle.resource.proofs.Truth.{first, second}
+use Rattle.lists.specs.Meaning.{every}
+use Rattle.interface.specs.Meaning.{EntryPoint, Interface}
+use Rattle.interface.specs.Format.{Decoded, Torn, Misfiled, Pack, decode, decodedNumber, isTexture, isSampler, ofType, pairGood}
+use Rattle.interface.specs.Held.{every as everyHeld, varyingHeld}
+use Rattle.interface.specs.Reads.{entryNth, interfaceOf}
+use Rattle.interface.specs.declared.types.SamplingPair.{SamplingPair}
+use Rattle.interface.specs.declared.types.Varying.{Varying}
+use Rattle.interface.specs.declared.types.Varying.the-variants as Var
+use Rattle.interface.proofs.EncodeRecords.{every-first, every-others}
+use Rattle.interface.proofs.EncodeEntry.{type-below}
+use Rattle.interface.proofs.Packs.{GivenParts, resources-given, entry-given}
+use Rattle.stage.specs.Given.{eachHeld, eachBelow, pairBelow, pairsBelow}
+use Rattle.stage.specs.ListOut.{outputHeld}
+use Rattle.stage.specs.Resources.{resourceNth}
+use Rattle.stage.proofs.ResourceParts.{listed-held}
+
+-- ---- a test of each, in the form of the steps
+
+every-as : {A : Type 0} (known test : A → Bool) → ((a : A) → known a ≡ true → test a ≡ true) → (all : List A) → everyHeld known all ≡ true → every test all ≡ true
+unfolding every
+every-as known test f [] h = refl
+every-as known test f (a ∷ all) h = rw (f a (every-first known a all h)) (every-as known test f all (every-others known a all h))
+
+every-same : {A : Type 0} (test : A → Bool) (all : List A) → everyHeld test all ≡ true → every test all ≡ true
+every-same test all h = every-as test test (λ a t. t) all h
+
+pair-in : (resources : List Resource) (listed : List ℕ) (p : SamplingPair) → pairGood resources listed p ≡ true → pairBelow (length resources) p ≡ true
+pair-in resources listed p h =
+    let t : ofType isTexture resources (p .texture) ≡ true = search (first, second) in
+    let s : ofType isSampler resources (p .sampler) ≡ true = search (first, second) in
+    rw (
+      lt-ltb (p .texture) (length resources) (type-below isTexture resources (p .texture) t),
+      lt-ltb (p .sampler) (length resources) (type-below isSampler resources (p .sampler) s),
+    )
+
+held-output : (v : Varying) → varyingHeld 5 v ≡ true → outputHeld v ≡ true
+held-output (Var.Local location iv) h = h
+held-output (Var.BuiltIn b) h = refl
+
+-- ---- a pack that decodes
+
+module _ (ws : List ℕ) (i : Interface) (d : decode ws ≡ Pack i) where
+  all-held : eachHeld (i .resources) ≡ true
+  all-held = every-same resourceHeld (i .resources) (resources-given ws i d)
+
+  pub resource-held : (k : ℕ) → resourceHeld (resourceNth (i .resources) k) ≡ true
+  resource-held k = listed-held (i .resources) k all-held
+
+  pub entry-pairs : (k : ℕ) → every (pairGood (i .resources) (entryNth (i .entries) k .resources)) (entryNth (i .entries) k .pairs) ≡ true
+  entry-pairs k =
+      every-same (pairGood (i .resources) (entryNth (i .entries) k .resources)) (entryNth (i .entries) k .pairs) (entry-given ws i d k .pairs)
+
+-- ---- an accepted pack
+
+pack-of : (d : Decoded) → decodedNumber d ≡ 0 → d ≡ Pack (interfaceOf d)
+pack-of Torn z = absurd (omega arith)
+pack-of Misfiled z = absurd (omega arith)
+pack-of (Pack i) z = refl
+
+module _ (ws : List ℕ) (z : decodedNumber (decode ws) ≡ 0) where
+  abbrev i : Interface
+  i = interfaceOf (decode ws)
+
+  pub given-held : eachHeld (i .resources) ≡ true
+  given-held = all-held ws i (pack-of (decode ws) z)
+
+  module _ (k : ℕ) where
+    abbrev e : EntryPoint
+    e = entryNth (i .entries) k
+
+    parts : GivenParts (i .resources) e
+    parts = entry-given ws i (pack-of (decode ws) z) k
+
+    pub given-below : eachBelow (length (i .resources)) (e .resources) ≡ true
+    given-below = every-same (λ n. ltb n (length (i .resources))) (e .resources) (parts .below)
+
+    pub given-pairs : pairsBelow (length (i .resources)) (e .pairs) ≡ true
+    given-pairs =
+        every-as (pairGood (i .resources) (e .resources)) (pairBelow (length (i .resources))) (pair-in (i .resources) (e .resources)) (e .pairs) (parts .pairs)
+
+    pub given-outputs : every outputHeld (e .outputs) ≡ true
+    given-outputs = every-as (varyingHeld 5) outputHeld held-output (e .outputs) (parts .outputs)

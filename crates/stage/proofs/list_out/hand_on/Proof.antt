@@ -1,0 +1,15 @@
+use Rattle.stage.proofs.ListOutLaws.{local-held, local-few, local-roomy, local-handed, built-in-handed}
+use borrow.Author.Needs.{needs}
+use Rattle.stage.proofs.list_out.hand_on.Statement.{statement}
+use Rattle.stage.proofs.list_out.hand_on.Tie as tie
+
+pub hand-on-spec : {M : Type 1} → statement M
+hand-on-spec =
+    tie.close
+    (tie.spec
+    (λ c. search needs)  -- enum-known-v
+    (λ c κs. ((search needs, search local-held), (search local-few, search local-roomy)))  -- insert-out-requires
+    (λ c. search needs)  -- enum-told
+    (λ c. search needs)  -- same-length
+    (λ c. (search local-handed, search needs))  -- returns
+    (λ c. (search built-in-handed, search needs)))  -- returns-2

@@ -1,0 +1,20 @@
+use Rattle.stage.proofs.ListOutLaws.{outputs-held, outputs-room, payload-read-held, list-out}
+use borrow.Author.Needs.{needs}
+use Rattle.stage.proofs.list_out.list_out.Statement.{statement}
+use Rattle.stage.proofs.list_out.list_out.Tie as tie
+
+pub list-out-spec : {M : Type 1} → statement M
+list-out-spec =
+    tie.close
+    (tie.spec
+    (λ c κs. search needs)  -- word-requires
+    (λ c κs. search needs)  -- outputs-counted-requires
+    (λ c κs. search needs)  -- summary-requires
+    (λ c κs. search needs)  -- either-requires
+    (λ c κs. search needs)  -- primitive-out-requires
+    (λ c. search needs)  -- add-word
+    (λ c κs. search needs)  -- word-requires-2
+    (λ c κs. search needs)  -- payload-of-requires
+    (λ c κs. ((search needs, search needs, search payload-read-held), (search outputs-held, search outputs-room)))  -- write-out-requires
+    (λ c. search needs)  -- same-length
+    (λ c. search list-out))  -- returns

@@ -1,0 +1,125 @@
+// What a stage hands on: the list out, written over the lent words.
+ghost use mathlib.Core.Path.{_≡_};
+ghost use mathlib.Core.Bool.{Bool, true};
+ghost use mathlib.Core.List.{List, []};
+ghost use Prim.Native.Nat.{_+_, _*_, _<_, _≤_, _^_};
+ghost use lib.ListN.{length, drop};
+ghost use Rattle.varying.specs.Format.{payloadHeld};
+ghost use Rattle.lists.specs.Meaning.{every};
+ghost use Rattle.lists.specs.Format.{outFiled, decodeStage, encodeStage};
+ghost use Rattle.interface.specs.Reads.{varying, varyingWidth, varyings, standing};
+ghost use Rattle.stage.specs.Interfaces.{isLocal, localCount, localsOf, primitiveOut, stageOut};
+ghost use Rattle.stage.specs.ListOut.{outputHeld, handed};
+use crate::inputs::either;
+use crate::outputs::summary;
+use crate::types::InputWalk;
+use interface::parts::outputs_counted;
+use interface::reads::varying_at;
+use interface::reads::varying_width;
+use interface::types::EntryParts;
+use interface::types::ShaderStage;
+use interface::types::Varying;
+use lists::list_out::begin_out;
+use lists::list_out::insert_out;
+use lists::types::PrimitiveIndex;
+use varying::Located;
+use varying::Payload;
+use word::word;
+
+// Whether a mesh stage writes a primitive index; other stages have none.
+fn primitive_out(stage: ShaderStage, written: bool) -> PrimitiveIndex
+    ensures { λ r. ⌜ r ≡ primitiveOut stage written ⌝ }
+{
+    match stage {
+        ShaderStage::Mesh => {
+            if written {
+                return PrimitiveIndex::True;
+            }
+            PrimitiveIndex::False
+        }
+        ShaderStage::Vertex => PrimitiveIndex::None,
+        ShaderStage::Fragment => PrimitiveIndex::None,
+        ShaderStage::Compute => PrimitiveIndex::None,
+        ShaderStage::Task => PrimitiveIndex::None,
+    }
+}
+
+// One output: a local one is put into its place, a built-in one is passed over.
+fn hand_on(out: &mut [u32], v: Varying)
+    requires { ⌜ (outFiled (now out) ≡ true) × (outputHeld v ≡ true) ⌝ }
+    requires { ⌜ (length (decodeStage (now out) .varyings) + isLocal v ≤ 63) × (2 * isLocal v ≤ length (decodeStage (now out) .room)) ⌝ }
+    ensures { λ _. ⌜ decodeStage (now (out .exit)) ≡ handed v (decodeStage (now (out .entry))) ⌝ }
+    ensures { λ _. ⌜ outFiled (now (out .exit)) ≡ true ⌝ }
+{
+    match v {
+        Varying::Local { location, iv } => {
+            let var = Located { location, var: iv };
+            insert_out(out, var);
+        }
+        Varying::BuiltIn { built_in: _ } => {}
+    }
+}
+
+// The output at a position, handed on; the answer is where the next one begins.
+fn hand_next(pack: &[u32], at: usize, out: &mut [u32]) -> usize
+    requires { ⌜ at < 2 ^ 41 ⌝ }
+    requires { ⌜ (outFiled (now out) ≡ true) × (outputHeld (varying (drop at (now pack))) ≡ true) ⌝ }
+    requires { ⌜ length (decodeStage (now out) .varyings) + isLocal (varying (drop at (now pack))) ≤ 63 ⌝ }
+    requires { ⌜ 2 * isLocal (varying (drop at (now pack))) ≤ length (decodeStage (now out) .room) ⌝ }
+    ensures { λ _. ⌜ decodeStage (now (out .exit)) ≡ handed (varying (drop at (now (pack .entry)))) (decodeStage (now (out .entry))) ⌝ }
+    ensures { λ _. ⌜ outFiled (now (out .exit)) ≡ true ⌝ }
+    ensures { λ r. ⌜ r ≡ at + varyingWidth (drop at (now (pack .entry))) ⌝ }
+    ensures { λ r. ⌜ r ≤ at + 2 ⌝ }
+{
+    let v = varying_at(pack, at);
+    hand_on(out, v);
+    at + varying_width(pack, at)
+}
+
+// The outputs from a position on, by rising location, behind a payload and a primitive index.
+pub fn write_out(
+    pack: &[u32],
+    from: usize,
+    n: usize,
+    out: &mut [u32],
+    primitive: PrimitiveIndex,
+    payload: Payload,
+)
+    requires { ⌜ (from < 2 ^ 40) × (n ≤ 63) × (payloadHeld payload ≡ true) ⌝ }
+    requires { ⌜ every outputHeld (varyings n (drop from (now pack))) ≡ true ⌝ }
+    requires { ⌜ 2 + 2 * localCount (varyings n (drop from (now pack))) ≤ length (now out) ⌝ }
+    ensures { λ _. ⌜ now (out .exit) ≡ encodeStage (record {
+      primitive = primitive;
+      payload = payload;
+      varyings = localsOf (varyings n (drop from (now (pack .entry)))) [];
+      room = drop (2 + 2 * length (localsOf (varyings n (drop from (now (pack .entry)))) [])) (now (out .entry));
+    }) ⌝ }
+{
+    begin_out(out, primitive, payload);
+    let mut at = from;
+    let mut left = n;
+    while left != 0 {
+        at = hand_next(pack, at, out);
+        left -= 1;
+    }
+}
+
+// The list out of the entry point whose parts stand at these positions.
+pub fn list_out(
+    pack: &[u32],
+    parts: EntryParts,
+    stage: ShaderStage,
+    walk: InputWalk,
+    out: &mut [u32],
+)
+    requires { ⌜ (parts .workgroup < 2 ^ 40) × (parts .outputs < 2 ^ 40) ⌝ }
+    requires { ⌜ every outputHeld (standing (now pack) parts .outputs) ≡ true ⌝ }
+    requires { ⌜ 2 + 2 * localCount (standing (now pack) parts .outputs) ≤ length (now out) ⌝ }
+    ensures { λ _. ⌜ now (out .exit) ≡ encodeStage (stageOut stage (standing (now (pack .entry)) parts) walk (now (out .entry))) ⌝ }
+{
+    let n = outputs_counted(word(pack, parts.counts));
+    let s = summary(pack, parts.outputs, n);
+    let primitive = primitive_out(stage, either(walk.primitive_index, s.primitive));
+    let payload = varying::payload_of(word(pack, parts.workgroup + 3));
+    write_out(pack, parts.outputs, n, out, primitive, payload);
+}
