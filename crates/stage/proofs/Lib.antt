@@ -13,5 +13,6 @@ pub mod GivenLaws
 pub mod ListOutLaws
 pub mod JudgeLaws
 pub mod RunLaws
+pub mod CheckLaws
 pub mod Numbers
 pub mod Demand1

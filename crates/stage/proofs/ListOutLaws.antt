@@ -44,7 +44,6 @@ module _ (stage : ShaderStage) (w : Bool) where
   pub no-mesh : (s : ShaderStage) → stage ≡ s → Index.None ≡ primitiveOut s w → Index.None ≡ primitiveOut stage w
   no-mesh s d h = rw d h
 
-
 -- ---- one output
 
 module _ (v : Varying) (location : ℕ) (iv : InterfaceVar) (e : v ≡ Var.Local location iv) where

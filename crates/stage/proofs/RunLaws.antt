@@ -31,16 +31,12 @@ module _ (c : Call) (i : Interface) (e : EntryPoint) (a : Answer) (l s : List �
   unfolding runBody finish stageBody
   run-refused n = rw (← steps, ne-eqb (a .number) 0 n, ne-eqb (a .number) 0 n, el, es)
 
-  module _ (b : Answer) (z : a .number ≡ 0) (eb : b ≡ judgement (requestOf c) i e (decodeStage (c .inputs)) (decodeLayout l)) where
-    pub run-judged : (b .number ≡ 0 → ⊥) → outcome b l s (c .out) ≡ runBody c i e
-    unfolding runBody finish stageBody
-    run-judged n = rw (← steps, eq-eqb (a .number) 0 z, ← eb, ne-eqb (b .number) 0 n, el, es)
-
-    pub run-accepted : (o : List ℕ) → b .number ≡ 0
-        → o ≡ encodeStage (stageOut (stageAt (c .stage)) e (inputWalk (requestOf c) e (decodeStage (c .inputs)) .walk) (c .out))
-        → outcome b l s o ≡ runBody c i e
-    unfolding runBody finish stageBody
-    run-accepted o y eo = rw (← steps, eq-eqb (a .number) 0 z, ← eb, eq-eqb (b .number) 0 y, el, es, ← eo)
+  pub run-went : (b : Answer) → a .number ≡ 0 → b ≡ judgement (requestOf c) i e (decodeStage (c .inputs)) (decodeLayout l) → (o : List ℕ)
+      → o ≡ pick (eqb (b .number) 0)
+      (encodeStage (stageOut (stageAt (c .stage)) e (inputWalk (requestOf c) e (decodeStage (c .inputs)) .walk) (c .out))) (c .out)
+      → outcome b l s o ≡ runBody c i e
+  unfolding runBody finish stageBody
+  run-went b z eb o eo = rw (← steps, eq-eqb (a .number) 0 z, ← eb, el, es, ← eo)
 
 -- ---- the refusals in front of it
 

@@ -1,15 +1,18 @@
 -- What the steps behind the check of a pack are given: its resources by a table of their positions, and indexes that stand in it.
 use Prim.Native.Nat.{ℕ}
-use mathlib.Core.Bool.{Bool, _&&_}
+use mathlib.Core.Path.{_≡_}
+use mathlib.Core.Bool.{Bool, true, _&&_}
 use mathlib.Core.List.{List}
 use lib.Dec.{ltb}
-use lib.ListN.{take}
+use lib.ListN.{length, take}
 use Rattle.resource.specs.Format.{resourceHeld}
 use Rattle.resource.specs.declared.types.Resource.{Resource}
 use Rattle.lists.specs.Meaning.{every}
+use Rattle.interface.specs.Meaning.{EntryPoint, Interface}
 use Rattle.interface.specs.Reads.{resourcesAt}
 use Rattle.interface.specs.Parts.{resourceCount}
 use Rattle.interface.specs.declared.types.SamplingPair.{SamplingPair}
+use Rattle.stage.specs.ListOut.{outputHeld}
 
 -- the resources of a pack, each at its position in a table of as many
 unfoldable pub resourceTable : List ℕ → List ℕ → List Resource
@@ -29,3 +32,15 @@ pairBelow count p = ltb (p .texture) count && ltb (p .sampler) count
 
 abbrev pub pairsBelow : ℕ → List SamplingPair → Bool
 pairsBelow count ps = every (pairBelow count) ps
+
+-- what the check of a pack gives the steps of an entry point: what it names stands among the resources, and can be handed on
+pub record Named (i : Interface) (e : EntryPoint) : Type 0 where
+  pub held : eachHeld (i .resources) ≡ true
+  pub below : eachBelow (length (i .resources)) (e .resources) ≡ true
+  pub pairs : pairsBelow (length (i .resources)) (e .pairs) ≡ true
+  pub outputs : every outputHeld (e .outputs) ≡ true
+
+-- and a table that holds the resources
+pub record Given (ws offsets : List ℕ) (i : Interface) (e : EntryPoint) : Type 0 where
+  pub table : resourceTable ws offsets ≡ i .resources
+  pub named : Named i e

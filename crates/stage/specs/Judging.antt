@@ -8,12 +8,13 @@ use Rattle.word.specs.Answers.{accepted}
 use Rattle.word.specs.declared.answer.Answer.{Answer}
 use Rattle.resource.specs.declared.types.Resource.{Resource}
 use Rattle.lists.specs.Meaning.{Layout, StageIo}
+use Rattle.lists.specs.Format.{encodeStage}
 use Rattle.interface.specs.Meaning.{EntryPoint}
 use Rattle.interface.specs.declared.types.ShaderStage.{ShaderStage}
 use Rattle.interface.specs.declared.types.Limits.{Limits}
 use Rattle.stage.specs.Meaning.{Request, both}
 use Rattle.stage.specs.Resources.{pairUses}
-use Rattle.stage.specs.Interfaces.{workgroupStep, placesStep, lastStep, startWalk, walked, walkOn}
+use Rattle.stage.specs.Interfaces.{workgroupStep, placesStep, lastStep, startWalk, walked, walkOn, stageOut}
 use Rattle.stage.specs.Stage.{inputWalk}
 use Rattle.stage.specs.declared.types.InputWalk.{InputWalk}
 use Rattle.stage.specs.declared.types.Walked.{Walked}
@@ -21,6 +22,14 @@ use Rattle.stage.specs.declared.types.Walked.{Walked}
 -- a request in provided mode, for the steps that do not look at the mode
 abbrev pub request : ShaderStage → ℕ → Bool → Bool → Request
 request stage topology dual depth = record { stage = stage; topology = topology; derived = false; dual = dual; depth = depth }
+
+-- the same in either mode
+abbrev pub requestWith : Bool → ShaderStage → ℕ → Bool → Bool → Request
+requestWith derived stage topology dual depth = record { stage = stage; topology = topology; derived = derived; dual = dual; depth = depth }
+
+-- what is handed on: the list where the answer accepts
+abbrev pub handedOut : Answer → ShaderStage → EntryPoint → InputWalk → List ℕ → List ℕ
+handedOut a stage e w out = pick (eqb (a .number) 0) (encodeStage (stageOut stage e w out)) out
 
 -- what follows the inputs
 unfoldable pub behindInputs : Request → Limits → EntryPoint → StageIo → InputWalk → Answer

@@ -1,4 +1,5 @@
 // One stage of a pipeline against its layout, its forerunner and the limits.
+pub mod check;
 pub mod inputs;
 pub mod judge;
 pub mod last;

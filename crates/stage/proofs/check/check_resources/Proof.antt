@@ -1,0 +1,17 @@
+use Rattle.stage.proofs.CheckLaws.{table-held, resources-below, resources-in, pairs-in, resources-done}
+use borrow.Author.Needs.{needs}
+use Rattle.stage.proofs.check.check_resources.Statement.{statement}
+use Rattle.stage.proofs.check.check_resources.Tie as tie
+
+pub check-resources-spec : {M : Type 1} → statement M
+check-resources-spec =
+    tie.close
+    (tie.spec
+    (λ c κs. search needs)  -- word-requires
+    (λ c κs. search needs)  -- resources-counted-requires
+    (λ c κs. search needs)  -- pairs-counted-requires
+    (λ c κs. search needs)  -- stage-at-requires
+    (λ c κs. (search needs, (search table-held, (search resources-below, (search resources-in, search pairs-in)))))  -- resource-steps-requires
+    (λ c. search needs)  -- same-length
+    (λ c. search needs)  -- same-length-2
+    (λ c. (search resources-done, search needs)))  -- returns
