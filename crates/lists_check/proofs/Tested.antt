@@ -1,0 +1,92 @@
+-- What the program's tests say of the lists, entries and variables that it hands on.
+use Prim.Native.Nat.{ℕ, _+_, _*_, _^_, _<_, _≤_}
+use native.Mathlib.Omega.{arith}
+use mathlib.Core.Path.{_≡_, sym, _∙_}
+use mathlib.Core.Bool.{Bool, true, false, not, _&&_}
+use mathlib.Core.List.{List}
+use lib.Dec.{leb, ltb}
+use lib.ListN.{length, take, drop, length-drop}
+use lib.Seq.{length-take-le}
+use borrow.Author.Tests.{not-true, not-false, lt-ltb, le-ltb, ltb-true, leb-true}
+use Rattle.resource.specs.Format.{entryHeld, entryFiled, entryOf}
+use Rattle.resource.specs.declared.types.ResourceBinding.{ResourceBinding}
+use Rattle.resource.specs.declared.types.BindGroupLayoutEntry.{BindGroupLayoutEntry}
+use Rattle.resource.proofs.EntryFormat.{entry-held}
+use Rattle.varying.specs.Format.{varFiled, varOf, locatedHeld, payloadOf, payloadHeld}
+use Rattle.varying.specs.declared.InterfaceVar.{InterfaceVar}
+use Rattle.varying.specs.declared.Payload.{Payload}
+use Rattle.varying.proofs.Checks.{first, second, both}
+use Rattle.varying.proofs.Joined.{var-held, payload-held}
+use Rattle.lists.specs.Meaning.{Layout, entryPlaces, entryHas, findEntry, foundBelow}
+use Rattle.lists.specs.Format.{countOf, entryFits, readLocated, outFiled, decodeStage}
+use Rattle.lists.specs.declared.types.Found.{Found}
+use Rattle.lists.specs.declared.types.Found.the-variants.{At, Nothing}
+use Rattle.lists.proofs.PlaceWays.{place-lacks}
+use Rattle.lists.proofs.Records.{read-length, room-length}
+use Rattle.lists_check.specs.Room.{hasRoom}
+
+pub passed : (b test : Bool) → b ≡ test → not b ≡ false → test ≡ true
+passed b test e h = sym e ∙ not-false b h
+
+-- the parts of a length of two lists of one length
+pub parts-alike : (n m : ℕ) (a b : List ℕ) → n ≤ m → length a ≡ m → length b ≡ m → length (take n a) ≡ length (take n b)
+parts-alike n m a b h p q = length-take-le n a (omega arith) ∙ sym (length-take-le n b (omega arith))
+
+-- ---- layouts
+
+pub entry-passed : (e : BindGroupLayoutEntry) (p t l v : ℕ) (b : Bool) → b ≡ entryFiled p t l v → not b ≡ false → e ≡ entryOf p t l v → entryHeld e ≡ true
+entry-passed e p t l v b q h r = rw r (entry-held p t l v (passed b (entryFiled p t l v) q h))
+
+pub entry-fits : (e : BindGroupLayoutEntry) (L : Layout) (g : ℕ) → entryHeld e ≡ true → g ≡ L .groups → e .bind .group < g → entryFits (L .groups) e ≡ true
+entry-fits e L g h q n = both (entryHeld e) (ltb (e .bind .group) (L .groups)) h (lt-ltb (e .bind .group) (L .groups) (omega arith))
+
+pub place-new : (place : ResourceBinding) (L : Layout) (f : Found) → f ≡ findEntry place L → f ≡ Nothing → entryHas place (L .entries) ≡ false
+place-new place L f e h = sym (place-lacks place (entryPlaces (L .entries)) f e h)
+
+pub entry-within : (L : Layout) (f : Found) (i : ℕ) → foundBelow (length (L .entries)) f ≡ true → f ≡ At i → i < length (L .entries)
+entry-within L f i h e = ltb-true i (length (L .entries)) (rw e at h)
+
+-- ---- the list out
+
+pub payload-fits : (p : Payload) (w : ℕ) → p ≡ payloadOf w → payloadHeld p ≡ true
+payload-fits p w e = rw e (payload-held w)
+
+pub located-fits : (v : InterfaceVar) (location w : ℕ) (b : Bool) → b ≡ varFiled w → not b ≡ false → v ≡ varOf w → location < 2 ^ 27
+    → locatedHeld (record { location = location; var = v }) ≡ true
+located-fits v location w b q h e n = rw (e, lt-ltb location (2 ^ 27) n) (var-held w (passed b (varFiled w) q h))
+
+module _ (l : List ℕ) (h : hasRoom l ≡ true) where
+  pub list-out : outFiled l ≡ true
+  unfolding hasRoom
+  list-out = first (outFiled l) (ltb (countOf l) 63 && leb (2 + 2 * countOf l + 2) (length l)) h
+
+  counted : (ltb (countOf l) 63 && leb (2 + 2 * countOf l + 2) (length l)) ≡ true
+  unfolding hasRoom
+  counted = second (outFiled l) (ltb (countOf l) 63 && leb (2 + 2 * countOf l + 2) (length l)) h
+
+  pub variables-few : length (decodeStage l .varyings) < 63
+  unfolding decodeStage
+  variables-few =
+      let n = ltb-true (countOf l) 63 (first (ltb (countOf l) 63) (leb (2 + 2 * countOf l + 2) (length l)) counted) in
+      omega (arith, n, read-length 2 readLocated (countOf l) (drop 2 l))
+
+  pub room-enough : 2 ≤ length (decodeStage l .room)
+  unfolding decodeStage
+  room-enough =
+      let n = leb-true (2 + 2 * countOf l + 2) (length l) (second (ltb (countOf l) 63) (leb (2 + 2 * countOf l + 2) (length l)) counted) in
+      omega (arith, n, room-length 2 (countOf l) (drop 2 l), length-drop 2 l)
+
+-- the code's ways through the test of the room
+module _ (l : List ℕ) (b : Bool) (q : b ≡ outFiled l) where
+  pub no-list : not b ≡ true → false ≡ hasRoom l
+  unfolding hasRoom
+  no-list h = rw (← q, not-true b h)
+
+  module _ (n : ℕ) (h : not b ≡ false) (e : n ≡ countOf l) where
+    pub full : 63 ≤ n → ltb n 63 ≡ hasRoom l
+    unfolding hasRoom
+    full k = rw (← q, not-false b h, ← e, le-ltb n 63 k)
+
+    pub rest-decides : n < 63 → leb (2 + 2 * n + 2) (length l) ≡ hasRoom l
+    unfolding hasRoom
+    rest-decides k = rw (← q, not-false b h, ← e, lt-ltb n 63 k)

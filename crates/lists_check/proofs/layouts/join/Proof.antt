@@ -1,0 +1,27 @@
+use Rattle.lists_check.proofs.Tested.{passed, entry-within}
+use borrow.Author.Needs.{needs}
+use Rattle.lists_check.proofs.layouts.join.Statement.{statement}
+use Rattle.lists_check.proofs.layouts.join.Tie as tie
+
+pub join-spec : {M : Type 1} → statement M
+join-spec =
+    tie.close
+    (tie.spec
+    (λ c κs. search needs)  -- layout-filed-requires
+    (λ c κs. search needs)  -- nothing-requires
+    (λ c. search needs)  -- same-length
+    (λ c. search needs)  -- returns
+    (λ c κs. search needs)  -- nothing-requires-2
+    (λ c. search needs)  -- same-length-2
+    (λ c. search needs)  -- returns-2
+    (λ c κs. search needs)  -- place-of-requires
+    (λ c κs. search needs)  -- find-entry-requires
+    (λ c. search needs)  -- enum-known-index
+    (λ c κs. (search passed, (search entry-within, search needs)))  -- join-visibility-requires
+    (λ c κs. search needs)  -- number-requires
+    (λ c. search needs)  -- enum-told
+    (λ c κs. search needs)  -- nothing-requires-3
+    (λ c. search needs)  -- same-length-3
+    (λ c. search needs)  -- returns-3
+    (λ c. search needs)  -- same-length-4
+    (λ c. search needs))  -- returns-4

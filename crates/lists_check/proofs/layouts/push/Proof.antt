@@ -1,0 +1,21 @@
+use Rattle.lists_check.proofs.Tested.{passed, entry-passed}
+use borrow.Author.Needs.{needs}
+use Rattle.lists_check.proofs.layouts.push.Statement.{statement}
+use Rattle.lists_check.proofs.layouts.push.Tie as tie
+
+pub push-spec : {M : Type 1} → statement M
+push-spec =
+    tie.close
+    (tie.spec
+    (λ c κs. search needs)  -- layout-filed-requires
+    (λ c κs. search needs)  -- nothing-requires
+    (λ c. search needs)  -- same-length
+    (λ c. search needs)  -- returns
+    (λ c κs. search needs)  -- words-filed-requires
+    (λ c κs. search needs)  -- nothing-requires-2
+    (λ c. search needs)  -- same-length-2
+    (λ c. search needs)  -- returns-2
+    (λ c κs. search needs)  -- entry-of-requires
+    (λ c κs. (search passed, search entry-passed))  -- push-new-requires
+    (λ c. search needs)  -- same-length-3
+    (λ c. search needs))  -- returns-3

@@ -1,0 +1,24 @@
+use Rattle.lists_check.proofs.Tested.{passed}
+use borrow.Author.Needs.{needs}
+use Rattle.lists_check.proofs.sizes.record.Statement.{statement}
+use Rattle.lists_check.proofs.sizes.record.Tie as tie
+
+pub record-spec : {M : Type 1} → statement M
+record-spec =
+    tie.close
+    (tie.spec
+    (λ c κs. search needs)  -- sizes-filed-requires
+    (λ c κs. search needs)  -- nothing-requires
+    (λ c. search needs)  -- same-length
+    (λ c. search needs)  -- returns
+    (λ c κs. search needs)  -- nothing-requires-2
+    (λ c. search needs)  -- same-length-2
+    (λ c. search needs)  -- returns-2
+    (λ c κs. search needs)  -- nothing-requires-3
+    (λ c. search needs)  -- same-length-3
+    (λ c. search needs)  -- returns-3
+    (λ c κs. search needs)  -- place-of-requires
+    (λ c κs. (search passed, (search needs, (search needs, search needs))))  -- record-size-requires
+    (λ c κs. search needs)  -- yes-no-requires
+    (λ c. search needs)  -- same-length-4
+    (λ c. search needs))  -- returns-4

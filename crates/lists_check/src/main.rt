@@ -1,0 +1,108 @@
+// Does what a case of standard input asks of a list, and prints the answer and the words of the list that changed, a line for each case.
+// Input is words, low byte first: how many cases; then for each what is asked, four arguments, how many words the list has, and the list.
+// Asked is 0 whether it is a layout, a size or a stage list; of a layout 1 to look, 2 to join a stage, 3 to push an entry; 4 to record a
+// size; of a stage list 5 to look, 6 to begin a list out, 7 to insert a variable.
+// Input and stored output are from tools/lists_expected.py, a model of document 01's text.
+ghost use mathlib.Core.Path.{_≡_};
+ghost use Prim.Native.Nat.{_<_, _≤_};
+ghost use lib.ListN.{length};
+use libc::STDIN_FILENO;
+
+mod layouts;
+mod print;
+mod sizes;
+mod stages;
+
+fn wide(b: u8) -> u32
+    ensures { λ r. ⌜ r < 256 ⌝ }
+{
+    b as u32
+}
+
+// The next word of the input, 0 behind its end.
+fn next() -> u32 {
+    let mut bytes = [0u8; 4];
+    io::read_full(STDIN_FILENO, &mut bytes);
+    wide(bytes[0])
+        + 0x100 * wide(bytes[1])
+        + 0x1_0000 * wide(bytes[2])
+        + 0x100_0000 * wide(bytes[3])
+}
+
+// How many words the list of a case has, at most what there is space for.
+fn list_length(space: usize) -> usize
+    ensures { λ r. ⌜ r ≤ space ⌝ }
+{
+    let n = next() as usize;
+    if n < space { n } else { space }
+}
+
+// Reads a list, and keeps it as it was read.
+fn read_list(list: &mut [u32], kept: &mut [u32])
+    requires { ⌜ length (now kept) ≡ length (now list) ⌝ }
+{
+    let mut i: usize = 0;
+    while i < list.len() {
+        let w = next();
+        list[i] = w;
+        kept[i] = w;
+        i += 1;
+    }
+}
+
+// Which of the three lists the words are.
+fn tests(list: &[u32]) {
+    print::yes_no(lists::layout::layout_filed(list));
+    print::yes_no(lists::sizes::sizes_filed(list));
+    print::yes_no(lists::stage_io::stage_filed(list));
+}
+
+fn answer(list: &mut [u32], asked: u32, a: u32, b: u32, c: u32, d: u32) {
+    match asked {
+        0 => tests(list),
+        1 => layouts::look(list, a, b),
+        2 => layouts::join(list, a, b),
+        3 => layouts::push(list, a, b, c, d),
+        4 => sizes::record(list, a, b),
+        5 => stages::look(list, a),
+        6 => stages::begin(list, a, b),
+        _ => stages::insert(list, a, b),
+    }
+}
+
+fn run(list: &mut [u32], kept: &mut [u32], asked: u32, a: u32, b: u32, c: u32, d: u32)
+    requires { ⌜ length (now kept) ≡ length (now list) ⌝ }
+{
+    read_list(list, kept);
+    answer(list, asked, a, b, c, d);
+    print::changes(kept, list);
+    print::end();
+}
+
+fn case(space: &mut [u32], kept: &mut [u32])
+    requires { ⌜ length (now space) ≡ 1032 ⌝ }
+    requires { ⌜ length (now kept) ≡ 1032 ⌝ }
+{
+    let asked = next();
+    let a = next();
+    let b = next();
+    let c = next();
+    let d = next();
+    let n = list_length(1032);
+    run(&mut space[..n], &mut kept[..n], asked, a, b, c, d);
+}
+
+fn cases(space: &mut [u32], kept: &mut [u32])
+    requires { ⌜ length (now space) ≡ 1032 ⌝ }
+    requires { ⌜ length (now kept) ≡ 1032 ⌝ }
+{
+    for _ in 0..next() {
+        case(space, kept);
+    }
+}
+
+fn main() {
+    let mut space = [0u32; 1032];
+    let mut kept = [0u32; 1032];
+    cases(&mut space, &mut kept);
+}
