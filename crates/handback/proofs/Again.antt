@@ -11,7 +11,7 @@ use borrow.Author.Tests.{leb-true}
 use Rattle.word.specs.Answers.{accepted}
 use Rattle.word.specs.Words.{ofKind}
 use Rattle.resource.specs.Format.{placeHeld, typeHeld}
-use Rattle.resource.proofs.Truth.{second}
+use Rattle.word.proofs.Truth.{second}
 use Rattle.varying.specs.Format.{locatedWords, payloadWord}
 use Rattle.varying.specs.declared.Located.{Located}
 use Rattle.lists.specs.Meaning.{StageIo}

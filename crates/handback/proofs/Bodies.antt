@@ -6,7 +6,7 @@ use lib.Dec.{eqb}
 use Rattle.word.specs.Answers.{accepted}
 use Rattle.word.specs.declared.answer.Answer.{Answer}
 use Rattle.word.proofs.Tests.{yes-true, yes-false}
-use Rattle.resource.proofs.Truth.{by-test, never}
+use Rattle.word.proofs.Truth.{by-test, never}
 use Rattle.lists.specs.Meaning.{Layout, Sizes, StageIo}
 use Rattle.interface.specs.Meaning.{EntryPoint, Interface}
 use Rattle.interface.specs.declared.types.ShaderStage.{ShaderStage}

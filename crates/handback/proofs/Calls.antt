@@ -6,7 +6,7 @@ use mathlib.Core.Bool.{true, false}
 use lib.Dec.{ltb}
 use lib.ListN.{length}
 use Rattle.word.specs.Answers.{accepted}
-use Rattle.resource.proofs.Truth.{by-test}
+use Rattle.word.proofs.Truth.{by-test}
 use Rattle.interface.specs.Meaning.{Interface}
 use Rattle.interface.specs.Format.{Decoded, Torn, Misfiled, Pack, decode, stageAt}
 use Rattle.interface.specs.Reads.{entryNth}

@@ -20,7 +20,7 @@ use Rattle.resource.specs.declared.types.Derived.{Derived}
 use Rattle.resource.specs.declared.types.Derived.the-variants as Der
 use Rattle.resource.proofs.EntryFormat.{type-read}
 use Rattle.resource.proofs.HandBack.{derived-held}
-use Rattle.resource.proofs.Truth.{first, second, by-test, never}
+use Rattle.word.proofs.Truth.{first, second, by-test, never}
 use Rattle.lists.specs.Meaning.{Layout, Sizes, samePlace, findEntry, entryPlaces, entryHas, entryNth, fits, pushed, joined}
 use Rattle.lists.specs.Format.{entryFits, layoutGood}
 use Rattle.lists.specs.declared.types.Found.{Found}

@@ -7,7 +7,7 @@ use mathlib.Core.List.{List, [], _∷_}
 use lib.ListN.{length}
 use Rattle.resource.specs.declared.types.ResourceBinding.{ResourceBinding}
 use Rattle.resource.specs.declared.types.BindGroupLayoutEntry.{BindGroupLayoutEntry}
-use Rattle.resource.proofs.Truth.{by-test, never}
+use Rattle.word.proofs.Truth.{by-test, never}
 use Rattle.lists.specs.Meaning.{samePlace, placeFrom, placeIn, distinctPlaces, entryPlaces, entryHas, distinctEntries, entryNth}
 use Rattle.lists.specs.declared.types.Found.the-variants.{At}
 use Rattle.lists.proofs.PlaceLaws.{same-place-eq, passed-not}

@@ -9,7 +9,7 @@ use lib.ListN.{length, length-append}
 use borrow.Author.Tests.{eqb-true, eqb-false, ltb-true, eq-eqb}
 use Rattle.resource.specs.Format.{formatHeld}
 use Rattle.resource.specs.declared.types.BindGroupLayoutEntry.{BindGroupLayoutEntry}
-use Rattle.resource.proofs.Truth.{first, second, by-test}
+use Rattle.word.proofs.Truth.{first, second, by-test}
 use Rattle.lists.specs.Meaning.{Layout, entryNth, emptyEntry, pushed, joinBit, joined}
 use Rattle.lists.specs.Format.{entryFits, layoutGood}
 use Rattle.lists.proofs.Records.{every-nth}

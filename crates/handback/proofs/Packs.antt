@@ -5,7 +5,7 @@ use mathlib.Core.Bool.{true}
 use mathlib.Core.List.{List, [], _∷_}
 use Rattle.resource.specs.Rules.{handBack}
 use Rattle.resource.specs.declared.types.Resource.{Resource}
-use Rattle.resource.proofs.Truth.{first, second}
+use Rattle.word.proofs.Truth.{first, second}
 use Rattle.lists.proofs.Records.{first-passes, rest-passes}
 use Rattle.interface.specs.Meaning.{EntryPoint, Interface}
 use Rattle.interface.specs.Reads.{entryNth}

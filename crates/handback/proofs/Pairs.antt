@@ -15,7 +15,7 @@ use Rattle.resource.specs.declared.types.ResourceType.{ResourceType}
 use Rattle.resource.specs.declared.types.ResourceType.the-variants as Res
 use Rattle.resource.specs.declared.types.Derived.{Derived}
 use Rattle.resource.specs.declared.types.Derived.the-variants as Der
-use Rattle.resource.proofs.Truth.{first, second, by-test, never}
+use Rattle.word.proofs.Truth.{first, second, by-test, never}
 use Rattle.lists.specs.Meaning.{Layout, distinctEntries, every}
 use Rattle.lists.proofs.Records.{first-passes, rest-passes}
 use Rattle.interface.specs.Format.{member, isTexture, isSampler, ofType, pairGood}

@@ -17,7 +17,7 @@ use Rattle.resource.specs.declared.types.Resource.{Resource}
 use Rattle.resource.specs.declared.types.ResourceType.{ResourceType}
 use Rattle.resource.specs.declared.types.ResourceType.the-variants as Res
 use Rattle.resource.proofs.HandBack.{derived-accepted}
-use Rattle.resource.proofs.Truth.{by-test}
+use Rattle.word.proofs.Truth.{by-test}
 use Rattle.lists.specs.Meaning.{Layout, Sizes, findEntry, distinctEntries, sizePlaces, sizeHas, raiseAt, samePlace, sizeRecord, fits, recorded}
 use Rattle.lists.specs.declared.types.SizeRecord.{SizeRecord}
 use Rattle.lists.specs.declared.types.Found.the-variants.{At}

@@ -5,7 +5,7 @@ use mathlib.Core.Bool.{true}
 use mathlib.Core.List.{List, [], _∷_, _++_}
 use lib.Dec.{eqb}
 use Rattle.word.specs.Answers.{accepted}
-use Rattle.resource.proofs.Truth.{first}
+use Rattle.word.proofs.Truth.{first}
 use Rattle.lists.specs.Meaning.{Layout}
 use Rattle.lists.specs.Format.{layoutFiled, layoutGood, decodeLayout, encodeLayout, decodeSizes, decodeStage, encodeStage}
 use Rattle.lists.proofs.LayoutLists.{good-decode, filed-encode, decode-encode}

@@ -13,7 +13,7 @@ use lib.Seq.{take-suc-set}
 use Rattle.word.specs.Words.{wordAt, kindOf, bits, bit}
 use Rattle.word.specs.Parse.{Parsed, fault, got, one, several, behind, restAt}
 use Rattle.word.proofs.Parse.{Yields, yields-next, yields-pick, first-of, others-of}
-use Rattle.varying.proofs.Checks.{first, second}
+use Rattle.word.proofs.Truth.{first, second}
 use Rattle.varying.specs.Format.{payloadFiled}
 use Rattle.resource.specs.declared.types.Resource.{Resource}
 use Rattle.interface.specs.Meaning.{EntryPoint}

@@ -18,7 +18,7 @@ use Rattle.interface.specs.Meaning.{Interface}
 use Rattle.interface.specs.Format.{ofWord, editionFiled, totalsFiled, distinctNames, readEntryPoint, readPack, torn, decode, decodedNumber, whole, body}
 use Rattle.interface.specs.Walks.{onward, word, thence, listed, packResources, pairRoles, roleTable, distinctHeads, Headed, entriesBehind, recordsBehind}
 use Rattle.interface.proofs.CheckRecords.{listed-long}
-use Rattle.varying.proofs.Checks.{first, second}
+use Rattle.word.proofs.Truth.{first, second}
 use Rattle.interface.proofs.CheckSteps.{step-stop, step-go, word-stop, word-go, word-in}
 use Rattle.interface.proofs.CheckWalks.{on-word, on-step}
 use Rattle.interface.proofs.CheckEntries.{distinct-named}

@@ -13,7 +13,7 @@ use Rattle.word.specs.Choice.{pick}
 use Rattle.word.specs.Words.{wordAt, contentOf, bits}
 use Rattle.word.specs.Parse.{one, several, behind, restAt, Rest}
 use Rattle.word.proofs.Parse.{one-in}
-use Rattle.varying.proofs.Checks.{second}
+use Rattle.word.proofs.Truth.{second}
 use Rattle.interface.specs.Format.{ofWord, indexFiled, contents, member, isTexture, isSampler, ofType, pairFiled}
 use Rattle.interface.proofs.CheckSteps.{step-stop, steps}
 use Rattle.interface.specs.Walks.{marked, pairRole, pairRoles, roleTable, pairMarked, varyingListsBehind, listsBehind}

@@ -13,7 +13,7 @@ use Rattle.word.specs.Choice.{pick}
 use Rattle.word.specs.Words.{wordAt, kindOf, bits}
 use Rattle.word.specs.Parse.{fault, got, next, one, Rest, behind, restAt}
 use Rattle.word.proofs.Parse.{rest-from, first-of, others-of, one-fault, one-got, one-in, went, stopped, Yields, yields-next}
-use Rattle.varying.proofs.Checks.{first, second}
+use Rattle.word.proofs.Truth.{first, second}
 use Rattle.varying.specs.Format.{locationFiled, varFiled}
 use Rattle.interface.specs.Format.{builtInFiled, builtInOf, readVarying, local, isClip}
 use Rattle.interface.specs.Walks.{thence, clipOf, varyingsBehind}

@@ -16,7 +16,7 @@ use Rattle.resource.specs.declared.types.ResourceType.{ResourceType}
 use Rattle.resource.proofs.CodeLaws.{flag-most}
 use Rattle.resource.proofs.EntryFormat.{flag-read}
 use Rattle.varying.specs.Format.{payloadFiled, payloadWord, payloadHeld}
-use Rattle.varying.proofs.Checks.{first, second}
+use Rattle.word.proofs.Truth.{first, second}
 use Rattle.varying.proofs.Joined.{payload-filed, payload-read}
 use Rattle.interface.specs.Meaning.{EntryPoint}
 use Rattle.interface.specs.Format.{stageAt, stageCode, topologyAt, topologyCode, readWorkgroup, workgroupWords, readMesh, meshWords, meshFlag, headFiled, headWord}

@@ -10,7 +10,7 @@ use lib.ListN.{length, take, drop}
 use Rattle.word.specs.Choice.{pick}
 use Rattle.word.specs.Words.{bits}
 use Rattle.word.specs.Parse.{Parsed, fault, got, next, one, several}
-use Rattle.varying.proofs.Checks.{first, second}
+use Rattle.word.proofs.Truth.{first, second}
 use Rattle.interface.specs.Format.{bytesOf, noZero, allZero, nameFiled, nameWords, readName, packName}
 use Rattle.interface.specs.Held.{every, nameHeld}
 use Rattle.interface.proofs.EncodeRecords.{every-first, every-others, words-got, next-got}

@@ -13,7 +13,7 @@ use Rattle.word.specs.Words.{wordAt, kindOf, contentOf, bits, ofKind, sumOf, cl
 use Rattle.word.specs.Parse.{Parsed, fault, got, next, one, several}
 use Rattle.resource.specs.Format.{readResource, resourceWords, resourceHeld}
 use Rattle.resource.proofs.ResourceFormat.{words-read}
-use Rattle.varying.proofs.Checks.{first, second}
+use Rattle.word.proofs.Truth.{first, second}
 use Rattle.interface.specs.Meaning.{EntryPoint, Interface}
 use Rattle.interface.specs.Format.{ofWord, contents, concat, entryPointWords, readEntryPoint, limitsOf, limitWords, recordWords, openWords, readPack, distinctNames, encode, body, whole, torn, decode, Pack}
 use Rattle.interface.specs.Held.{every, content, limitNumbers, entryPointHeld, interfaceHeld}

@@ -10,7 +10,7 @@ use Rattle.word.specs.Choice.{pick}
 use Rattle.word.specs.Words.{kindOf, contentOf, bits, ofKind}
 use Rattle.word.specs.Parse.{Parsed, fault, got, next, one}
 use Rattle.varying.specs.Format.{varHeld, varFiled, varWord, locationFiled}
-use Rattle.varying.proofs.Checks.{first, second}
+use Rattle.word.proofs.Truth.{first, second}
 use Rattle.varying.proofs.Joined.{var-filed, var-read, location-filed, location-read}
 use Rattle.interface.specs.Format.{readVarying, varyingWords, builtInOf, builtInCode, builtInFiled}
 use Rattle.interface.specs.Held.{content, builtInHeld, varyingHeld}

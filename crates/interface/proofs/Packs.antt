@@ -13,7 +13,7 @@ use Rattle.word.specs.Parse.{Parsed, fault, got, one, several}
 use Rattle.resource.specs.Format.{readResource, resourceHeld}
 use Rattle.resource.specs.declared.types.Resource.{Resource}
 use Rattle.resource.proofs.ReadLaws.{read-held}
-use Rattle.resource.proofs.Truth.{first, second, by-test}
+use Rattle.word.proofs.Truth.{first, second, by-test}
 use Rattle.varying.specs.Format.{locationFiled, varFiled, payloadFiled, payloadHeld}
 use Rattle.varying.proofs.Joined.{var-held, payload-held}
 use Rattle.interface.specs.Meaning.{EntryPoint, Interface}

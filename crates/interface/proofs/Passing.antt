@@ -9,7 +9,7 @@ use lib.Dec.{leb}
 use lib.ListN.{length}
 use Rattle.word.specs.Choice.{pick}
 use Rattle.word.specs.Parse.{Parsed, fault, got, next, one, several}
-use Rattle.resource.proofs.Truth.{by-test}
+use Rattle.word.proofs.Truth.{by-test}
 use Rattle.interface.specs.Held.{every}
 
 abbrev pub given : {A : Type 0} → (A → Bool) → Parsed A → Bool

@@ -15,7 +15,7 @@ use Rattle.word.proofs.ParseReads.{Stands, next-then, next-reads, picked, one-s
 use Rattle.resource.specs.Format.{readResource, resource, resourceAt, isBuffer, placeFiled, resourceWordFiled, sizeFiled}
 use Rattle.resource.specs.declared.types.Resource.{Resource}
 use Rattle.resource.proofs.ReadLaws.{type-sizeless}
-use Rattle.varying.proofs.Checks.{first, second}
+use Rattle.word.proofs.Truth.{first, second}
 use Rattle.interface.specs.Meaning.{EntryPoint, Interface}
 use Rattle.interface.specs.Format.{readPack, readEntryPoint, editionFiled, totalsFiled, ofWord, limitsOf, distinctNames, Decoded, Torn, Misfiled, Pack, torn, whole, body, decode, decodedNumber}
 use Rattle.interface.specs.Reads.{interfaceOf}

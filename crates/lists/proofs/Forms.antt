@@ -16,7 +16,7 @@ use Rattle.resource.proofs.ReadLaws.{place-held}
 use Rattle.resource.proofs.EntryFormat.{place-filed, place-read, place-back, entry-filed, entry-read, entry-held, entry-back}
 use Rattle.varying.specs.Format.{varFiled, varOf, varWord, varHeld, locationFiled, locatedOf, locatedWords, locatedHeld}
 use Rattle.varying.specs.declared.Located.{Located}
-use Rattle.varying.proofs.Checks.{first, second, both}
+use Rattle.word.proofs.Truth.{first, second, both}
 use Rattle.varying.proofs.Joined.{var-written, var-held, var-filed, var-read, location-written, location-filed, location-read}
 use Rattle.lists.specs.Format.{readPlace, readEntry, entryGood, entryFits, readSize, sizeGood, sizeWords, sizeHeld, readLocated, locatedGood}
 use Rattle.lists.specs.declared.types.SizeRecord.{SizeRecord}

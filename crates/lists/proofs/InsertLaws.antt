@@ -10,7 +10,7 @@ use borrow.Author.Tests.{eqb-true, eqb-false, ltb-true, ltb-false, eq-eqb, ne-eq
 use Rattle.word.specs.Choice.{pick}
 use Rattle.varying.specs.Format.{locatedHeld}
 use Rattle.varying.specs.declared.Located.{Located}
-use Rattle.varying.proofs.Checks.{by-test}
+use Rattle.word.proofs.Truth.{by-test}
 use Rattle.lists.specs.Meaning.{StageIo, every, rising, varyingAt, isProvided, insert, inserted}
 use Rattle.lists.specs.Format.{outGood}
 use Rattle.lists.specs.declared.types.Provided.the-variants as Pro
@@ -110,6 +110,29 @@ insert-length v (w ∷ vs) h =
 longer-most : (b : Bool) (n : ℕ) → longer b n ≤ n + 1
 longer-most true n = omega arith
 longer-most false n = omega arith
+
+-- ---- a look at the location finds the variable; other locations are as before
+
+pub insert-found : (v : Located) (vs : List Located) → varyingAt (v .location) (insert v vs) ≡ Pro.Var (v .var)
+unfolding insert varyingAt
+insert-found v [] = rw (eq-eqb (v .location) (v .location) refl)
+insert-found v (w ∷ vs) =
+    let same = eq-eqb (v .location) (v .location) refl in
+    insert-cases v w vs
+    (λ b. rw (insert-before v w vs b, same))
+    (λ e. rw (insert-over v w vs e, same))
+    (λ a. rw (insert-behind v w vs (omega arith) (λ e. omega arith), ne-eqb (w .location) (v .location) (λ e. omega arith)) (insert-found v vs))
+
+pub insert-beside : (v : Located) (location : ℕ) (vs : List Located) → (v .location ≡ location → ⊥)
+    → varyingAt location (insert v vs) ≡ varyingAt location vs
+unfolding insert varyingAt
+insert-beside v location [] n = rw (ne-eqb (v .location) location n)
+insert-beside v location (w ∷ vs) n =
+    let other = ne-eqb (v .location) location n in
+    insert-cases v w vs
+    (λ b. rw (insert-before v w vs b, other))
+    (λ e. rw (insert-over v w vs e, other, ne-eqb (w .location) location (λ q. n (e ∙ q))))
+    (λ a. rw (insert-behind v w vs (omega arith) (λ e. omega arith), insert-beside v location vs n))
 
 -- ---- the rules stay
 

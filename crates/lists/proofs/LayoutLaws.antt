@@ -12,7 +12,7 @@ use Rattle.word.specs.Choice.{pick}
 use Rattle.resource.specs.Format.{placeHeld, formatHeld, entryHeld}
 use Rattle.resource.specs.declared.types.ResourceBinding.{ResourceBinding}
 use Rattle.resource.specs.declared.types.BindGroupLayoutEntry.{BindGroupLayoutEntry}
-use Rattle.varying.proofs.Checks.{first, second, both, by-test, never, allBelow, below-all}
+use Rattle.word.proofs.Truth.{first, second, both, by-test, never, allBelow, below-all}
 use Rattle.lists.specs.Meaning.{Layout, every, samePlace, placeFrom, placeIn, distinctPlaces, entryPlaces, entryHas, distinctEntries, findEntry}
 use Rattle.lists.specs.Meaning.{entryNth, emptyEntry, fits, pushed, seesBit, joinBit, seenBy, joinAt, joined}
 use Rattle.lists.specs.Format.{entryFits, layoutGood}

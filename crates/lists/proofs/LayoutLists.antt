@@ -9,7 +9,7 @@ use lib.ListN.{length, drop, length-append}
 use borrow.Author.Tests.{eqb-true, leb-true, eq-eqb, le-leb}
 use Rattle.word.specs.Words.{wordAt, kindOf, bits, ofKind}
 use Rattle.resource.specs.Format.{entryWords, entryOf}
-use Rattle.varying.proofs.Checks.{first, second, both}
+use Rattle.word.proofs.Truth.{first, second, both}
 use Rattle.lists.specs.Meaning.{Layout, every, entryPlaces, distinctEntries}
 use Rattle.lists.specs.Format.{shortEnough, past, records, each, flat, places, groupsOf, countOf, readEntry, entryGood, entryFits, readEntries}
 use Rattle.lists.specs.Format.{layoutHead, layoutFiled, decodeLayout, encodeLayout, layoutGood}

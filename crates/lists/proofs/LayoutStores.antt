@@ -10,7 +10,7 @@ use borrow.Author.Tests.{ltb-true, le-leb, lt-leb}
 use Rattle.word.specs.Words.{wordAt, kindOf, contentOf, bits, ofKind}
 use Rattle.resource.specs.Format.{placeWord, bindingCode, leastSize, entryWords, entryOf, entryHeld}
 use Rattle.resource.specs.declared.types.BindGroupLayoutEntry.{BindGroupLayoutEntry}
-use Rattle.varying.proofs.Checks.{first, second}
+use Rattle.word.proofs.Truth.{first, second}
 use Rattle.lists.specs.Meaning.{Layout, entryHas, entryNth, emptyEntry, fits, pushed, joinBit, seenBy, joinAt, joined}
 use Rattle.lists.specs.Format.{put, past, records, each, flat, countOf, groupsOf, readEntry, readEntries, entryGood, entryFits}
 use Rattle.lists.specs.Format.{layoutFiled, decodeLayout, encodeLayout, layoutGood}

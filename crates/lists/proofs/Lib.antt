@@ -15,7 +15,6 @@ pub mod LayoutStores
 pub mod SizeLaws
 pub mod SizeWays
 pub mod SizeStores
-pub mod StageLaws
 pub mod StageWays
 pub mod InsertLaws
 pub mod OutWords

@@ -13,7 +13,7 @@ use Rattle.word.specs.Words.{wordAt, kindOf, contentOf, bits, ofKind}
 use Rattle.varying.specs.Format.{locatedWords, locatedHeld, varFiled, varHeld, varOf, varWord, payloadHeld, payloadWord, payloadOf}
 use Rattle.varying.specs.declared.Located.{Located}
 use Rattle.varying.specs.declared.Payload.{Payload}
-use Rattle.varying.proofs.Checks.{first, second, by-test}
+use Rattle.word.proofs.Truth.{first, second, by-test}
 use Rattle.varying.proofs.Joined.{payload-written, location-written, var-written, var-filed, var-read}
 use Rattle.lists.specs.Meaning.{StageIo, every, rising, insert, inserted, varyingAt, isProvided}
 use Rattle.lists.specs.Format.{put, past, records, each, flat, countOf, primitiveAt, primitiveCode, readLocated, locatedGood, readVaryings}

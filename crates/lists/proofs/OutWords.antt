@@ -12,7 +12,7 @@ use Rattle.varying.specs.Format.{varFiled, varHeld, varWord, payloadHeld, paylo
 use Rattle.varying.specs.declared.InterfaceVar.{InterfaceVar}
 use Rattle.varying.specs.declared.Payload.{Payload}
 use Rattle.varying.specs.declared.Payload.the-variants as Pay
-use Rattle.varying.proofs.Checks.{first, second}
+use Rattle.word.proofs.Truth.{first, second}
 use Rattle.varying.proofs.Joined.{var-filed}
 use Rattle.lists.specs.Format.{primitiveCode}
 use Rattle.lists.specs.declared.types.PrimitiveIndex.{PrimitiveIndex}

@@ -9,7 +9,7 @@ use lib.ListN.{length, getD}
 use borrow.Author.Tests.{eqb-true, eq-eqb}
 use Rattle.word.specs.Choice.{pick}
 use Rattle.resource.specs.declared.types.ResourceBinding.{ResourceBinding}
-use Rattle.varying.proofs.Checks.{first, second, by-test, never}
+use Rattle.word.proofs.Truth.{first, second, by-test, never}
 use Rattle.lists.specs.Meaning.{samePlace, placeFrom, placeIn, distinctPlaces}
 use Rattle.lists.specs.declared.types.Found.{Found}
 use Rattle.lists.specs.declared.types.Found.the-variants.{At, Nothing}

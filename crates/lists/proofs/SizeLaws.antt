@@ -11,7 +11,7 @@ use borrow.Author.Tests.{ltb-true, lt-ltb, le-leb, leb-true, ne-eqb, eqb-false, 
 use Rattle.word.specs.Choice.{pick}
 use Rattle.resource.specs.Format.{placeHeld}
 use Rattle.resource.specs.declared.types.ResourceBinding.{ResourceBinding}
-use Rattle.varying.proofs.Checks.{first, second, both, by-test, never}
+use Rattle.word.proofs.Truth.{first, second, both, by-test, never}
 use Rattle.lists.specs.Meaning.{Sizes, every, samePlace, placeFrom, placeIn, distinctPlaces, sizePlaces, sizeHas, distinctSizes, sizeAt, raiseAt, sizeRecord, sizeFits, recorded, fits}
 use Rattle.lists.specs.Format.{sizeHeld, sizesGood}
 use Rattle.lists.specs.declared.types.SizeRecord.{SizeRecord}

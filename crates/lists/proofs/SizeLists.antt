@@ -8,7 +8,7 @@ use lib.Dec.{eqb, leb, ltb}
 use lib.ListN.{length, drop, length-append}
 use borrow.Author.Tests.{eqb-true, leb-true, eq-eqb, le-leb}
 use Rattle.word.specs.Words.{wordAt, kindOf, bits, ofKind}
-use Rattle.varying.proofs.Checks.{first, second, both}
+use Rattle.word.proofs.Truth.{first, second, both}
 use Rattle.lists.specs.Meaning.{Sizes, every, distinctSizes}
 use Rattle.lists.specs.Format.{past, records, each, flat, countOf, readSize, sizeGood, sizeWords, sizeHeld, readSizes}
 use Rattle.lists.specs.Format.{sizesHead, sizesFiled, decodeSizes, encodeSizes, sizesGood}

@@ -11,7 +11,7 @@ use borrow.Author.Tests.{eqb-true, le-leb, lt-leb}
 use Rattle.word.specs.Words.{wordAt, kindOf, contentOf, bits, ofKind}
 use Rattle.resource.specs.Format.{placeWord, placeHeld}
 use Rattle.resource.specs.declared.types.ResourceBinding.{ResourceBinding}
-use Rattle.varying.proofs.Checks.{first, second}
+use Rattle.word.proofs.Truth.{first, second}
 use Rattle.lists.specs.Meaning.{Sizes, placeFrom, placeIn, sizePlaces, sizeHas, raiseAt, sizeRecord, sizeFits, recorded, fits}
 use Rattle.lists.specs.Format.{put, past, records, each, flat, countOf, places, readSize, readSizes, sizeGood, sizeWords}
 use Rattle.lists.specs.Format.{sizesFiled, decodeSizes, encodeSizes, sizesGood}

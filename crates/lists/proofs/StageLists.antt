@@ -10,7 +10,7 @@ use borrow.Author.Tests.{eqb-true, leb-true, ltb-true, eq-eqb, le-leb, lt-ltb}
 use Rattle.word.specs.Choice.{pick}
 use Rattle.word.specs.Words.{wordAt, kindOf, bits, ofKind}
 use Rattle.varying.specs.Format.{locatedWords, locatedHeld, payloadFiled, payloadOf, payloadWord, payloadHeld}
-use Rattle.varying.proofs.Checks.{first, second, both, allBelow, below-all}
+use Rattle.word.proofs.Truth.{first, second, both, allBelow, below-all}
 use Rattle.varying.proofs.Joined.{payload-written, payload-held, payload-filed, payload-read}
 use Rattle.lists.specs.Meaning.{StageIo, every, rising}
 use Rattle.lists.specs.Format.{past, records, each, flat, countOf, primitiveAt, primitiveCode, readLocated, locatedGood, readVaryings}

@@ -44,11 +44,6 @@ flat words (a ∷ others) = words a ++ flat words others
 unfoldable pub put : List ℕ → ℕ → List ℕ → List ℕ
 put l at ws = take at l ++ (ws ++ drop (at + length ws) l)
 
--- two words put before as many records of two words, each of which moves up by one
-unfoldable pub slid : ℕ → ℕ → ℕ → List ℕ → List ℕ
-slid zero a b ws = a ∷ b ∷ drop 2 ws
-slid (suc n) a b ws = let rest = slid n (wordAt ws 0) (wordAt ws 1) (drop 2 ws) in a ∷ b ∷ rest
-
 -- a record's place stands in its first word
 abbrev pub readPlace : List ℕ → ResourceBinding
 readPlace ws = placeOf (wordAt ws 0)
@@ -147,10 +142,6 @@ primitiveCode Index.True = 2
 
 abbrev pub readLocated : List ℕ → Located
 readLocated ws = locatedOf (wordAt ws 0) (wordAt ws 1)
-
--- a variable's word at a location
-abbrev pub located : ℕ → ℕ → Located
-located location var = record { location = location; var = varOf var }
 
 abbrev pub locatedGood : List ℕ → Bool
 locatedGood ws = locationFiled (wordAt ws 0) && varFiled (wordAt ws 1)

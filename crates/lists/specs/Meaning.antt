@@ -172,11 +172,6 @@ insert v (w ∷ vs) =
     let rest = insert v vs in
     pick (ltb (v .location) (w .location)) (v ∷ w ∷ vs) (pick (eqb (v .location) (w .location)) (v ∷ vs) (w ∷ rest))
 
--- where a variable of a location goes: how many before it have a lower one
-unfoldable pub slotOf : ℕ → List Located → ℕ
-slotOf location [] = 0
-slotOf location (v ∷ vs) = let rest = suc (slotOf location vs) in pick (ltb (v .location) location) rest 0
-
 abbrev pub isProvided : Provided → Bool
 isProvided (Pro.Var v) = true
 isProvided Pro.Missing = false
@@ -190,7 +185,3 @@ inserted v S =
       varyings = insert v (S .varyings);
       room = pick (isProvided (varyingAt (v .location) (S .varyings))) (S .room) (drop 2 (S .room));
     }
-
--- a list that holds no variables yet, written over the first two words
-abbrev pub begun : PrimitiveIndex → Payload → List ℕ → StageIo
-begun primitive payload ws = record { primitive = primitive; payload = payload; varyings = []; room = drop 2 ws }

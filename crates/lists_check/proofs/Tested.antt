@@ -15,7 +15,7 @@ use Rattle.resource.proofs.EntryFormat.{entry-held}
 use Rattle.varying.specs.Format.{varFiled, varOf, locatedHeld, payloadOf, payloadHeld}
 use Rattle.varying.specs.declared.InterfaceVar.{InterfaceVar}
 use Rattle.varying.specs.declared.Payload.{Payload}
-use Rattle.varying.proofs.Checks.{first, second, both}
+use Rattle.word.proofs.Truth.{first, second, both}
 use Rattle.varying.proofs.Joined.{var-held, payload-held}
 use Rattle.lists.specs.Meaning.{Layout, entryPlaces, entryHas, findEntry, foundBelow}
 use Rattle.lists.specs.Format.{countOf, entryFits, readLocated, outFiled, decodeStage}

@@ -21,7 +21,7 @@ use Rattle.resource.specs.declared.types.BindGroupLayoutEntry.{BindGroup
 use Rattle.resource.specs.declared.types.BindingUse.{BindingUse}
 use Rattle.resource.specs.declared.types.Derived.{Derived}
 use Rattle.resource.specs.declared.types.Derived.the-variants as Der
-use Rattle.resource.proofs.Truth.{second, never}
+use Rattle.word.proofs.Truth.{second, never}
 use Rattle.resource.proofs.ReadLaws.{read-at, read-held}
 use Rattle.resource.proofs.HandBack.{derived-held}
 

@@ -25,7 +25,7 @@ use Rattle.resource.specs.declared.types.StorageTextureAccess.the-varian
 use Rattle.resource.specs.declared.types.BindingType.{BindingType}
 use Rattle.resource.specs.declared.types.BindingType.the-variants as Bind
 use Rattle.resource.specs.declared.types.BindGroupLayoutEntry.{BindGroupLayoutEntry}
-use Rattle.resource.proofs.Truth.{first, second, or-right, by-test, never, codes-back}
+use Rattle.word.proofs.Truth.{first, second, or-right, by-test, never, codes-back}
 use Rattle.resource.proofs.CodeLaws.{flag-most, sample-most, view-most, access-most, buffer-most, code-fits, least-fits}
 use Rattle.resource.proofs.ReadLaws.{place-held}
 

@@ -28,7 +28,7 @@ use Rattle.resource.specs.declared.types.BindingUse.{BindingUse}
 use Rattle.resource.specs.declared.types.BindingUse.the-variants as Use
 use Rattle.resource.specs.declared.types.Derived.{Derived}
 use Rattle.resource.specs.declared.types.Derived.the-variants as Der
-use Rattle.resource.proofs.Truth.{first, second, by-test, never}
+use Rattle.word.proofs.Truth.{first, second, by-test, never}
 
 -- ---- ranges
 

@@ -1,4 +1,3 @@
-pub mod Truth
 pub mod UseLaws
 pub mod DeriveLaws
 pub mod ResourceLaws

@@ -12,7 +12,7 @@ use Rattle.resource.specs.Rules.{storable}
 use Rattle.resource.specs.Format.{placeFiled, placeOf, placeHeld, typeCode, spaceAt, spaceHeld, bufferFiled, storageFiled, resourceTypeFiled, resourceWordFiled}
 use Rattle.resource.specs.Format.{sizeFiled, isBuffer, resource, resourceTypeOf, readResource, resourceAt, typeHeld, resourceHeld}
 use Rattle.resource.specs.declared.types.Resource.{Resource}
-use Rattle.resource.proofs.Truth.{first, second, by-test, never}
+use Rattle.word.proofs.Truth.{first, second, by-test, never}
 
 -- a fault is no resource
 no-fault : {P : Type 0} (r : Resource) (rest : List ℕ) → fault ≡ got r rest → P

@@ -22,7 +22,7 @@ use Rattle.resource.specs.declared.types.ImageClass.the-variants as Clas
 use Rattle.resource.specs.declared.types.ResourceType.{ResourceType}
 use Rattle.resource.specs.declared.types.ResourceType.the-variants as Res
 use Rattle.resource.specs.declared.types.Resource.{Resource}
-use Rattle.resource.proofs.Truth.{first, second, by-test, codes-back}
+use Rattle.word.proofs.Truth.{first, second, by-test, codes-back}
 use Rattle.resource.proofs.CodeLaws.{flag-most}
 use Rattle.resource.proofs.ReadLaws.{read-cases, type-cases, storage-parts}
 use Rattle.resource.proofs.EntryFormat.{field, flag-read, flag-back, place-filed, place-read, place-back}

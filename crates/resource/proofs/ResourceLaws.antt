@@ -22,7 +22,7 @@ use Rattle.resource.specs.declared.types.ImageClass.the-variants as Clas
 use Rattle.resource.specs.declared.types.ResourceType.{ResourceType}
 use Rattle.resource.specs.declared.types.ResourceType.the-variants as Res
 use Rattle.resource.specs.declared.types.Resource.{Resource}
-use Rattle.resource.proofs.Truth.{first, second, by-test}
+use Rattle.word.proofs.Truth.{first, second, by-test}
 
 -- ---- places
 

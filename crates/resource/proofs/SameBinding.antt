@@ -9,7 +9,7 @@ use Rattle.resource.specs.Format.{bindingCode, leastSize, sameBinding, f
 use Rattle.resource.specs.declared.types.BindingType.{BindingType}
 use Rattle.resource.specs.declared.types.BindingUse.{BindingUse}
 use Rattle.resource.specs.declared.types.BindingUse.the-variants as Use
-use Rattle.resource.proofs.Truth.{first, second}
+use Rattle.word.proofs.Truth.{first, second}
 use Rattle.resource.proofs.EntryFormat.{type-read}
 
 -- the same where and, for held types, only where they are equal

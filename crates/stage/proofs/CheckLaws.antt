@@ -12,7 +12,7 @@ use Rattle.word.specs.Words.{wordAt, bits}
 use Rattle.word.specs.Answers.{accepted, refused}
 use Rattle.word.specs.declared.answer.Answer.{Answer}
 use Rattle.resource.specs.declared.types.Resource.{Resource}
-use Rattle.resource.proofs.Truth.{first, second}
+use Rattle.word.proofs.Truth.{first, second}
 use Rattle.lists.specs.Meaning.{Layout, Sizes, StageIo, every}
 use Rattle.lists.specs.Format.{layoutFiled, sizesFiled, stageFiled, decodeLayout, decodeSizes, decodeStage, encodeLayout, encodeSizes, encodeStage}
 use Rattle.lists.proofs.LayoutLists as layouts

@@ -19,7 +19,7 @@ use Rattle.resource.specs.declared.types.TextureSampleType.{TextureSampleType}
 use Rattle.resource.specs.declared.types.TextureSampleType.the-variants as Sample
 use Rattle.resource.specs.declared.types.TextureViewDimension.{TextureViewDimension}
 use Rattle.resource.specs.declared.types.BindGroupLayoutEntry.{BindGroupLayoutEntry}
-use Rattle.resource.proofs.Truth.{first, second}
+use Rattle.word.proofs.Truth.{first, second}
 use Rattle.lists.proofs.Records.{first-passes, rest-passes}
 use Rattle.lists.specs.Meaning.{every, Layout, findEntry, entryNth}
 use Rattle.lists.specs.declared.types.Found.{Found}

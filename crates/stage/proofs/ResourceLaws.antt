@@ -24,7 +24,7 @@ use Rattle.resource.specs.declared.types.BindingUse.{BindingUse}
 use Rattle.resource.specs.declared.types.BindGroupLayoutEntry.{BindGroupLayoutEntry}
 use Rattle.resource.specs.declared.types.Derived.{Derived}
 use Rattle.resource.specs.declared.types.Derived.the-variants as Der
-use Rattle.resource.proofs.Truth.{first, second}
+use Rattle.word.proofs.Truth.{first, second}
 use Rattle.resource.proofs.HandBack.{derived-held}
 use Rattle.lists.specs.Meaning.{Layout, Sizes, entryPlaces, findEntry, foundBelow, entryHas, entryNth, seesBit, fits, pushed, joined, sizeHas, sizeFits, recorded}
 use Rattle.lists.specs.Format.{entryFits}

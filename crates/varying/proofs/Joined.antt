@@ -22,7 +22,7 @@ use Rattle.varying.specs.Format.{locationFiled, varFiled, varOf, varWord
 use Rattle.varying.specs.declared.InterfaceVar.{InterfaceVar}
 use Rattle.varying.specs.declared.Payload.{Payload}
 use Rattle.varying.specs.declared.Payload.the-variants as Pay
-use Rattle.varying.proofs.Checks.{first, second, both, either, allBelow, below-all}
+use Rattle.word.proofs.Truth.{first, second, both, either, allBelow, below-all}
 
 -- ---- codes of shapes and scalar kinds, both ways
 

@@ -1,4 +1,5 @@
 pub mod Tests
+pub mod Truth
 pub mod Sums
 pub mod Parse
 pub mod ParseReads

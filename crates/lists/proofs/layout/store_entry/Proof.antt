@@ -1,4 +1,4 @@
-use Rattle.varying.proofs.Checks.{first, second}
+use Rattle.word.proofs.Truth.{first, second}
 use Rattle.lists.proofs.LayoutStores.{entry-stored, seen-sum}
 use borrow.Author.Needs.{needs}
 use Rattle.lists.proofs.layout.store_entry.Statement.{statement}

@@ -1,4 +1,4 @@
--- Truth values of tests.
+-- Truth values of tests, and a test computed at every number below a bound.
 use Prim.Native.Nat.{ℕ, zero, suc, _<_}
 use native.Mathlib.Omega.{arith}
 use mathlib.Core.Path.{_≡_, refl}
@@ -13,6 +13,13 @@ first false b h = h
 pub second : (a b : Bool) → a && b ≡ true → b ≡ true
 second true b h = h
 second false b h = absurd (false≢true h)
+
+pub both : (a b : Bool) → a ≡ true → b ≡ true → a && b ≡ true
+both a b p q = rw (p, q)
+
+pub either : (a b : Bool) (P : Type 0) → (a ≡ true → P) → (b ≡ true → P) → a || b ≡ true → P
+either true b P f g h = f refl
+either false b P f g h = g h
 
 pub or-right : (a b : Bool) → b ≡ true → a || b ≡ true
 or-right true b h = refl
@@ -31,12 +38,12 @@ abbrev pub allBelow : ℕ → (ℕ → Bool) → Bool
 allBelow zero test = true
 allBelow (suc n) test = test n && allBelow n test
 
-pub below : (n : ℕ) (test : ℕ → Bool) → allBelow n test ≡ true → (c : ℕ) → c < n → test c ≡ true
-below zero test h c k = absurd (omega arith)
-below (suc n) test h c k =
+pub below-all : (n : ℕ) (test : ℕ → Bool) → allBelow n test ≡ true → (c : ℕ) → c < n → test c ≡ true
+below-all zero test h c k = absurd (omega arith)
+below-all (suc n) test h c k =
     by-test (eqb c n) (λ t. rw (eqb-true c n t) (first (test n) (allBelow n test) h))
-    (λ f. let d : c ≡ n → ⊥ = eqb-false c n f in below n test (second (test n) (allBelow n test) h) c (omega arith))
+    (λ f. let d : c ≡ n → ⊥ = eqb-false c n f in below-all n test (second (test n) (allBelow n test) h) c (omega arith))
 
 -- so a code below a bound comes back from what it stands for
 pub codes-back : (n : ℕ) (code : ℕ → ℕ) → allBelow n (λ c. eqb (code c) c) ≡ true → (c : ℕ) → c < n → code c ≡ c
-codes-back n code h c k = eqb-true (code c) c (below n (λ c. eqb (code c) c) h c k)
+codes-back n code h c k = eqb-true (code c) c (below-all n (λ c. eqb (code c) c) h c k)
