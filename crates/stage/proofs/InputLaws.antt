@@ -1,6 +1,7 @@
 -- The ways through the inputs of an entry point.
-use Prim.Native.Nat.{ℕ, _+_, _-_}
-use mathlib.Core.Path.{_≡_, sym, _∙_}
+use Prim.Native.Nat.{ℕ, _+_, _-_, _≤_}
+use native.Mathlib.Omega.{arith}
+use mathlib.Core.Path.{_≡_, refl, sym, _∙_}
 use mathlib.Core.Bool.{Bool, true, false, _||_}
 use mathlib.Core.List.{List}
 use lib.Dec.{eqb}
@@ -22,6 +23,7 @@ use Rattle.interface.specs.Reads.{varying, varyingWidth, varyings, standing}
 use Rattle.interface.specs.declared.types.EntryParts.{EntryParts}
 use Rattle.interface.specs.declared.types.ShaderStage.{ShaderStage}
 use Rattle.interface.specs.declared.types.BuiltIn.{BuiltIn}
+use Rattle.interface.specs.declared.types.BuiltIn.the-variants as In
 use Rattle.interface.specs.declared.types.Varying.{Varying}
 use Rattle.interface.specs.declared.types.Varying.the-variants as Var
 use Rattle.stage.specs.Interfaces.{vertexInput, fragmentInput, inputNumber, metLocal, metBuiltIn, walked, inputStep, inputSteps}
@@ -89,7 +91,30 @@ module _ (stage : ShaderStage) (provided : List Located) (v : Varying) (w : Inpu
   unfolding inputStep
   built-in-met b m hv e h = rw (hv, e, h)
 
+-- a step meets at most one local input
+chosen-locals : (b : Bool) (iv : InterfaceVar) (w : InputWalk) (x y : Answer) → pick b (walked (metLocal iv w) x) (walked w y) .walk .locals ≤ w .locals + 1
+chosen-locals true iv w x y = omega arith
+chosen-locals false iv w x y = omega arith
+
+built-in-locals : (b : BuiltIn) (w : InputWalk) → metBuiltIn b w .locals ≡ w .locals
+built-in-locals (In.Other places) w = refl
+built-in-locals (In.PrimitiveIndex places) w = refl
+built-in-locals (In.DrawIndex places) w = refl
+built-in-locals (In.FragDepth places) w = refl
+built-in-locals (In.ClipDistances size) w = refl
+
+step-locals : (stage : ShaderStage) (provided : List Located) (v : Varying) (w : InputWalk) → inputStep stage provided v w .walk .locals ≤ w .locals + 1
+unfolding inputStep
+step-locals stage provided (Var.Local location iv) w = chosen-locals (eqb (inputNumber stage iv (varyingAt location provided)) 0) iv w _ _
+step-locals stage provided (Var.BuiltIn b) w = omega (arith, built-in-locals b w)
+
 -- ---- each input in order
+
+pub locals-left : (stage : ShaderStage) (provided : List Located) (v : Varying) (w : InputWalk) (s : Walked) (k : ℕ)
+    → s ≡ inputStep stage provided v w → (k ≡ 0 → ⊥) → w .locals + k ≤ 63 → s .walk .locals + (k - 1) ≤ 63
+locals-left stage provided v w s k e n h =
+    let m : s .walk .locals ≤ w .locals + 1 = rw e (step-locals stage provided v w) in
+    omega (arith, m, n, h)
 
 module _ (stage : ShaderStage) (provided : List Located) (ws : List ℕ) (k at : ℕ) (w : InputWalk) (goal : Walked)
     (inv : goal ≡ inputSteps stage provided (varyings k (drop at ws)) w) where
@@ -98,10 +123,10 @@ module _ (stage : ShaderStage) (provided : List Located) (ws : List ℕ) (k at :
     unfolding inputSteps
     inputs-refused n = sym (inv ∙ rw (varyings-left ws k at h, ← d, ← e, ne-eqb (s .answer .number) 0 n))
 
-    pub inputs-onward : (width : ℕ) → s .answer .number ≡ 0 → width ≡ varyingWidth (drop at ws)
-        → goal ≡ inputSteps stage provided (varyings (k - 1) (drop (at + width) ws)) (s .walk)
+    pub inputs-onward : (next : ℕ) → s .answer .number ≡ 0 → next ≡ at + varyingWidth (drop at ws)
+        → goal ≡ inputSteps stage provided (varyings (k - 1) (drop next ws)) (s .walk)
     unfolding inputSteps
-    inputs-onward width z x = inv ∙ rw (varyings-left ws k at h, ← d, ← e, eq-eqb (s .answer .number) 0 z, x)
+    inputs-onward next z x = inv ∙ rw (varyings-left ws k at h, ← d, ← e, eq-eqb (s .answer .number) 0 z, x)
 
   pub inputs-ended : (a : Answer) → k ≡ 0 → a ≡ accepted → walked w a ≡ goal
   unfolding inputSteps

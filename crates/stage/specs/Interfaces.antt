@@ -4,7 +4,7 @@ use Prim.Native.Nat.{ℕ, zero, suc, _+_, _-_, _*_, _/_}
 use mathlib.Core.Bool.{Bool, true, false, not, _&&_, _||_}
 use mathlib.Core.List.{List, [], _∷_}
 use lib.Dec.{eqb, leb, ltb}
-use lib.ListN.{length, drop}
+use lib.ListN.{length, drop, getD}
 use Rattle.word.specs.Choice.{pick, yes}
 use Rattle.word.specs.Answers.{answer, accepted, refused}
 use Rattle.word.specs.declared.answer.Answer.{Answer}
@@ -39,6 +39,10 @@ use Rattle.stage.specs.declared.types.Walked.{Walked}
 use Rattle.stage.specs.declared.types.Summary.{Summary}
 
 -- ---- workgroup size
+
+-- the size whose three dimensions stand in a list
+abbrev pub sizeOf : List ℕ → WorkgroupSize
+sizeOf ds = record { x = getD ds 0 0; y = getD ds 1 0; z = getD ds 2 0 }
 
 -- 'each dimension, then the whole-number product, against limits (40); then 41', with the dimensions as details
 unfoldable pub workgroupUse : WorkgroupSize → ℕ → ℕ → ℕ → ℕ → Answer

@@ -6,7 +6,7 @@ ghost use lib.ListN.{drop};
 ghost use Rattle.word.specs.Choice.{pick};
 ghost use Rattle.resource.specs.Rules.{sameBool};
 ghost use Rattle.lists.specs.Format.{decodeStage};
-ghost use Rattle.interface.specs.Reads.{varyings, standing};
+ghost use Rattle.interface.specs.Reads.{varyingWidth, varyings, standing};
 ghost use Rattle.stage.specs.Interfaces.{vertexInput, fragmentInput, inputNumber, metLocal, metBuiltIn, startWalk, inputStep, inputSteps};
 use crate::types::InputWalk;
 use crate::types::Walked;
@@ -109,7 +109,6 @@ pub fn either(a: bool, b: bool) -> bool
 fn met_local(iv: InterfaceVar, walk: InputWalk) -> InputWalk
     requires { ⌜ walk .locals < 2 ^ 31 ⌝ }
     ensures { λ r. ⌜ r ≡ metLocal iv walk ⌝ }
-    ensures { λ r. ⌜ r .locals ≡ walk .locals + 1 ⌝ }
 {
     InputWalk {
         primitive_index: walk.primitive_index,
@@ -122,7 +121,6 @@ fn met_local(iv: InterfaceVar, walk: InputWalk) -> InputWalk
 // The walk past a built-in input.
 fn met_built_in(built_in: BuiltIn, walk: InputWalk) -> InputWalk
     ensures { λ r. ⌜ r ≡ metBuiltIn «built_in» walk ⌝ }
-    ensures { λ r. ⌜ r .locals ≡ walk .locals ⌝ }
 {
     match built_in {
         BuiltIn::Other { places: _ } => walk,
@@ -143,11 +141,10 @@ fn met_built_in(built_in: BuiltIn, walk: InputWalk) -> InputWalk
     }
 }
 
-// One input: a local one is judged, a built-in one is noted.
-pub fn input_step(stage: ShaderStage, inputs: &[u32], v: Varying, walk: InputWalk) -> Walked
+// One input by value: a local one is judged, a built-in one is noted.
+fn input_value(stage: ShaderStage, inputs: &[u32], v: Varying, walk: InputWalk) -> Walked
     requires { ⌜ walk .locals < 2 ^ 31 ⌝ }
     ensures { λ r. ⌜ r ≡ inputStep stage (decodeStage (now (inputs .entry)) .varyings) v walk ⌝ }
-    ensures { λ r. ⌜ r .walk .locals ≤ walk .locals + 1 ⌝ }
 {
     match v {
         Varying::Local { location, iv } => {
@@ -169,6 +166,25 @@ pub fn input_step(stage: ShaderStage, inputs: &[u32], v: Varying, walk: InputWal
             answer: Answer::accepted(),
         },
     }
+}
+
+// One input: its answer, with the walk altered in place.
+pub fn input_step(stage: ShaderStage, inputs: &[u32], v: Varying, walk: &mut InputWalk) -> Answer
+    requires { ⌜ now walk .locals < 2 ^ 31 ⌝ }
+    ensures { λ r. ⌜ (r ≡ inputStep stage (decodeStage (now (inputs .entry)) .varyings) v (now (walk .entry)) .answer)
+        × (now (walk .exit) ≡ inputStep stage (decodeStage (now (inputs .entry)) .varyings) v (now (walk .entry)) .walk) ⌝ }
+{
+    let step = input_value(stage, inputs, v, *walk);
+    *walk = step.walk;
+    step.answer
+}
+
+// The position behind the input that stands at a position.
+fn past_input(pack: &[u32], at: usize) -> usize
+    requires { ⌜ at < 2 ^ 60 ⌝ }
+    ensures { λ r. ⌜ (r ≡ at + varyingWidth (drop at (now (pack .entry)))) × (r ≤ at + 2) ⌝ }
+{
+    at + varying_width(pack, at)
 }
 
 // Each input in order, until one is refused.
@@ -193,13 +209,11 @@ pub fn input_steps(
     let mut left = n;
     while left != 0 {
         let v = varying_at(pack, at);
-        let step = input_step(stage, inputs, v, walk);
-        let answer = step.answer;
+        let answer = input_step(stage, inputs, v, &mut walk);
         if answer.number != 0 {
-            return step;
+            return Walked { walk, answer };
         }
-        walk = step.walk;
-        at += varying_width(pack, at);
+        at = past_input(pack, at);
         left -= 1;
     }
     Walked {

@@ -12,8 +12,8 @@ met-built-in-spec =
     (λ c. search needs)  -- enum-told-3
     (λ c. search needs)  -- enum-told-4
     (λ c. search needs)  -- enum-told-5
-    (λ c. (search met-at, search needs))  -- returns
-    (λ c. (search met-at, search needs))  -- returns-2
-    (λ c. (search met-at, search needs))  -- returns-3
-    (λ c. (search met-at, search needs))  -- returns-4
-    (λ c. (search met-at, search needs)))  -- returns-5
+    (λ c. search met-at)  -- returns
+    (λ c. search met-at)  -- returns-2
+    (λ c. search met-at)  -- returns-3
+    (λ c. search met-at)  -- returns-4
+    (λ c. search met-at))  -- returns-5

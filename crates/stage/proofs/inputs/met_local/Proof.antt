@@ -9,4 +9,4 @@ met-local-spec =
     (tie.spec
     (λ c κs. search needs)  -- either-requires
     (λ c. search needs)  -- add-t5
-    (λ c. (search met-local, search needs)))  -- returns
+    (λ c. search met-local))  -- returns

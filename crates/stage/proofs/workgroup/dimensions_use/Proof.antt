@@ -1,12 +1,15 @@
 use Rattle.stage.proofs.WorkgroupLaws.{use-large, use-zero, use-good}
 use borrow.Author.Needs.{needs}
-use Rattle.stage.proofs.workgroup.workgroup_use.Statement.{statement}
-use Rattle.stage.proofs.workgroup.workgroup_use.Tie as tie
+use Rattle.stage.proofs.workgroup.dimensions_use.Statement.{statement}
+use Rattle.stage.proofs.workgroup.dimensions_use.Tie as tie
 
-pub workgroup-use-spec : {M : Type 1} → statement M
-workgroup-use-spec =
+pub dimensions-use-spec : {M : Type 1} → statement M
+dimensions-use-spec =
     tie.close
     (tie.spec
+    (λ c. search needs)  -- shared-slice-read-t8
+    (λ c. search needs)  -- shared-slice-read-t10
+    (λ c. search needs)  -- shared-slice-read-t12
     (λ c κs. search needs)  -- too-large-requires
     (λ c κs. search needs)  -- new-requires
     (λ c. search use-large)  -- returns
