@@ -1,3 +1,5 @@
 pub mod Writing
 pub mod Packing
 pub mod Naming
+pub mod Running
+pub mod Reporting

@@ -23,6 +23,7 @@ emptyLayout = encodeLayout (record { groups = 8; entries = []; room = replicate 
 abbrev pub emptyStage : List ℕ
 emptyStage = encodeStage (record { primitive = Index.None; payload = Pay.Absent; varyings = []; room = replicate 126 0 })
 
+-- no sizes are recorded, and there is no room for any: deriving records none
 abbrev pub emptySizes : List ℕ
 emptySizes = encodeSizes (record { records = []; room = [] })
 
@@ -32,6 +33,7 @@ pub record Run : Type 0 where
   pub io : List ℕ
   pub text : List ℕ
 
+-- a run by its parts
 abbrev pub ran : List ℕ → List ℕ → List ℕ → Run
 ran layout io text = record { layout = layout; io = io; text = text }
 
@@ -52,6 +54,7 @@ stageCall pack e layout io =
       depth = 1;
     }
 
+-- what the stage check of one entry point comes to
 unfoldable pub derived : List ℕ → EntryPoint → List ℕ → List ℕ → Outcome
 derived pack e layout io = checkStage (stageCall pack e layout io)
 
@@ -59,6 +62,7 @@ derived pack e layout io = checkStage (stageCall pack e layout io)
 abbrev pub fedOn : Outcome → List ℕ → List ℕ
 fedOn o io = pick (eqb (o .answer .number) 0) (o .out) io
 
+-- a run with one more outcome: the layout it left, the list that is fed on, and its line
 abbrev pub noted : ℕ → Run → Outcome → Run
 noted stage r o = ran (o .layout) (fedOn o (r .io)) (r .text ++ line stage (o .answer))
 
@@ -71,6 +75,7 @@ unfoldable pub runEntries : List ℕ → List EntryPoint → Run → Run
 runEntries pack [] r = r
 runEntries pack (e ∷ es) r = let next = runEntry pack e r in runEntries pack es next
 
+-- before the first entry point
 abbrev pub startRun : Run
 startRun = ran emptyLayout emptyStage []
 
@@ -78,6 +83,7 @@ startRun = ran emptyLayout emptyStage []
 abbrev pub usedWords : List ℕ → List ℕ
 usedWords layout = take (1 + 4 * countOf layout) layout
 
+-- the lines of the stages, then the layout's words
 abbrev pub runText : Run → List ℕ
 runText r = r .text ++ hexLines (usedWords (r .layout))
 
@@ -85,6 +91,7 @@ runText r = r .text ++ hexLines (usedWords (r .layout))
 abbrev pub refusedPack : ℕ → List ℕ
 refusedPack number = line 9 (refused number)
 
+-- a pack's text, by what its words decode to
 abbrev pub decodedText : List ℕ → Decoded → List ℕ
 decodedText pack Torn = refusedPack 1
 decodedText pack Misfiled = refusedPack 2

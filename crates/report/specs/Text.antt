@@ -6,6 +6,7 @@ use lib.Dec.{eqb, ltb}
 use Rattle.word.specs.Choice.{pick}
 use Rattle.word.specs.declared.answer.Answer.{Answer}
 
+-- a word of four bytes, low byte first
 abbrev pub wordOf : ℕ → ℕ → ℕ → ℕ → ℕ
 wordOf a b c d = a + 2 ^ 8 * b + 2 ^ 16 * c + 2 ^ 24 * d
 
@@ -17,9 +18,11 @@ wordsOf (a ∷ b ∷ []) = []
 wordsOf (a ∷ b ∷ c ∷ []) = []
 wordsOf (a ∷ b ∷ c ∷ d ∷ bytes) = wordOf a b c d ∷ wordsOf bytes
 
+-- the byte between two numbers
 abbrev pub space : ℕ
 space = 32
 
+-- the byte that ends a line
 abbrev pub newline : ℕ
 newline = 10
 
@@ -44,6 +47,7 @@ hexHalf h = hexDigit (h / 2 ^ 12 % 16) ∷ hexDigit (h / 2 ^ 8 % 16) ∷ hexDigi
 unfoldable pub hexLine : ℕ → List ℕ
 hexLine w = hexHalf (w / 2 ^ 16) ++ (hexHalf (w % 2 ^ 16) ++ (newline ∷ []))
 
+-- a line for each word
 unfoldable pub hexLines : List ℕ → List ℕ
 hexLines [] = []
 hexLines (w ∷ ws) = hexLine w ++ hexLines ws

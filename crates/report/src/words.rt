@@ -1,4 +1,4 @@
-// A pack's bytes as words, and a name's words as bytes: four bytes to a word, low byte first.
+// A pack's bytes as words: four bytes to a word, low byte first.
 ghost use mathlib.Core.Path.{_≡_};
 ghost use Prim.Native.Nat.{_+_, _*_, _/_, _<_, _≤_, _^_};
 ghost use lib.ListN.{length, getD};

@@ -1,0 +1,17 @@
+use native.Mathlib.Omega.{arith}
+use mathlib.Core.Path.{sym}
+use lib.Seq.{length-take-le}
+use Rattle.report.proofs.Reporting.{used-all, used-some}
+use borrow.Author.Needs.{needs}
+use Rattle.report.proofs.used.Statement.{statement}
+use Rattle.report.proofs.used.Tie as tie
+
+pub used-spec : {M : Type 1} → statement M
+used-spec =
+    tie.close
+    (tie.spec
+    (λ c κs. search needs)  -- index-requires
+    (λ c. search needs)  -- mul-n
+    (λ c. search needs)  -- add-n
+    (λ c. (search used-all, (search needs, sym (length-take-le _ _ (omega arith)))))  -- returns
+    (λ c. (search used-some, (search needs, sym (length-take-le _ _ (omega arith))))))  -- returns-2
