@@ -18,10 +18,10 @@ use Rattle.resource.specs.declared.types.Resource.{Resource}
 use Rattle.resource.specs.declared.types.BindingType.{BindingType}
 use Rattle.resource.specs.declared.types.Derived.{Derived}
 use Rattle.resource.specs.declared.types.Derived.the-variants as Der
-use Rattle.resource.proofs.EntryFormat.{type-read}
+use Rattle.resource.proofs.SameBinding.{same-binding-eq}
 use Rattle.resource.proofs.HandBack.{derived-held}
 use Rattle.word.proofs.Truth.{first, second, by-test, never}
-use Rattle.lists.specs.Meaning.{Layout, Sizes, samePlace, findEntry, entryPlaces, entryHas, entryNth, fits, pushed, joined}
+use Rattle.lists.specs.Meaning.{Layout, Sizes, samePlace, findEntry, entryPlaces, entryHas, entryNth, fits, pushed, seesBit, joined}
 use Rattle.lists.specs.Format.{entryFits, layoutGood}
 use Rattle.lists.specs.declared.types.Found.{Found}
 use Rattle.lists.specs.declared.types.Found.the-variants.{At, Nothing}
@@ -33,19 +33,12 @@ use Rattle.interface.specs.declared.types.ShaderStage.{ShaderStage}
 use Rattle.interface.specs.declared.types.ShaderStage.the-variants as Stage
 use Rattle.interface.specs.declared.types.SamplingPair.{SamplingPair}
 use Rattle.stage.specs.Meaning.{State, state}
+use Rattle.interface.proofs.EncodeEntry.{stage-below}
 use Rattle.stage.specs.Resources.{resourceNth, occupied, vacant, newEntry, placeStep, derivedStep, deriveStep, namedTexture, resourceStep, resourceSteps}
-use Rattle.handback.specs.HandBack.{seesBit}
 use Rattle.handback.proofs.Entries.{find-sound}
 use Rattle.handback.proofs.Growth.{join-sets, good-nth, Grows, grows-refl, grows-trans, grows-pushed, grows-joined}
 
 -- ---- a stage's bit
-
-pub stage-below : (s : ShaderStage) → stageCode s < 5
-stage-below Stage.Vertex = omega arith
-stage-below Stage.Fragment = omega arith
-stage-below Stage.Compute = omega arith
-stage-below Stage.Task = omega arith
-stage-below Stage.Mesh = omega arith
 
 bit-short : (s : ShaderStage) → 2 ^ stageCode s < 32
 bit-short Stage.Vertex = omega arith
@@ -60,15 +53,6 @@ bit-seen Stage.Fragment = refl
 bit-seen Stage.Compute = refl
 bit-seen Stage.Task = refl
 bit-seen Stage.Mesh = refl
-
--- ---- binding types
-
--- types that a layout can hold are told apart by their code and least size
-same-binding-eq : (a b : BindingType) → formatHeld a ≡ true → formatHeld b ≡ true → sameBinding a b ≡ true → a ≡ b
-same-binding-eq a b p q h =
-    let c : bindingCode a ≡ bindingCode b = search (eqb-true, first) in
-    let l : leastSize a ≡ leastSize b = search (eqb-true, second) in
-    cc (type-read a p, type-read b q)
 
 -- ---- a resource that a layout serves
 

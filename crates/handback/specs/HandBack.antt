@@ -14,7 +14,7 @@ use Rattle.resource.specs.declared.types.ResourceType.the-variants as Res
 use Rattle.resource.specs.declared.types.ImageClass.{ImageClass}
 use Rattle.resource.specs.declared.types.ImageClass.the-variants as Class
 use Rattle.resource.specs.declared.types.SampleKind.the-variants as Kind
-use Rattle.lists.specs.Meaning.{Layout, Sizes, entryNth, sizeHas, sizeRecord}
+use Rattle.lists.specs.Meaning.{Layout, Sizes, entryNth, sizeHas, sizeRecord, seesBit}
 use Rattle.lists.specs.Format.{layoutFiled, sizesFiled, decodeLayout, decodeSizes, countOf}
 use Rattle.lists.specs.declared.types.SizeRecord.{SizeRecord}
 use Rattle.interface.specs.Meaning.{EntryPoint, Interface}
@@ -71,9 +71,6 @@ putAgain layout sizes out c =
     }
 
 -- ---- what stands
-
-abbrev pub seesBit : ℕ → ℕ → Bool
-seesBit stage visibility = eqb (visibility / 2 ^ stage % 2) 1
 
 -- the entry at a position of one layout stands at that position of another, 'with its place, its type, least size included, and every
 -- visibility bit it had'

@@ -44,7 +44,7 @@ stage-back Stage.Compute = refl
 stage-back Stage.Task = refl
 stage-back Stage.Mesh = refl
 
-stage-below : (s : ShaderStage) → stageCode s < 5
+pub stage-below : (s : ShaderStage) → stageCode s < 5
 stage-below Stage.Vertex = omega arith
 stage-below Stage.Fragment = omega arith
 stage-below Stage.Compute = omega arith

@@ -61,7 +61,7 @@ byte-same ws from k r b e = rw e
 
 -- ---- a name
 
-bytes-length : (l : List ℕ) → length (bytesOf l) ≡ 4 * length l
+pub bytes-length : (l : List ℕ) → length (bytesOf l) ≡ 4 * length l
 unfolding bytesOf
 bytes-length [] = refl
 bytes-length (w ∷ l) = omega (arith, bytes-length l)

@@ -10,6 +10,7 @@ use Rattle.word.specs.Words.{wordAt, bits}
 use Rattle.interface.specs.Format.{bytesOf, nameWords}
 use Rattle.interface.specs.Reads.{nameAt}
 use Rattle.interface.specs.Parts.{workgroupAt}
+use Rattle.interface.proofs.ReadsNames.{bytes-length}
 use Rattle.report.specs.Written.{Wrote}
 use Rattle.report.proofs.Writing.{wrote-none, wrote-more, wrote-length}
 
@@ -22,11 +23,6 @@ bytes-append : (xs ys : List ℕ) → bytesOf (xs ++ ys) ≡ bytesOf xs ++ bytes
 unfolding bytesOf
 bytes-append [] ys = refl
 bytes-append (x ∷ xs) ys = rw (bytes-append xs ys)
-
-bytes-length : (l : List ℕ) → length (bytesOf l) ≡ 4 * length l
-unfolding bytesOf
-bytes-length [] = refl
-bytes-length (w ∷ l) = omega (arith, bytes-length l)
 
 -- the loop over the words: its start, one word more, its end
 pub bytes-begin : (t ws : List ℕ) (from : ℕ) → Wrote t t 0 0 (bytesOf (take 0 (drop from ws)))
