@@ -1,9 +1,9 @@
 -- P1 to P11 of document 01, 'Deliveries', as one list.
 use Prim.Native.Nat.{ℕ, zero, suc, _+_}
-use mathlib.Core.Bool.{Bool, true, false}
+use mathlib.Core.Bool.{true, false}
 use mathlib.Core.List.{List, [], _∷_}
 use lib.ListN.{replicate}
-use Rattle.word.specs.Answers.{answer, accepted, refused}
+use Rattle.word.specs.Answers.{answer, accepted}
 use Rattle.numeric.specs.Rules.{numeric}
 use Rattle.numeric.specs.declared.types.NumericType.{NumericType}
 use Rattle.numeric.specs.declared.types.NumericDimension.the-variants as D
@@ -26,10 +26,9 @@ use Rattle.resource.specs.declared.types.BindGroupLayoutEntry.{BindGroupLayoutE
 use Rattle.varying.specs.declared.InterfaceVar.{InterfaceVar}
 use Rattle.varying.specs.declared.Located.{Located}
 use Rattle.varying.specs.declared.Payload.the-variants as Pay
-use Rattle.lists.specs.Meaning.{Layout, Sizes, StageIo}
 use Rattle.lists.specs.Format.{encodeLayout, encodeSizes, encodeStage}
 use Rattle.lists.specs.declared.types.PrimitiveIndex.the-variants as Index
-use Rattle.interface.specs.Meaning.{EntryPoint, Interface}
+use Rattle.interface.specs.Meaning.{EntryPoint}
 use Rattle.interface.specs.Format.{encode, stageCode}
 use Rattle.interface.specs.declared.types.ShaderStage.{ShaderStage}
 use Rattle.interface.specs.declared.types.ShaderStage.the-variants as Stage

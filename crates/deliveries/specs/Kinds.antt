@@ -1,10 +1,9 @@
 -- What a delivery says, and when it holds by the definitions that the contracts cite.
-use Prim.Native.Nat.{ℕ, zero, suc}
-use mathlib.Core.Bool.{Bool, true, false, not, _&&_}
+use Prim.Native.Nat.{ℕ}
+use mathlib.Core.Bool.{Bool, true, false, _&&_}
 use mathlib.Core.List.{List, [], _∷_}
 use lib.Dec.{eqb}
-use lib.ListN.{length, take}
-use Rattle.word.specs.Choice.{pick, yes}
+use Rattle.word.specs.Choice.{pick}
 use Rattle.word.specs.declared.answer.Answer.{Answer}
 use Rattle.numeric.specs.Rules.{fits}
 use Rattle.numeric.specs.declared.types.NumericType.{NumericType}

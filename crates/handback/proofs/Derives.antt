@@ -12,7 +12,7 @@ use Rattle.word.specs.Choice.{pick, yes}
 use Rattle.word.specs.Answers.{accepted}
 use Rattle.word.specs.declared.answer.Answer.{Answer}
 use Rattle.resource.specs.Rules.{deriveBindingType}
-use Rattle.resource.specs.Format.{placeHeld, typeHeld, resourceHeld, formatHeld, bindingCode, leastSize, sameBinding}
+use Rattle.resource.specs.Format.{placeHeld, typeHeld, resourceHeld, sameBinding}
 use Rattle.resource.specs.Answers.{bindingAnswer}
 use Rattle.resource.specs.declared.types.Resource.{Resource}
 use Rattle.resource.specs.declared.types.BindingType.{BindingType}

@@ -1,9 +1,9 @@
 -- Demand 3: derived stage checks over a layout list, and their calls put again as provided over the finished list.
-use Prim.Native.Nat.{ℕ, zero, suc, _+_, _*_, _/_, _%_, _^_, _<_}
+use Prim.Native.Nat.{ℕ, suc, _+_, _*_, _<_}
 use mathlib.Core.Path.{_≡_}
 use mathlib.Core.Bool.{Bool, true, false, not, _&&_}
 use mathlib.Core.List.{List, [], _∷_, _++_}
-use lib.Dec.{eqb, leb, ltb}
+use lib.Dec.{leb, ltb}
 use lib.ListN.{length, take}
 use Rattle.word.specs.Choice.{pick}
 use Rattle.word.specs.Answers.{accepted}
@@ -11,10 +11,9 @@ use Rattle.resource.specs.Rules.{handBack}
 use Rattle.resource.specs.declared.types.Resource.{Resource}
 use Rattle.resource.specs.declared.types.ResourceType.{ResourceType}
 use Rattle.resource.specs.declared.types.ResourceType.the-variants as Res
-use Rattle.resource.specs.declared.types.ImageClass.{ImageClass}
 use Rattle.resource.specs.declared.types.ImageClass.the-variants as Class
 use Rattle.resource.specs.declared.types.SampleKind.the-variants as Kind
-use Rattle.lists.specs.Meaning.{Layout, Sizes, entryNth, sizeHas, sizeRecord, seesBit}
+use Rattle.lists.specs.Meaning.{Layout, entryNth, sizeHas, sizeRecord, seesBit}
 use Rattle.lists.specs.Format.{layoutFiled, sizesFiled, decodeLayout, decodeSizes, countOf}
 use Rattle.lists.specs.declared.types.SizeRecord.{SizeRecord}
 use Rattle.interface.specs.Meaning.{EntryPoint, Interface}

@@ -1,27 +1,26 @@
 -- An entry point that was written is read.
-use Prim.Native.Nat.{ℕ, zero, suc, _+_, _*_, _/_, _%_, _^_, _<_, _≤_}
+use Prim.Native.Nat.{ℕ, zero, suc, _+_, _*_, _^_, _<_, _≤_}
 use native.Mathlib.Omega.{arith}
-use mathlib.Core.Path.{_≡_, refl, sym, ap, _∙_}
-use mathlib.Core.Bool.{Bool, true, false, _&&_}
+use mathlib.Core.Path.{_≡_, refl, ap}
+use mathlib.Core.Bool.{Bool, true, _&&_}
 use mathlib.Core.List.{List, [], _∷_, _++_, append-assoc}
 use borrow.Author.Tests.{ltb-true, lt-ltb, leb-true, le-leb}
 use lib.Dec.{eqb, leb, ltb}
 use lib.ListN.{length}
-use Rattle.word.specs.Choice.{pick}
 use Rattle.word.specs.Words.{kindOf, contentOf, bits, bit, ofKind}
-use Rattle.word.specs.Parse.{Parsed, fault, got, next, one, several}
+use Rattle.word.specs.Parse.{got, one, several}
 use Rattle.resource.specs.Format.{flag}
 use Rattle.resource.specs.declared.types.Resource.{Resource}
 use Rattle.resource.specs.declared.types.ResourceType.{ResourceType}
 use Rattle.resource.proofs.CodeLaws.{flag-most}
 use Rattle.resource.proofs.EntryFormat.{flag-read}
-use Rattle.varying.specs.Format.{payloadFiled, payloadWord, payloadHeld}
+use Rattle.varying.specs.Format.{payloadWord, payloadHeld}
 use Rattle.word.proofs.Truth.{first, second}
 use Rattle.varying.proofs.Joined.{payload-filed, payload-read}
 use Rattle.interface.specs.Meaning.{EntryPoint}
 use Rattle.interface.specs.Format.{stageAt, stageCode, topologyAt, topologyCode, readWorkgroup, workgroupWords, readMesh, meshWords, meshFlag, headFiled, headWord}
-use Rattle.interface.specs.Format.{countsFiled, countsWord, indexFiled, indexWords, contents, ofType, member, pairOf, pairGood, pairFiled, pairWords, pairsOf, concat}
-use Rattle.interface.specs.Format.{isTexture, isSampler, packName, varyingWords, entryPointWords, readEntryPoint, readVarying, clips}
+use Rattle.interface.specs.Format.{countsWord, indexFiled, indexWords, contents, ofType, pairGood, pairFiled, pairWords, pairsOf, concat}
+use Rattle.interface.specs.Format.{packName, varyingWords, entryPointWords, readEntryPoint, readVarying, clips}
 use Rattle.interface.specs.Held.{every, content, nameHeld, workgroupHeld, meshHeld, varyingHeld, entryPointHeld}
 use Rattle.interface.specs.declared.types.ShaderStage.{ShaderStage}
 use Rattle.interface.specs.declared.types.ShaderStage.the-variants as Stage

@@ -1,17 +1,16 @@
 -- A name that was written is read.
-use Prim.Native.Nat.{ℕ, zero, suc, _+_, _*_, _/_, _%_, _^_, _<_, _≤_}
+use Prim.Native.Nat.{ℕ, _+_, _*_, _^_, _<_}
 use native.Mathlib.Omega.{arith}
-use mathlib.Core.Path.{_≡_, refl, sym, ap, _∙_}
-use mathlib.Core.Bool.{Bool, true, false, _&&_}
+use mathlib.Core.Path.{_≡_, refl}
+use mathlib.Core.Bool.{Bool, true, _&&_}
 use mathlib.Core.List.{List, [], _∷_, _++_}
 use borrow.Author.Tests.{ltb-true}
 use lib.Dec.{leb, ltb}
 use lib.ListN.{length, take, drop}
-use Rattle.word.specs.Choice.{pick}
 use Rattle.word.specs.Words.{bits}
-use Rattle.word.specs.Parse.{Parsed, fault, got, next, one, several}
+use Rattle.word.specs.Parse.{got}
 use Rattle.word.proofs.Truth.{first, second}
-use Rattle.interface.specs.Format.{bytesOf, noZero, allZero, nameFiled, nameWords, readName, packName}
+use Rattle.interface.specs.Format.{bytesOf, noZero, allZero, nameWords, readName, packName}
 use Rattle.interface.specs.Held.{every, nameHeld}
 use Rattle.interface.proofs.EncodeRecords.{every-first, every-others, words-got, next-got}
 

@@ -1,21 +1,19 @@
 -- A pack that was written is accepted, and read as what was written.
-use Prim.Native.Nat.{ℕ, zero, suc, _+_, _-_, _*_, _/_, _%_, _^_, _<_, _≤_}
+use Prim.Native.Nat.{ℕ, suc, _+_, _-_, _*_, _%_, _^_, _<_, _≤_}
 use native.Mathlib.Omega.{arith}
-use mathlib.Core.Path.{_≡_, refl, sym, ap, _∙_}
-use mathlib.Core.Bool.{Bool, true, false, not, _&&_, _||_}
+use mathlib.Core.Path.{_≡_, refl, ap}
+use mathlib.Core.Bool.{true, false}
 use mathlib.Core.List.{List, [], _∷_, _++_, append-assoc, append-nil}
 use borrow.Author.Tests.{leb-true, le-leb, le-ltb, eq-eqb}
-use lib.Dec.{eqb, leb, ltb}
-use lib.ListN.{length, take, length-append}
+use lib.ListN.{length, length-append}
 use lib.Seq.{take-at, getD-at}
-use Rattle.word.specs.Choice.{pick}
-use Rattle.word.specs.Words.{wordAt, kindOf, contentOf, bits, ofKind, sumOf, closingSum}
-use Rattle.word.specs.Parse.{Parsed, fault, got, next, one, several}
+use Rattle.word.specs.Words.{wordAt, kindOf, bits, ofKind, sumOf, closingSum}
+use Rattle.word.specs.Parse.{got, one, several}
 use Rattle.resource.specs.Format.{readResource, resourceWords, resourceHeld}
 use Rattle.resource.proofs.ResourceFormat.{words-read}
 use Rattle.word.proofs.Truth.{first, second}
-use Rattle.interface.specs.Meaning.{EntryPoint, Interface}
-use Rattle.interface.specs.Format.{ofWord, contents, concat, entryPointWords, readEntryPoint, limitsOf, limitWords, recordWords, openWords, readPack, distinctNames, encode, body, whole, torn, decode, Pack}
+use Rattle.interface.specs.Meaning.{Interface}
+use Rattle.interface.specs.Format.{ofWord, contents, concat, entryPointWords, readEntryPoint, limitsOf, limitWords, recordWords, openWords, readPack, distinctNames, encode, body, torn, decode, Pack}
 use Rattle.interface.specs.Held.{every, content, limitNumbers, entryPointHeld, interfaceHeld}
 use Rattle.interface.specs.declared.types.Limits.{Limits}
 use Rattle.interface.proofs.EncodeRecords.{words-got, records-got}

@@ -1,10 +1,10 @@
 -- What was written is read: one word, words, records.
-use Prim.Native.Nat.{ℕ, zero, suc, _+_, _<_, _≤_}
-use mathlib.Core.Path.{_≡_, refl, sym, ap, _∙_}
-use mathlib.Core.Bool.{Bool, true, false, _&&_}
+use Prim.Native.Nat.{ℕ}
+use mathlib.Core.Path.{_≡_, refl}
+use mathlib.Core.Bool.{Bool, true}
 use mathlib.Core.List.{List, [], _∷_, _++_, append-assoc}
 use lib.ListN.{length}
-use Rattle.word.specs.Parse.{Parsed, fault, got, next, one, several}
+use Rattle.word.specs.Parse.{Parsed, got, next, one, several}
 use Rattle.word.proofs.Truth.{first, second}
 use Rattle.interface.specs.Format.{concat}
 use Rattle.interface.specs.Held.{every}

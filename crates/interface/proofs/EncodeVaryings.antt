@@ -1,18 +1,17 @@
 -- A varying that was written is read.
-use Prim.Native.Nat.{ℕ, zero, suc, _+_, _*_, _/_, _%_, _^_, _<_, _≤_}
+use Prim.Native.Nat.{ℕ, _+_, _*_, _^_, _<_, _≤_}
 use native.Mathlib.Omega.{arith}
-use mathlib.Core.Path.{_≡_, refl, sym, ap, _∙_}
-use mathlib.Core.Bool.{Bool, true, false, _&&_}
-use mathlib.Core.List.{List, [], _∷_, _++_}
+use mathlib.Core.Path.{_≡_}
+use mathlib.Core.Bool.{true}
+use mathlib.Core.List.{List, _∷_, _++_}
 use borrow.Author.Tests.{ltb-true, lt-ltb}
-use lib.Dec.{eqb, ltb}
-use Rattle.word.specs.Choice.{pick}
-use Rattle.word.specs.Words.{kindOf, contentOf, bits, ofKind}
-use Rattle.word.specs.Parse.{Parsed, fault, got, next, one}
-use Rattle.varying.specs.Format.{varHeld, varFiled, varWord, locationFiled}
+use lib.Dec.{ltb}
+use Rattle.word.specs.Words.{kindOf, bits, ofKind}
+use Rattle.word.specs.Parse.{got}
+use Rattle.varying.specs.Format.{varHeld}
 use Rattle.word.proofs.Truth.{first, second}
 use Rattle.varying.proofs.Joined.{var-filed, var-read, location-filed, location-read}
-use Rattle.interface.specs.Format.{readVarying, varyingWords, builtInOf, builtInCode, builtInFiled}
+use Rattle.interface.specs.Format.{readVarying, varyingWords, builtInOf}
 use Rattle.interface.specs.Held.{content, builtInHeld, varyingHeld}
 use Rattle.interface.specs.declared.types.BuiltIn.{BuiltIn}
 use Rattle.interface.specs.declared.types.BuiltIn.the-variants as In

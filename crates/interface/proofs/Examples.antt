@@ -1,10 +1,10 @@
 -- What the definitions say of the pack of document 01's listing: one vertex entry point 'main' with a uniform buffer of 64 bytes at group 0, binding 3.
-use Prim.Native.Nat.{ℕ, zero, suc, _+_, _-_, _%_, _^_}
+use Prim.Native.Nat.{ℕ, _%_, _^_}
 use mathlib.Core.Path.{_≡_, refl}
 use mathlib.Core.Bool.{Bool, true, false}
 use mathlib.Core.List.{List, [], _∷_, _++_}
 use lib.Dec.{eqb}
-use lib.ListN.{length, take, set}
+use lib.ListN.{take, set}
 use Rattle.word.specs.Choice.{pick, yes}
 use Rattle.word.specs.Words.{sumOf, closingSum}
 use Rattle.word.specs.Parse.{several}
@@ -13,8 +13,8 @@ use Rattle.resource.specs.declared.types.AddressSpace.the-variants as Space
 use Rattle.resource.specs.declared.types.ResourceType.the-variants as Res
 use Rattle.varying.specs.Format.{payloadFiled, payloadOf, payloadWord}
 use Rattle.varying.specs.declared.Payload.the-variants as Pay
-use Rattle.interface.specs.Meaning.{EntryPoint, Interface}
-use Rattle.interface.specs.Format.{Decoded, Pack, readName, bytesOf, noZero, allZero, readWorkgroup, readMesh, readVarying, contents, pairsOf, clips, member, ofType, readEntryPoint}
+use Rattle.interface.specs.Meaning.{Interface}
+use Rattle.interface.specs.Format.{Pack, readName, bytesOf, noZero, allZero, readWorkgroup, readMesh, readVarying, contents, pairsOf, clips, member, ofType, readEntryPoint}
 use Rattle.interface.specs.Format.{sameBytes, hasName, distinctNames, readPack, torn, decode, decodedNumber, concat, packName, entryPointWords, recordWords, encode}
 use Rattle.interface.specs.Held.{every, entryPointHeld, interfaceHeld}
 use Rattle.interface.specs.Rules.{onlyFrom, finalizeName}

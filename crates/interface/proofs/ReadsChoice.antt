@@ -1,8 +1,8 @@
 -- The ways of the functions that choose an entry point.
-use Prim.Native.Nat.{ℕ, zero, suc, _+_, _-_, _/_, _%_, _<_, _≤_}
+use Prim.Native.Nat.{ℕ, _+_, _-_, _/_, _%_, _<_, _≤_}
 use native.Mathlib.Omega.{arith}
-use mathlib.Core.Path.{_≡_, refl, sym, ap, _∙_}
-use mathlib.Core.Bool.{Bool, true, false, _&&_}
+use mathlib.Core.Path.{_≡_, refl, sym, _∙_}
+use mathlib.Core.Bool.{Bool, true, false}
 use mathlib.Core.List.{List, [], _∷_}
 use mir.Syntax.{w32}
 use mir.Val.{Fits}
@@ -13,7 +13,7 @@ use Rattle.word.specs.Choice.{pick}
 use Rattle.word.specs.Words.{wordAt, bits}
 use Rattle.word.specs.Answers.{answer, refused}
 use Rattle.word.specs.declared.answer.Answer.{Answer}
-use Rattle.interface.specs.Meaning.{EntryPoint, Interface}
+use Rattle.interface.specs.Meaning.{EntryPoint}
 use Rattle.interface.specs.Format.{stageAt, stageCode, named, sameBytes, Decoded, Torn, Misfiled, Pack, decode, decodedNumber}
 use Rattle.interface.specs.Reads.{nameAt, standing, interfaceOf}
 use Rattle.interface.specs.Rules.{ofStage, findFrom, findEntryPoint, onlyFrom, onlyEntryPoint, onlyAnswer, finalizeName}
@@ -23,7 +23,7 @@ use Rattle.interface.specs.declared.types.Chosen.{Chosen}
 use Rattle.interface.specs.declared.types.Chosen.the-variants as Ch
 use Rattle.interface.proofs.ReadsRecords.{records-left, records-none, records-length, end-left}
 use Rattle.interface.proofs.ReadsParts.{past, head-past, outputs-past, varyings-past}
-use Rattle.interface.proofs.ReadsPack.{Accepted, accepted}
+use Rattle.interface.proofs.ReadsPack.{accepted}
 
 -- ---- an entry point's stage and name
 

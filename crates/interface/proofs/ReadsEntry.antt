@@ -1,22 +1,22 @@
 -- An entry point that was read is the one whose parts stand at the positions that its words give.
-use Prim.Native.Nat.{ℕ, zero, suc, _+_, _<_, _≤_}
+use Prim.Native.Nat.{ℕ, _+_}
 use native.Mathlib.Omega.{arith}
 use native.Mathlib.Nat.{add-zero}
-use mathlib.Core.Path.{_≡_, refl, sym, ap, _∙_}
+use mathlib.Core.Path.{_≡_}
 use mathlib.Core.Bool.{Bool, true, false}
-use mathlib.Core.List.{List, [], _∷_, _++_}
-use lib.Dec.{eqb, leb}
+use mathlib.Core.List.{List}
+use lib.Dec.{leb}
 use lib.ListN.{length, take, drop}
 use Rattle.word.specs.Choice.{pick}
-use Rattle.word.specs.Words.{wordAt, contentOf, bits, bit}
-use Rattle.word.specs.Parse.{Parsed, fault, got, next, one, several}
+use Rattle.word.specs.Words.{wordAt, contentOf}
+use Rattle.word.specs.Parse.{got, one, several}
 use Rattle.word.proofs.ParseReads.{Stands, next-reads, picked, one-reads, several-words, three-words}
 use Rattle.resource.specs.declared.types.Resource.{Resource}
-use Rattle.varying.specs.Format.{payloadFiled, payloadOf}
+use Rattle.varying.specs.Format.{payloadFiled}
 use Rattle.interface.specs.Meaning.{EntryPoint}
-use Rattle.interface.specs.Format.{readVarying, readName, readWorkgroup, readMesh, readEntryPoint, bytesOf, nameWords, nameFiled, ofWord, topologyFiled, headFiled, countsFiled, indexFiled, pairFiled, meshInfo, contents, pairsOf, clips, stageAt}
+use Rattle.interface.specs.Format.{readVarying, readName, readWorkgroup, readMesh, readEntryPoint, bytesOf, nameWords, nameFiled, ofWord, topologyFiled, headFiled, countsFiled, indexFiled, meshInfo, clips}
 use Rattle.interface.specs.Reads.{varying, varyings, standing}
-use Rattle.interface.specs.Parts.{recordsFrom, varyingEnd, varyingsEnd, partsAt, entryEnd, entryAt}
+use Rattle.interface.specs.Parts.{varyingEnd, varyingsEnd, partsAt, entryEnd, entryAt}
 use Rattle.interface.specs.declared.types.Varying.{Varying}
 use Rattle.interface.specs.declared.types.MeshRecord.{MeshRecord}
 use Rattle.interface.specs.declared.types.MeshRecord.the-variants as Mesh

@@ -1,5 +1,5 @@
 -- A name's bytes, one by one, and their comparison with others.
-use Prim.Native.Nat.{ℕ, zero, suc, _+_, _-_, _*_, _/_, _%_, _<_, _≤_}
+use Prim.Native.Nat.{ℕ, zero, suc, _+_, _*_, _/_, _%_, _<_, _≤_}
 use native.Mathlib.Omega.{arith}
 use native.Mathlib.Numerals.{add-one}
 use mathlib.Core.Path.{_≡_, refl, sym, ap, _∙_}
@@ -7,7 +7,7 @@ use mathlib.Core.Bool.{Bool, true, false, not}
 use mathlib.Core.List.{List, [], _∷_}
 use borrow.Author.Tests.{eq-eqb, ne-eqb, not-true, not-false}
 use lib.Dec.{eqb}
-use lib.ListN.{length, getD, take, drop, length-drop, length-take, drop-of-length-le}
+use lib.ListN.{length, getD, take, drop, length-drop, drop-of-length-le}
 use lib.Seq.{getD-drop, getD-take, take-take, drop-cons, length-take-le}
 use Rattle.word.specs.Choice.{pick}
 use Rattle.word.specs.Words.{wordAt, bits}

@@ -1,5 +1,5 @@
 -- The ways of the pass that writes the positions of resources.
-use Prim.Native.Nat.{ℕ, zero, suc, _+_, _-_, _*_, _<_, _≤_, _^_}
+use Prim.Native.Nat.{ℕ, suc, _+_, _-_, _*_, _<_, _≤_, _^_}
 use native.Mathlib.Omega.{arith}
 use native.Mathlib.Nat.{sub-zero}
 use native.Mathlib.Numerals.{add-one}
@@ -8,17 +8,16 @@ use mathlib.Core.Bool.{Bool, true, false}
 use mathlib.Core.List.{List, [], _∷_, _++_, append-nil}
 use borrow.Author.Tests.{eqb-true, eqb-false}
 use lib.Dec.{eqb}
-use lib.ListN.{length, getD, take, set}
+use lib.ListN.{length, take, set}
 use lib.Seq.{take-suc-set, append-snoc, getD-set-same, getD-set-other}
 use Rattle.word.specs.Words.{wordAt}
 use Rattle.resource.specs.Format.{resourceAt}
 use Rattle.resource.specs.declared.types.Resource.{Resource}
-use Rattle.interface.specs.Meaning.{Interface}
 use Rattle.interface.specs.Format.{decode, decodedNumber}
 use Rattle.interface.specs.Reads.{interfaceOf, resourcesAt}
 use Rattle.interface.specs.Parts.{recordsFrom, resourceEnd, resourceCount, resourcesOf, Small}
 use Rattle.interface.proofs.ReadsRecords.{records-left, records-none}
-use Rattle.interface.proofs.ReadsPack.{Accepted, accepted}
+use Rattle.interface.proofs.ReadsPack.{accepted}
 
 -- the resources at the positions found, and those that are left
 abbrev pub found : List ℕ → List ℕ → ℕ → ℕ → ℕ → List Resource

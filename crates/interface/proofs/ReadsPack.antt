@@ -1,25 +1,25 @@
 -- What an accepted pack holds stands at the positions that its words give.
-use Prim.Native.Nat.{ℕ, zero, suc, _+_, _-_, _<_, _≤_, _^_}
+use Prim.Native.Nat.{ℕ, _+_, _-_, _<_, _≤_}
 use native.Mathlib.Omega.{arith}
 use mathlib.Core.Path.{_≡_, refl, sym, ap, _∙_}
-use mathlib.Core.Bool.{Bool, true, false, not, _&&_, _||_}
-use mathlib.Core.List.{List, [], _∷_, _++_}
+use mathlib.Core.Bool.{Bool, true, false, _&&_, _||_}
+use mathlib.Core.List.{List, [], _∷_}
 use borrow.Author.Tests.{leb-true, ltb-false}
-use lib.Dec.{eqb, leb, ltb, lit<}
-use lib.ListN.{length, take, drop, getD, take-append-drop}
+use lib.Dec.{leb, ltb, lit<}
+use lib.ListN.{length, take, drop, take-append-drop}
 use lib.Seq.{getD-take}
 use Rattle.word.specs.Choice.{pick}
-use Rattle.word.specs.Words.{wordAt, bits, contentOf}
-use Rattle.word.specs.Parse.{Parsed, fault, got, next, one, several}
+use Rattle.word.specs.Words.{wordAt, contentOf}
+use Rattle.word.specs.Parse.{Parsed, fault, got, next, one}
 use Rattle.word.proofs.ParseReads.{Stands, next-then, next-reads, picked, one-stands, one-reads, several-words}
 use Rattle.resource.specs.Format.{readResource, resource, resourceAt, isBuffer, placeFiled, resourceWordFiled, sizeFiled}
 use Rattle.resource.specs.declared.types.Resource.{Resource}
 use Rattle.resource.proofs.ReadLaws.{type-sizeless}
 use Rattle.word.proofs.Truth.{first, second}
-use Rattle.interface.specs.Meaning.{EntryPoint, Interface}
+use Rattle.interface.specs.Meaning.{Interface}
 use Rattle.interface.specs.Format.{readPack, readEntryPoint, editionFiled, totalsFiled, ofWord, limitsOf, distinctNames, Decoded, Torn, Misfiled, Pack, torn, whole, body, decode, decodedNumber}
 use Rattle.interface.specs.Reads.{interfaceOf}
-use Rattle.interface.specs.Parts.{recordsFrom, endFrom, resourceEnd, entryEnd, entryAt, resourceCount, entryCount, resourcesOf, entriesAt, entriesOf}
+use Rattle.interface.specs.Parts.{endFrom, resourceEnd, entryEnd, entryAt, resourceCount, entryCount, resourcesOf, entriesAt, entriesOf}
 use Rattle.interface.proofs.ReadsRecords.{ReadsAt, several-records}
 use Rattle.interface.proofs.ReadsEntry.{entry-stands}
 

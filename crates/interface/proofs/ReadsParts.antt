@@ -1,22 +1,19 @@
 -- The ways of the functions that walk from record to record.
 use Prim.Native.Nat.{ℕ, zero, suc, _+_, _-_, _/_, _%_, _<_, _≤_}
 use native.Mathlib.Omega.{arith}
-use native.Mathlib.Numerals.{sub-one}
-use mathlib.Core.Path.{_≡_, refl, sym, ap, _∙_}
-use mathlib.Core.Bool.{Bool, true, false}
-use mathlib.Core.List.{List, [], _∷_}
+use mathlib.Core.Path.{_≡_, refl, sym, _∙_}
+use mathlib.Core.List.{List}
 use borrow.Author.Tests.{eq-eqb, ne-eqb}
 use lib.Dec.{eqb}
 use lib.ListN.{length, drop}
 use Rattle.word.specs.Choice.{pick}
 use Rattle.word.specs.Words.{wordAt, bits, bit}
-use Rattle.interface.specs.Meaning.{EntryPoint, Interface}
 use Rattle.interface.specs.Format.{nameWords, decode, decodedNumber}
 use Rattle.interface.specs.Reads.{varyingWidth, interfaceOf, standing, entryNth}
 use Rattle.interface.specs.Parts.{recordsFrom, endFrom, varyingEnd, varyingsEnd, resourceEnd, countsAt, inputsAt, partsAt, entryEnd, entryAt, entriesAt, entryCount, headAt, Placed}
 use Rattle.interface.specs.declared.types.EntryParts.{EntryParts}
 use Rattle.interface.proofs.ReadsRecords.{end-left, end-none, records-length}
-use Rattle.interface.proofs.ReadsPack.{Accepted, accepted}
+use Rattle.interface.proofs.ReadsPack.{accepted}
 
 -- ---- the position behind as many records
 

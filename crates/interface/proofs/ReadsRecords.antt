@@ -1,11 +1,10 @@
 -- As many records as a count says: what a reader of them read, where it stopped, and one record of those that are left.
-use Prim.Native.Nat.{ℕ, zero, suc, _+_, _-_, _<_, _≤_}
-use native.Mathlib.Omega.{arith}
+use Prim.Native.Nat.{ℕ, zero, suc, _-_}
 use native.Mathlib.Numerals.{sub-one}
-use mathlib.Core.Path.{_≡_, refl, sym, ap, _∙_}
-use mathlib.Core.List.{List, [], _∷_, _++_}
+use mathlib.Core.Path.{_≡_, refl, sym, ap}
+use mathlib.Core.List.{List, [], _∷_}
 use lib.ListN.{length}
-use Rattle.word.specs.Parse.{Parsed, fault, got, next, one, several}
+use Rattle.word.specs.Parse.{Parsed, got, several}
 use Rattle.word.proofs.ParseReads.{Stands, next-then}
 use Rattle.interface.specs.Parts.{recordsFrom, endFrom}
 

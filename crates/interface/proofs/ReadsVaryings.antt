@@ -1,14 +1,13 @@
 -- A varying that was read is the one that stands at its position.
-use Prim.Native.Nat.{ℕ, zero, suc, _+_, _<_, _≤_}
+use Prim.Native.Nat.{ℕ, zero, suc, _+_}
 use native.Mathlib.Omega.{arith}
-use mathlib.Core.Path.{_≡_, refl, sym, ap, _∙_}
+use mathlib.Core.Path.{_≡_, refl, ap, _∙_}
 use mathlib.Core.Bool.{Bool, true, false}
-use mathlib.Core.List.{List, [], _∷_, _++_}
-use lib.ListN.{length, getD, drop}
+use mathlib.Core.List.{List, [], _∷_}
+use lib.ListN.{getD, drop}
 use lib.Seq.{drop-drop, getD-drop}
-use Rattle.word.specs.Choice.{pick}
 use Rattle.word.specs.Words.{wordAt}
-use Rattle.word.specs.Parse.{Parsed, fault, got, next, one, several}
+use Rattle.word.specs.Parse.{got, one}
 use Rattle.word.proofs.ParseReads.{Stands, next-then, picked, word-stands, one-stands}
 use Rattle.varying.specs.Format.{locationFiled, varFiled}
 use Rattle.interface.specs.Format.{readVarying, varyingBehind, local, builtInOf, builtInFiled}

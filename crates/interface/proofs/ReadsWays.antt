@@ -1,12 +1,12 @@
 -- The ways of the functions that read what stands in a pack.
-use Prim.Native.Nat.{ℕ, _+_, _/_, _%_, _≤_, _^_}
+use Prim.Native.Nat.{ℕ, _+_, _/_, _%_, _≤_}
 use native.Mathlib.Nat.{add-zero}
-use mathlib.Core.Path.{_≡_, refl, sym, ap, _∙_}
+use mathlib.Core.Path.{_≡_, sym, ap, _∙_}
 use mathlib.Core.List.{List}
 use borrow.Author.Tests.{eq-eqb, ne-eqb}
 use lib.ListN.{length, drop}
 use lib.Seq.{getD-drop}
-use Rattle.word.specs.Words.{wordAt, kindOf, contentOf, bits}
+use Rattle.word.specs.Words.{wordAt, kindOf, contentOf}
 use Rattle.varying.specs.Format.{varOf}
 use Rattle.varying.specs.declared.InterfaceVar.{InterfaceVar}
 use Rattle.interface.specs.Format.{builtInOf, pairOf, decode, decodedNumber, limitsOf}
@@ -15,10 +15,9 @@ use Rattle.interface.specs.Parts.{resourceCount, entryCount, resourceEnd
 use Rattle.resource.specs.Format.{resourceAt}
 use Rattle.interface.specs.declared.types.BuiltIn.{BuiltIn}
 use Rattle.interface.specs.declared.types.Limits.{Limits}
-use Rattle.interface.specs.declared.types.Varying.{Varying}
 use Rattle.interface.specs.declared.types.Varying.the-variants as Var
 use Rattle.interface.proofs.ReadsRecords.{records-length}
-use Rattle.interface.proofs.ReadsPack.{Accepted, accepted}
+use Rattle.interface.proofs.ReadsPack.{accepted}
 
 first-word : (ws : List ℕ) (at : ℕ) → wordAt (drop at ws) 0 ≡ wordAt ws at
 first-word ws at = getD-drop at ws 0 0 ∙ ap (λ (n : ℕ). wordAt ws n) (add-zero at)

@@ -3,24 +3,22 @@ use Prim.Native.Nat.{ℕ, zero, suc, _+_, _-_, _*_, _/_, _%_, _^_}
 use mathlib.Core.Bool.{Bool, true, false, not, _&&_, _||_}
 use mathlib.Core.List.{List, [], _∷_, _++_}
 use lib.Dec.{eqb, leb, ltb}
-use lib.ListN.{length, take, drop, getD}
-use Rattle.word.specs.Choice.{pick, yes}
+use lib.ListN.{length, take, drop}
+use Rattle.word.specs.Choice.{pick}
 use Rattle.word.specs.Words.{wordAt, kindOf, contentOf, bits, bit, ofKind, closingSum, sumOf}
 use Rattle.word.specs.Parse.{Parsed, fault, got, next, one, several}
-use Rattle.resource.specs.Format.{readResource, resourceWords, resourceHeld, flag}
+use Rattle.resource.specs.Format.{readResource, resourceWords, flag}
 use Rattle.resource.specs.declared.types.Resource.{Resource}
 use Rattle.resource.specs.declared.types.ResourceType.{ResourceType}
 use Rattle.resource.specs.declared.types.ResourceType.the-variants as Res
 use Rattle.resource.specs.declared.types.ImageClass.{ImageClass}
 use Rattle.resource.specs.declared.types.ImageClass.the-variants as Class
-use Rattle.varying.specs.Format.{locationFiled, varFiled, varOf, varWord, varHeld, payloadFiled, payloadOf, payloadWord, payloadHeld}
-use Rattle.varying.specs.declared.Payload.{Payload}
+use Rattle.varying.specs.Format.{locationFiled, varFiled, varOf, varWord, payloadFiled, payloadOf, payloadWord}
 use Rattle.interface.specs.Meaning.{EntryPoint, Interface}
 use Rattle.interface.specs.declared.types.ShaderStage.{ShaderStage}
 use Rattle.interface.specs.declared.types.ShaderStage.the-variants as Stage
 use Rattle.interface.specs.declared.types.PrimitiveTopology.{PrimitiveTopology}
 use Rattle.interface.specs.declared.types.PrimitiveTopology.the-variants as Top
-use Rattle.interface.specs.declared.types.EntryPointMeshInfo.{EntryPointMeshInfo}
 use Rattle.interface.specs.declared.types.MeshRecord.{MeshRecord}
 use Rattle.interface.specs.declared.types.MeshRecord.the-variants as Mesh
 use Rattle.interface.specs.declared.types.BuiltIn.{BuiltIn}

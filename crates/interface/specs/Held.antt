@@ -1,8 +1,8 @@
 -- What a pack can hold: the ranges of an interface's numbers, and document 01's rules on what it lists.
 use Prim.Native.Nat.{ℕ, _^_}
-use mathlib.Core.Bool.{Bool, true, false, _&&_}
+use mathlib.Core.Bool.{Bool, true, _&&_}
 use mathlib.Core.List.{List, [], _∷_}
-use lib.Dec.{eqb, leb, ltb}
+use lib.Dec.{leb, ltb}
 use lib.ListN.{length}
 use Rattle.resource.specs.Format.{resourceHeld}
 use Rattle.resource.specs.declared.types.Resource.{Resource}

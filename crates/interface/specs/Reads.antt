@@ -1,6 +1,6 @@
 -- What stands at positions of a pack, read without asking whether it is well filed: what the functions behind the check of a pack read.
 use Prim.Native.Nat.{ℕ, zero, suc, _+_}
-use mathlib.Core.Bool.{Bool, true, false}
+use mathlib.Core.Bool.{false}
 use mathlib.Core.List.{List, [], _∷_}
 use lib.Dec.{eqb}
 use lib.ListN.{take, drop}

@@ -1,12 +1,12 @@
 -- The choice of an entry point (document 01, 'Names' and refusals 10 to 12).
 use Prim.Native.Nat.{ℕ, _+_}
-use mathlib.Core.Bool.{Bool, true, false, _&&_}
+use mathlib.Core.Bool.{Bool}
 use mathlib.Core.List.{List, [], _∷_}
 use lib.Dec.{eqb, ltb}
 use Rattle.word.specs.Choice.{pick}
-use Rattle.word.specs.Answers.{answer, accepted, refused}
+use Rattle.word.specs.Answers.{answer, refused}
 use Rattle.word.specs.declared.answer.Answer.{Answer}
-use Rattle.interface.specs.Meaning.{EntryPoint, Interface}
+use Rattle.interface.specs.Meaning.{EntryPoint}
 use Rattle.interface.specs.Format.{Decoded, Torn, Misfiled, Pack, stageAt, stageCode, named}
 use Rattle.interface.specs.declared.types.ShaderStage.{ShaderStage}
 use Rattle.interface.specs.declared.types.Chosen.{Chosen}

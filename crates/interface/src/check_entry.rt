@@ -1,7 +1,6 @@
 // An entry point: its words in order, each of its lists, and the sampling pairs among its resources.
 ghost use mathlib.Core.Path.{_≡_};
-ghost use mathlib.Core.Bool.{Bool};
-ghost use Prim.Native.Nat.{_+_, _<_, _≤_, _^_};
+ghost use Prim.Native.Nat.{_+_, _<_, _≤_};
 ghost use lib.ListN.{length, take, drop};
 ghost use Rattle.word.specs.Parse.{one, several, behind, restAt};
 ghost use Rattle.interface.specs.Format.{ofWord, headFiled, topologyFiled, countsFiled, indexFiled, readWorkgroup, readMesh, contents, readEntryPoint};

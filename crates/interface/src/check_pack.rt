@@ -1,9 +1,8 @@
 // The check of a module pack: torn is 1, misfiled is 2.
 ghost use mathlib.Core.Path.{_≡_};
-ghost use mathlib.Core.Bool.{Bool};
 ghost use mathlib.Core.List.{_++_};
-ghost use Prim.Native.Nat.{_+_, _<_, _≤_, _^_};
-ghost use lib.ListN.{length, take, drop, replicate};
+ghost use Prim.Native.Nat.{_+_, _<_, _≤_};
+ghost use lib.ListN.{length, take, drop};
 ghost use Rattle.word.specs.Words.{bits};
 ghost use Rattle.word.specs.Parse.{several, behind, restAt};
 ghost use Rattle.resource.specs.Format.{readResource};

@@ -1,7 +1,6 @@
 // Varyings: a location and a variable, or a built-in.
 ghost use mathlib.Core.Path.{_≡_};
-ghost use mathlib.Core.Bool.{Bool};
-ghost use Prim.Native.Nat.{_+_, _<_, _≤_, _^_};
+ghost use Prim.Native.Nat.{_+_, _≤_};
 ghost use lib.ListN.{length, drop};
 ghost use Rattle.word.specs.Parse.{behind, restAt};
 ghost use Rattle.interface.specs.Format.{builtInFiled, readVarying};

@@ -1,9 +1,8 @@
 // The choice of an entry point of an accepted pack.
 ghost use mathlib.Core.Path.{_≡_};
-ghost use mathlib.Core.Bool.{Bool, true};
+ghost use mathlib.Core.Bool.{true};
 ghost use Prim.Native.Nat.{_+_, _≤_};
 ghost use lib.ListN.{length};
-ghost use Rattle.interface.specs.Meaning.{Interface};
 ghost use Rattle.interface.specs.Format.{named, decode, decodedNumber};
 ghost use Rattle.interface.specs.Reads.{interfaceOf};
 ghost use Rattle.interface.specs.Parts.{workgroupAt, entryAt, met, chosenIn};

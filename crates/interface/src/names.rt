@@ -1,6 +1,5 @@
 // The name of an entry point compared with bytes.
 ghost use mathlib.Core.Path.{_≡_};
-ghost use mathlib.Core.Bool.{Bool};
 ghost use Prim.Native.Nat.{_+_, _/_, _<_, _≤_, _^_};
 ghost use lib.Dec.{eqb};
 ghost use lib.ListN.{length};

@@ -2,7 +2,6 @@
 ghost use mathlib.Core.Path.{_≡_};
 ghost use Prim.Native.Nat.{_≤_};
 ghost use lib.ListN.{length, take};
-ghost use Rattle.interface.specs.Meaning.{Interface};
 ghost use Rattle.interface.specs.Format.{decode, decodedNumber};
 ghost use Rattle.interface.specs.Reads.{interfaceOf, resourcesAt};
 ghost use Rattle.interface.specs.Parts.{resourceCount, Small};

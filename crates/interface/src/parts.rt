@@ -3,7 +3,7 @@ ghost use mathlib.Core.Path.{_≡_};
 ghost use Prim.Native.Nat.{_+_, _*_, _<_, _≤_, _^_};
 ghost use lib.Dec.{eqb};
 ghost use Rattle.word.specs.Choice.{pick};
-ghost use Rattle.word.specs.Words.{wordAt, bits, bit};
+ghost use Rattle.word.specs.Words.{bits, bit};
 ghost use Rattle.interface.specs.Format.{nameWords, decode, decodedNumber};
 ghost use Rattle.interface.specs.Parts.{varyingsEnd, resourceEnd, partsAt, entryEnd, entriesAt, headAt};
 use crate::reads::resource_count;

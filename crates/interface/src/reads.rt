@@ -3,7 +3,6 @@ ghost use mathlib.Core.Path.{_≡_};
 ghost use Prim.Native.Nat.{_+_, _<_, _≤_, _^_};
 ghost use lib.ListN.{length, drop};
 ghost use Rattle.word.specs.Words.{wordAt, contentOf};
-ghost use Rattle.interface.specs.Meaning.{EntryPoint, Interface};
 ghost use Rattle.interface.specs.Format.{stageAt, stageCode, topologyAt, builtInOf, pairOf, decode, decodedNumber};
 ghost use Rattle.interface.specs.Reads.{varying, varyingWidth, interfaceOf, standing, entryNth};
 ghost use Rattle.interface.specs.Parts.{resourceCount, entryCount, Placed};

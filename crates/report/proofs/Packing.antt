@@ -1,10 +1,9 @@
 -- Laws of bytes as words.
-use Prim.Native.Nat.{ℕ, zero, suc, _+_, _-_, _*_, _/_, _%_, _<_, _≤_}
+use Prim.Native.Nat.{ℕ, zero, suc, _+_, _*_, _/_, _<_, _≤_}
 use native.Mathlib.Omega.{arith}
-use native.Mathlib.Numerals.{add-one}
-use mathlib.Core.Path.{_≡_, refl, sym, ap, _∙_}
+use mathlib.Core.Path.{_≡_, refl}
 use mathlib.Core.List.{List, [], _∷_, _++_}
-use lib.ListN.{length, take, drop, set, getD}
+use lib.ListN.{length, take, set, getD}
 use Rattle.report.specs.Text.{wordsOf, wordOf}
 use Rattle.report.specs.Written.{Wrote}
 use Rattle.report.proofs.Writing.{wrote-none, wrote-byte, wrote-more}

@@ -1,5 +1,5 @@
 -- Laws of a report's parts: the words in use, a pack's text, the whole.
-use Prim.Native.Nat.{ℕ, _+_, _-_, _*_, _%_, _<_, _≤_}
+use Prim.Native.Nat.{ℕ, _+_, _*_, _%_, _<_, _≤_}
 use native.Mathlib.Omega.{arith}
 use mathlib.Core.Path.{_≡_, sym, _∙_}
 use mathlib.Core.List.{List, [], _∷_}

@@ -1,6 +1,6 @@
 -- What the program prints (document 01, 'Deliveries': 'A program reads a pack's bytes …').
 use Prim.Native.Nat.{ℕ, _+_, _*_, _%_}
-use mathlib.Core.Bool.{Bool, true, false, _||_, not}
+use mathlib.Core.Bool.{_||_, not}
 use mathlib.Core.List.{List, [], _∷_, _++_}
 use lib.Dec.{eqb, ltb}
 use lib.ListN.{length, take, replicate}
@@ -9,7 +9,7 @@ use Rattle.word.specs.Answers.{refused}
 use Rattle.varying.specs.declared.Payload.the-variants as Pay
 use Rattle.lists.specs.Format.{encodeLayout, encodeSizes, encodeStage, countOf}
 use Rattle.lists.specs.declared.types.PrimitiveIndex.the-variants as Index
-use Rattle.interface.specs.Meaning.{EntryPoint, Interface}
+use Rattle.interface.specs.Meaning.{EntryPoint}
 use Rattle.interface.specs.Format.{Decoded, Torn, Misfiled, Pack, decode, stageCode}
 use Rattle.stage.specs.Meaning.{Call, Outcome}
 use Rattle.stage.specs.Stage.{checkStage}

@@ -1,8 +1,7 @@
 -- Bytes to words, and numbers to text.
 use Prim.Native.Nat.{ℕ, zero, suc, _+_, _*_, _/_, _%_, _^_}
-use mathlib.Core.Bool.{Bool, true, false}
 use mathlib.Core.List.{List, [], _∷_, _++_}
-use lib.Dec.{eqb, ltb}
+use lib.Dec.{ltb}
 use Rattle.word.specs.Choice.{pick}
 use Rattle.word.specs.declared.answer.Answer.{Answer}
 

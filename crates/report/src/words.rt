@@ -1,6 +1,6 @@
 // A pack's bytes as words: four bytes to a word, low byte first.
 ghost use mathlib.Core.Path.{_≡_};
-ghost use Prim.Native.Nat.{_+_, _*_, _/_, _<_, _≤_, _^_};
+ghost use Prim.Native.Nat.{_+_, _*_, _/_, _<_, _≤_};
 ghost use lib.ListN.{length, getD};
 ghost use Rattle.report.specs.Text.{wordsOf, wordOf};
 ghost use Rattle.report.specs.Written.{Wrote};

@@ -1,5 +1,5 @@
 -- Reader and writer of layout entries belong together.
-use Prim.Native.Nat.{ℕ, _+_, _-_, _*_, _/_, _%_, _^_, _<_}
+use Prim.Native.Nat.{ℕ, _+_, _*_, _/_, _%_, _^_, _<_}
 use native.Mathlib.Omega.{arith}
 use native.Mathlib.Nat.{div-add-mod, div-div-eq-div-mul}
 use mathlib.Core.Path.{_≡_, refl, sym, _∙_}

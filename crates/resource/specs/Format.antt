@@ -2,10 +2,10 @@
 use Prim.Native.Nat.{ℕ, _+_, _*_, _^_}
 use mathlib.Core.Bool.{Bool, true, false, not, _&&_, _||_}
 use mathlib.Core.List.{List, [], _∷_}
-use lib.Dec.{eqb, leb, ltb}
+use lib.Dec.{eqb, ltb}
 use Rattle.word.specs.Choice.{pick, yes}
 use Rattle.word.specs.Words.{wordAt, kindOf, contentOf, bits, bit, ofKind}
-use Rattle.word.specs.Parse.{Parsed, fault, got, next, one}
+use Rattle.word.specs.Parse.{Parsed, got, next, one}
 use Rattle.resource.specs.Rules.{kindCode, viewCode, storable}
 use Rattle.resource.specs.declared.types.ResourceBinding.{ResourceBinding}
 use Rattle.resource.specs.declared.types.AddressSpace.{AddressSpace}

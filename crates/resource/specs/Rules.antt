@@ -2,7 +2,7 @@
 -- (WebGPU, 'validating shader binding' and 'default pipeline layout'; document 01, refusals 22 to 30).
 use Prim.Native.Nat.{ℕ}
 use mathlib.Core.Bool.{Bool, true, false, not, _&&_, _||_}
-use lib.Dec.{eqb, leb, ltb}
+use lib.Dec.{eqb, ltb}
 use Rattle.word.specs.Choice.{pick, yes}
 use Rattle.resource.specs.declared.types.AddressSpace.{AddressSpace}
 use Rattle.resource.specs.declared.types.AddressSpace.the-variants as Space

@@ -1,6 +1,6 @@
 // The numbers that words give to binding types.
 ghost use mathlib.Core.Path.{_≡_};
-ghost use mathlib.Core.Bool.{Bool, true};
+ghost use mathlib.Core.Bool.{true};
 ghost use Prim.Native.Nat.{_≤_};
 ghost use Rattle.word.specs.Words.{ofKind};
 ghost use Rattle.resource.specs.Format.{flag, bufferCode, samplerCode, sampleCode, accessCode, bindingCode, leastSize, sameBinding, formatHeld};

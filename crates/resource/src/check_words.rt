@@ -1,6 +1,6 @@
 // A lone resource against a lone entry, and the entry type that a lone resource asks for, both given and answered in words.
 ghost use mathlib.Core.Path.{_≡_};
-ghost use mathlib.Core.Bool.{Bool, true};
+ghost use mathlib.Core.Bool.{true};
 ghost use Rattle.word.specs.Choice.{pick};
 ghost use Rattle.word.specs.Answers.{refused};
 ghost use Rattle.word.specs.declared.answer.Answer.{Answer};

@@ -1,6 +1,5 @@
 // The binding type that a shader's resource asks for.
 ghost use mathlib.Core.Path.{_≡_};
-ghost use mathlib.Core.Bool.{Bool};
 ghost use Rattle.resource.specs.Rules.{derivedView, derivedSample, derivedAccess, derivedTexture, derivedBuffer, deriveBindingType, derivedNumber};
 ghost use Rattle.word.specs.Choice.{pick, yes};
 ghost use Rattle.resource.specs.declared.types.SamplerBindingType.the-variants as Samp;

@@ -1,6 +1,6 @@
 // How words carry layout entries.
 ghost use mathlib.Core.Path.{_≡_};
-ghost use mathlib.Core.Bool.{Bool, true, _&&_, _||_};
+ghost use mathlib.Core.Bool.{true, _&&_, _||_};
 ghost use lib.Dec.{eqb, ltb};
 ghost use Rattle.word.specs.Words.{kindOf, contentOf};
 ghost use Prim.Native.Nat.{_<_, _^_};

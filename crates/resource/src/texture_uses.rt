@@ -1,6 +1,5 @@
 // Whether a layout entry serves a shader's texture.
 ghost use mathlib.Core.Path.{_≡_};
-ghost use mathlib.Core.Bool.{Bool};
 ghost use Prim.Native.Nat.{_≤_};
 ghost use Rattle.word.specs.Choice.{pick};
 ghost use Rattle.resource.specs.Rules.{storable, viewCode, kindCode, viewFits, classOf, sampledFits, storageFits, accessOf, isExternal, classUse, textureUse};

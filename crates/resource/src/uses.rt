@@ -1,6 +1,5 @@
 // Whether a layout entry serves a shader's resource.
 ghost use mathlib.Core.Path.{_≡_};
-ghost use mathlib.Core.Bool.{Bool};
 ghost use Rattle.resource.specs.Rules.{sameBool, spaceOf, sameSpace, sizeUse, bufferUse, comparing, samplerUse, accelerationUse, checkBindingUse, useNumber};
 use crate::texture_uses::texture_use;
 use crate::types::AddressSpace;

@@ -3,18 +3,16 @@ use Prim.Native.Nat.{ℕ, _+_, _*_, _<_, _≤_, _^_}
 use native.Mathlib.Omega.{arith}
 use mathlib.Core.Path.{_≡_, refl, sym, ap, _∙_}
 use mathlib.Core.Bool.{Bool, true, false, _&&_}
-use mathlib.Core.List.{List, [], _∷_}
+use mathlib.Core.List.{List, []}
 use lib.Dec.{eqb, ltb}
 use lib.ListN.{length, take, drop}
 use borrow.Author.Tests.{eq-eqb, ne-eqb, lt-ltb, le-ltb, ltb-true}
-use Rattle.word.specs.Choice.{pick}
 use Rattle.word.specs.Words.{wordAt, bits}
-use Rattle.word.specs.Answers.{accepted, refused}
+use Rattle.word.specs.Answers.{refused}
 use Rattle.word.specs.declared.answer.Answer.{Answer}
-use Rattle.resource.specs.declared.types.Resource.{Resource}
 use Rattle.word.proofs.Truth.{first, second}
 use Rattle.lists.specs.Meaning.{Layout, Sizes, StageIo, every}
-use Rattle.lists.specs.Format.{layoutFiled, sizesFiled, stageFiled, decodeLayout, decodeSizes, decodeStage, encodeLayout, encodeSizes, encodeStage}
+use Rattle.lists.specs.Format.{layoutFiled, sizesFiled, stageFiled, decodeLayout, decodeSizes, decodeStage, encodeStage}
 use Rattle.lists.proofs.LayoutLists as layouts
 use Rattle.lists.proofs.SizeLists as sizes
 use Rattle.interface.specs.Meaning.{EntryPoint, Interface}
@@ -27,14 +25,13 @@ use Rattle.interface.specs.declared.types.Chosen.the-variants as Ch
 use Rattle.interface.specs.declared.types.EntryParts.{EntryParts}
 use Rattle.interface.specs.declared.types.Limits.{Limits}
 use Rattle.interface.specs.declared.types.ShaderStage.{ShaderStage}
-use Rattle.stage.specs.Meaning.{Call, Outcome, outcome, Request, State, state}
+use Rattle.stage.specs.Meaning.{Call, Outcome, outcome, State, state}
 use Rattle.stage.specs.Resources.{resourceSteps}
-use Rattle.stage.specs.Interfaces.{stageOut, localCount, summaryOf}
+use Rattle.stage.specs.Interfaces.{stageOut, summaryOf}
 use Rattle.stage.specs.Given.{resourceTable, eachHeld, eachBelow, pairsBelow, Named, Given}
 use Rattle.stage.specs.ListOut.{outputHeld}
 use Rattle.stage.specs.Judging.{request, requestWith, judged, handedOut}
 use Rattle.stage.specs.Stage.{requestOf, inputWalk, judgement, outWords, finish, runBody, callGood, onEntryPoint, onChosen, checkStage, call}
-use Rattle.stage.specs.declared.types.InputWalk.{InputWalk}
 use Rattle.stage.specs.declared.types.Walked.{Walked}
 use Rattle.stage.specs.declared.types.Summary.{Summary}
 use Rattle.stage.proofs.JudgeLaws.{judged-answer, judged-walk, pairs-standing}

@@ -1,15 +1,13 @@
 -- Demand 1: a stage check always answers with a number of document 01's table, and says what a refusal leaves in the lent lists.
 use Prim.Native.Nat.{ℕ}
-use mathlib.Core.Path.{_≡_, refl, sym, ap, _∙_}
+use mathlib.Core.Path.{_≡_, refl}
 use mathlib.Core.Bool.{Bool, true, false, not}
 use mathlib.Core.List.{List, [], _∷_, _++_}
 use lib.Dec.{eqb, ltb}
 use lib.ListN.{length}
 use native.Mathlib.Omega.{arith}
-use borrow.Author.Tests.{eqb-true, eqb-false, ne-eqb, not-true}
+use borrow.Author.Tests.{eqb-true, ne-eqb, not-true}
 use Rattle.word.specs.Choice.{pick}
-use Rattle.word.specs.Answers.{refused}
-use Rattle.lists.specs.Meaning.{Layout, Sizes}
 use Rattle.lists.specs.Format.{decodeLayout, decodeSizes, decodeStage, encodeLayout, encodeSizes}
 use Rattle.interface.specs.Meaning.{EntryPoint, Interface}
 use Rattle.interface.specs.Format.{Decoded, Torn, Misfiled, Pack, decode, stageAt}
@@ -19,7 +17,7 @@ use Rattle.interface.specs.declared.types.Chosen.{Chosen}
 use Rattle.interface.specs.declared.types.Chosen.the-variants as Ch
 use Rattle.stage.specs.Meaning.{Call, Outcome, State}
 use Rattle.stage.specs.Resources.{resourceSteps}
-use Rattle.stage.specs.Stage.{requestOf, judgement, stageBody, finish, runBody, unchanged, callGood, outWords, onEntryPoint, onChosen, onDecoded, checkStage}
+use Rattle.stage.specs.Stage.{requestOf, judgement, stageBody, finish, runBody, unchanged, callGood, outWords, onChosen, onDecoded, checkStage}
 use Rattle.stage.specs.Table.{among, early, stepNumbers}
 use Rattle.stage.proofs.Numbers.{body-known}
 

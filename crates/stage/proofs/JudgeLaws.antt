@@ -1,6 +1,6 @@
 -- The ways on through the steps behind the resources.
 use Prim.Native.Nat.{ℕ, _+_, _/_, _%_}
-use mathlib.Core.Path.{_≡_, refl, sym, ap, _∙_}
+use mathlib.Core.Path.{_≡_, refl, ap, _∙_}
 use mathlib.Core.Bool.{Bool, true, false}
 use mathlib.Core.List.{List}
 use lib.Dec.{eqb}
@@ -32,8 +32,8 @@ use Rattle.stage.specs.Meaning.{Request, both}
 use Rattle.stage.specs.Resources.{pairUses}
 use Rattle.stage.specs.Interfaces.{workgroupStep, placesStep, lastStep, meshUse, payloadUse, payloadMatch, primitiveUse, drawUse, perVertexUse, inputSteps, startWalk, walked, fragmentOutputs}
 use Rattle.stage.specs.Given.{pairsBelow}
-use Rattle.stage.specs.Judging.{request, behindInputs, judgedInputs, stopAt, judged}
-use Rattle.stage.specs.Stage.{inputWalk, pairStep, afterInputs, judgement}
+use Rattle.stage.specs.Judging.{behindInputs, judgedInputs, stopAt, judged}
+use Rattle.stage.specs.Stage.{inputWalk, afterInputs, judgement}
 use Rattle.stage.specs.declared.types.InputWalk.{InputWalk}
 use Rattle.stage.specs.declared.types.Walked.{Walked}
 

@@ -28,7 +28,7 @@ use Rattle.interface.specs.declared.types.ShaderStage.the-variants as Stage
 use Rattle.interface.specs.declared.types.BuiltIn.{BuiltIn}
 use Rattle.interface.specs.declared.types.Varying.{Varying}
 use Rattle.interface.specs.declared.types.Varying.the-variants as Var
-use Rattle.stage.specs.Interfaces.{isLocal, localCount, localsOf, primitiveOut, anyOf, isPrimitive, stageOut, summaryOf}
+use Rattle.stage.specs.Interfaces.{isLocal, localCount, localsOf, primitiveOut, stageOut, summaryOf}
 use Rattle.stage.specs.ListOut.{outputHeld, handed}
 use Rattle.stage.specs.declared.types.InputWalk.{InputWalk}
 use Rattle.stage.specs.declared.types.Summary.{Summary}

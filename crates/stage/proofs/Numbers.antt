@@ -1,10 +1,9 @@
 -- Which numbers the steps of a stage check answer.
-use Prim.Native.Nat.{ℕ, zero, suc, _+_, _-_, _*_}
-use mathlib.Core.Path.{_≡_, refl, sym, ap, _∙_}
+use Prim.Native.Nat.{ℕ, _+_, _-_, _*_}
+use mathlib.Core.Path.{_≡_, refl}
 use mathlib.Core.Bool.{Bool, true, false, not, _||_, _&&_}
 use mathlib.Core.List.{List, [], _∷_}
 use lib.Dec.{eqb, ltb}
-use borrow.Author.Tests.{eqb-true, eqb-false}
 use Rattle.word.specs.Choice.{pick, yes}
 use Rattle.word.specs.Answers.{answer, accepted, refused}
 use Rattle.word.specs.declared.answer.Answer.{Answer}
@@ -18,7 +17,6 @@ use Rattle.resource.specs.declared.types.ResourceType.{ResourceType}
 use Rattle.resource.specs.declared.types.ResourceType.the-variants as Res
 use Rattle.resource.specs.declared.types.BindingType.{BindingType}
 use Rattle.resource.specs.declared.types.BindingType.the-variants as Bind
-use Rattle.resource.specs.declared.types.BindGroupLayoutEntry.{BindGroupLayoutEntry}
 use Rattle.resource.specs.declared.types.TextureSampleType.{TextureSampleType}
 use Rattle.resource.specs.declared.types.TextureSampleType.the-variants as Sample
 use Rattle.resource.specs.declared.types.BindingUse.{BindingUse}
@@ -49,9 +47,9 @@ use Rattle.interface.specs.declared.types.Varying.the-variants as Var
 use Rattle.interface.specs.declared.types.WorkgroupSize.{WorkgroupSize}
 use Rattle.interface.specs.declared.types.Limits.{Limits}
 use Rattle.stage.specs.Meaning.{Request, State, state, andThen, both}
-use Rattle.stage.specs.Resources.{recordSize, entryUse, foundUse, providedUse, provideStep, occupied, vacant, placeStep, derivedStep, deriveStep, resourceStep, resourceSteps, resourceNth, namedTexture, visibleTo, sampleNumber, filtering, pairNumber, pairAnswer, pairUse, pairUses, typeAt}
-use Rattle.stage.specs.Interfaces.{workgroupUse, workgroupStep, vertexInput, fragmentInput, inputNumber, localStep, inputStep, inputSteps, walkOn, walked, metLocal, metBuiltIn, locationUse, locationUses, countUse, clipPlaces, pointPart, localCount, builtInPlaces, anyOf, isDepth, vertexOutputs, attachmentUse, fragmentPlaces, fragmentOutputs, placesStep, valueUse, meshUse, payloadUse, payloadMatch, primitiveUse, drawUse, perVertexUse, lastStep}
-use Rattle.stage.specs.Stage.{pairStep, afterInputs, inputWalk, judgement, stageBody}
+use Rattle.stage.specs.Resources.{recordSize, foundUse, providedUse, provideStep, occupied, vacant, placeStep, derivedStep, deriveStep, resourceStep, resourceSteps, resourceNth, namedTexture, visibleTo, sampleNumber, filtering, pairNumber, pairUse, pairUses, typeAt}
+use Rattle.stage.specs.Interfaces.{workgroupUse, workgroupStep, vertexInput, fragmentInput, inputNumber, localStep, inputStep, inputSteps, walked, metLocal, metBuiltIn, locationUse, locationUses, countUse, clipPlaces, pointPart, localCount, builtInPlaces, anyOf, isDepth, vertexOutputs, attachmentUse, fragmentPlaces, fragmentOutputs, placesStep, valueUse, meshUse, payloadUse, payloadMatch, primitiveUse, drawUse, perVertexUse, lastStep}
+use Rattle.stage.specs.Stage.{pairStep, inputWalk, judgement, stageBody}
 use Rattle.stage.specs.Table.{among, stepNumbers}
 use Rattle.stage.specs.declared.types.InputWalk.{InputWalk}
 use Rattle.stage.specs.declared.types.Walked.{Walked}

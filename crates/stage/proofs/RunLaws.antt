@@ -1,22 +1,19 @@
 -- The ways on through a stage check: its refusals in order, the resources, the judgement, the list out.
 use Prim.Native.Nat.{ℕ}
-use mathlib.Core.Path.{_≡_, refl, sym, ap, _∙_}
-use mathlib.Core.Bool.{Bool, true, false}
+use mathlib.Core.Path.{_≡_}
+use mathlib.Core.Bool.{true, false}
 use mathlib.Core.List.{List}
-use lib.Dec.{eqb, ltb}
+use lib.Dec.{eqb}
 use native.Mathlib.Omega.{arith}
-use lib.ListN.{length}
-use borrow.Author.Tests.{eq-eqb, ne-eqb, lt-ltb, le-ltb}
+use borrow.Author.Tests.{eq-eqb, ne-eqb}
 use Rattle.word.specs.Choice.{pick}
-use Rattle.word.specs.Answers.{accepted, refused}
 use Rattle.word.specs.declared.answer.Answer.{Answer}
-use Rattle.lists.specs.Meaning.{Layout, Sizes}
 use Rattle.lists.specs.Format.{decodeLayout, decodeSizes, decodeStage, encodeLayout, encodeSizes, encodeStage}
 use Rattle.interface.specs.Meaning.{EntryPoint, Interface}
 use Rattle.interface.specs.Format.{Decoded, Torn, Misfiled, Pack, decode, decodedNumber, stageAt}
 use Rattle.interface.specs.Reads.{interfaceOf}
 use Rattle.interface.specs.Rules.{findEntryPoint}
-use Rattle.stage.specs.Meaning.{Call, Outcome, outcome, State, state, andThen}
+use Rattle.stage.specs.Meaning.{Call, Outcome, outcome, state}
 use Rattle.stage.specs.Resources.{resourceSteps}
 use Rattle.stage.specs.Interfaces.{stageOut}
 use Rattle.stage.specs.Stage.{requestOf, inputWalk, judgement, stageBody, finish, runBody, unchanged, callGood, onChosen, onDecoded, checkStage}

@@ -1,9 +1,9 @@
 -- Workgroup size, inputs, outputs and what passes between stages (document 01, 'The order of one stage check';
 -- WebGPU, 'validating inter-stage interfaces' and the limits of compute stages).
-use Prim.Native.Nat.{ℕ, zero, suc, _+_, _-_, _*_, _/_}
+use Prim.Native.Nat.{ℕ, _+_, _-_, _*_, _/_}
 use mathlib.Core.Bool.{Bool, true, false, not, _&&_, _||_}
 use mathlib.Core.List.{List, [], _∷_}
-use lib.Dec.{eqb, leb, ltb}
+use lib.Dec.{eqb, ltb}
 use lib.ListN.{length, drop, getD}
 use Rattle.word.specs.Choice.{pick, yes}
 use Rattle.word.specs.Answers.{answer, accepted, refused}
@@ -24,7 +24,6 @@ use Rattle.interface.specs.Meaning.{EntryPoint}
 use Rattle.interface.specs.Format.{topologyCode}
 use Rattle.interface.specs.declared.types.ShaderStage.{ShaderStage}
 use Rattle.interface.specs.declared.types.ShaderStage.the-variants as Stage
-use Rattle.interface.specs.declared.types.EntryPointMeshInfo.{EntryPointMeshInfo}
 use Rattle.interface.specs.declared.types.MeshRecord.{MeshRecord}
 use Rattle.interface.specs.declared.types.MeshRecord.the-variants as Mesh
 use Rattle.interface.specs.declared.types.BuiltIn.{BuiltIn}

@@ -1,6 +1,6 @@
 -- The steps behind the resources as the code takes them: a judgement together with the walk over the inputs.
 use Prim.Native.Nat.{ℕ}
-use mathlib.Core.Bool.{Bool, true, false}
+use mathlib.Core.Bool.{Bool, false}
 use mathlib.Core.List.{List}
 use lib.Dec.{eqb}
 use Rattle.word.specs.Choice.{pick, yes}

@@ -1,11 +1,11 @@
 -- The resources of an entry point against a layout, provided or derived, and its pairs of textures and samplers
 -- (document 01, 'Each resource in list order' and 'Provided only: each pair in pack order'; WebGPU, 'validating GPUProgrammableStage').
-use Prim.Native.Nat.{ℕ, zero, suc, _+_, _/_, _%_, _^_}
-use mathlib.Core.Bool.{Bool, true, false, not, _&&_, _||_}
+use Prim.Native.Nat.{ℕ, zero, suc, _/_, _%_, _^_}
+use mathlib.Core.Bool.{Bool, true, false}
 use mathlib.Core.List.{List, [], _∷_}
-use lib.Dec.{eqb, leb, ltb}
+use lib.Dec.{eqb, ltb}
 use Rattle.word.specs.Choice.{pick, yes}
-use Rattle.word.specs.Answers.{answer, accepted, refused}
+use Rattle.word.specs.Answers.{answer, accepted}
 use Rattle.word.specs.declared.answer.Answer.{Answer}
 use Rattle.resource.specs.Rules.{checkBindingUse, useNumber, deriveBindingType}
 use Rattle.resource.specs.Format.{sameBinding, placeWord}
@@ -16,7 +16,6 @@ use Rattle.resource.specs.declared.types.ResourceType.{ResourceType}
 use Rattle.resource.specs.declared.types.ResourceType.the-variants as Res
 use Rattle.resource.specs.declared.types.BindingType.{BindingType}
 use Rattle.resource.specs.declared.types.BindingType.the-variants as Bind
-use Rattle.resource.specs.declared.types.SamplerBindingType.{SamplerBindingType}
 use Rattle.resource.specs.declared.types.SamplerBindingType.the-variants as Samp
 use Rattle.resource.specs.declared.types.TextureSampleType.{TextureSampleType}
 use Rattle.resource.specs.declared.types.TextureSampleType.the-variants as Sample

@@ -1,18 +1,16 @@
 // A stage check, whole: the pack, the lists and codes of the call, the entry point, and its steps.
 ghost use mathlib.Core.Path.{_≡_};
-ghost use mathlib.Core.Bool.{Bool, true, _&&_};
+ghost use mathlib.Core.Bool.{true, _&&_};
 ghost use mathlib.Core.List.{[]};
 ghost use Prim.Native.Nat.{_+_, _*_, _<_, _≤_};
 ghost use lib.Dec.{eqb, ltb};
 ghost use lib.ListN.{length};
 ghost use Rattle.lists.specs.Format.{layoutFiled, sizesFiled, decodeLayout, decodeSizes, decodeStage};
-ghost use Rattle.interface.specs.Meaning.{EntryPoint, Interface};
 ghost use Rattle.interface.specs.Format.{decode, decodedNumber, stageAt};
 ghost use Rattle.interface.specs.Reads.{interfaceOf, entryNth, standing};
 ghost use Rattle.interface.specs.Parts.{Placed, chosenIn};
 ghost use Rattle.stage.specs.Meaning.{outcome, state};
 ghost use Rattle.stage.specs.Resources.{resourceSteps};
-ghost use Rattle.stage.specs.Interfaces.{localCount};
 ghost use Rattle.stage.specs.Given.{Named, Given};
 ghost use Rattle.stage.specs.Judging.{requestWith, handedOut};
 ghost use Rattle.stage.specs.Stage.{inputWalk, judgement, outWords, runBody, onEntryPoint, onChosen, callGood, checkStage, call};

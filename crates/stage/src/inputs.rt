@@ -1,6 +1,6 @@
 // The inputs of an entry point against what the stage before provides.
 ghost use mathlib.Core.Path.{_≡_};
-ghost use mathlib.Core.Bool.{Bool, _||_};
+ghost use mathlib.Core.Bool.{_||_};
 ghost use Prim.Native.Nat.{_+_, _<_, _≤_, _^_};
 ghost use lib.ListN.{drop};
 ghost use Rattle.word.specs.Choice.{pick};

@@ -1,8 +1,8 @@
 // The steps behind the resources: they alter no list.
 ghost use mathlib.Core.Path.{_≡_};
-ghost use mathlib.Core.Bool.{Bool, true, false};
-ghost use Prim.Native.Nat.{ℕ, _+_, _<_, _≤_, _^_};
-ghost use lib.ListN.{length, take, drop};
+ghost use mathlib.Core.Bool.{true, false};
+ghost use Prim.Native.Nat.{_+_};
+ghost use lib.ListN.{length};
 ghost use Rattle.lists.specs.Format.{decodeLayout, decodeStage};
 ghost use Rattle.interface.specs.Reads.{standing};
 ghost use Rattle.interface.specs.Parts.{Placed};

@@ -1,6 +1,5 @@
 // Mesh record, payload, primitive index, draw index and per-vertex inputs: what is judged last.
 ghost use mathlib.Core.Path.{_≡_};
-ghost use mathlib.Core.Bool.{Bool};
 ghost use Rattle.interface.specs.Format.{topologyCode};
 ghost use Rattle.stage.specs.Interfaces.{valueUse, meshUse, payloadUse, payloadMatch, primitiveUse, drawUse, perVertexUse};
 ghost use Rattle.stage.specs.Meaning.{both};

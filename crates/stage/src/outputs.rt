@@ -1,7 +1,7 @@
 // Outputs of vertex and fragment stages, and the inter-stage places that both take.
 ghost use mathlib.Core.Path.{_≡_};
-ghost use mathlib.Core.Bool.{Bool, false, not, _&&_, _||_};
-ghost use mathlib.Core.List.{List, [], _∷_};
+ghost use mathlib.Core.Bool.{false, not, _&&_, _||_};
+ghost use mathlib.Core.List.{[], _∷_};
 ghost use Prim.Native.Nat.{_+_, _*_, _/_, _<_, _≤_, _^_};
 ghost use lib.ListN.{drop};
 ghost use Rattle.interface.specs.Reads.{varyings, standing};

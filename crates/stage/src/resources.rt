@@ -5,7 +5,7 @@ ghost use Prim.Native.Nat.{_+_, _<_, _≤_};
 ghost use lib.ListN.{length, take, drop};
 ghost use Rattle.resource.specs.Format.{placeHeld, typeHeld, formatHeld, resourceHeld};
 ghost use Rattle.lists.specs.Meaning.{Layout, Sizes, findEntry};
-ghost use Rattle.lists.specs.declared.types.Found.the-variants.{At, Nothing};
+ghost use Rattle.lists.specs.declared.types.Found.the-variants.{Nothing};
 ghost use Rattle.lists.specs.Format.{layoutFiled, sizesFiled, decodeLayout, decodeSizes};
 ghost use Rattle.interface.specs.Format.{contents, pairsOf};
 ghost use Rattle.stage.specs.Meaning.{state};

@@ -1,6 +1,6 @@
 // The size of a workgroup against the limits of its stage.
 ghost use mathlib.Core.Path.{_≡_};
-ghost use mathlib.Core.Bool.{Bool, _||_};
+ghost use mathlib.Core.Bool.{_||_};
 ghost use Prim.Native.Nat.{_*_};
 ghost use lib.Dec.{ltb, eqb};
 ghost use lib.ListN.{length};

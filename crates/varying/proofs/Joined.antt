@@ -1,12 +1,11 @@
 -- Readers and writers of a variable, a location and a payload belong together.
-use Prim.Native.Nat.{ℕ, zero, suc, _+_, _-_, _*_, _/_, _%_, _^_, _<_, _≤_}
+use Prim.Native.Nat.{ℕ, _+_, _*_, _/_, _^_, _<_, _≤_}
 use native.Mathlib.Omega.{arith}
 use native.Mathlib.Nat.{div-div-eq-div-mul}
-use mathlib.Core.Path.{_≡_, refl, sym, ap, _∙_}
-use mathlib.Core.Bool.{Bool, true, false, _&&_, _||_}
-use mathlib.Core.List.{List, [], _∷_}
-use lib.Dec.{eqb, ltb}
-use borrow.Author.Tests.{eqb-true, eqb-false, ltb-true, eq-eqb, ne-eqb, lt-ltb}
+use mathlib.Core.Path.{_≡_, refl, _∙_}
+use mathlib.Core.Bool.{Bool, true, false, _||_}
+use lib.Dec.{eqb}
+use borrow.Author.Tests.{eqb-true, eqb-false, ltb-true, lt-ltb}
 use Rattle.word.specs.Choice.{pick, yes}
 use Rattle.word.specs.Words.{kindOf, contentOf, bits, bit, ofKind}
 use Rattle.numeric.specs.Rules.{sizeCode, kindCode}
@@ -17,12 +16,11 @@ use Rattle.numeric.specs.declared.types.VectorSize.{VectorSize}
 use Rattle.numeric.specs.declared.types.VectorSize.the-variants.{Bi, Tri, Quad}
 use Rattle.numeric.specs.declared.types.NumericDimension.{NumericDimension}
 use Rattle.numeric.specs.declared.types.NumericDimension.the-variants as D
-use Rattle.numeric.specs.declared.types.NumericType.{NumericType}
 use Rattle.varying.specs.Format.{locationFiled, varFiled, varOf, varWord, varHeld, payloadFiled, payloadOf, payloadWord, payloadHeld}
 use Rattle.varying.specs.declared.InterfaceVar.{InterfaceVar}
 use Rattle.varying.specs.declared.Payload.{Payload}
 use Rattle.varying.specs.declared.Payload.the-variants as Pay
-use Rattle.word.proofs.Truth.{first, second, both, either, allBelow, below-all}
+use Rattle.word.proofs.Truth.{first, second, either, below-all}
 
 -- ---- codes of shapes and scalar kinds, both ways
 

@@ -1,7 +1,7 @@
 -- The code's ways through the readers: a word's kind is asked for by a call.
 use Prim.Native.Nat.{ℕ}
-use mathlib.Core.Path.{_≡_, refl}
-use mathlib.Core.Bool.{Bool, true, false, _&&_, _||_}
+use mathlib.Core.Path.{_≡_}
+use mathlib.Core.Bool.{Bool, _&&_, _||_}
 use lib.Dec.{eqb, ltb}
 use Rattle.word.specs.Words.{kindOf, bits, bit}
 use Rattle.numeric.specs.Format.{typeFiled, typeOf}

@@ -1,10 +1,10 @@
 -- How words carry a variable, a location and a payload (document 01, 'Varying' and 'kind 9 payload').
-use Prim.Native.Nat.{ℕ, _+_, _-_, _*_, _^_}
-use mathlib.Core.Bool.{Bool, true, false, not, _&&_, _||_}
+use Prim.Native.Nat.{ℕ, _+_, _*_, _^_}
+use mathlib.Core.Bool.{Bool, true, _&&_, _||_}
 use mathlib.Core.List.{List, [], _∷_}
-use lib.Dec.{eqb, leb, ltb}
+use lib.Dec.{eqb, ltb}
 use Rattle.word.specs.Choice.{pick, yes}
-use Rattle.word.specs.Words.{wordAt, kindOf, contentOf, bits, bit, ofKind}
+use Rattle.word.specs.Words.{kindOf, contentOf, bits, bit, ofKind}
 use Rattle.numeric.specs.Format.{typeFiled, typeOf, typeWord, widthKnown}
 use Rattle.varying.specs.declared.InterfaceVar.{InterfaceVar}
 use Rattle.varying.specs.declared.Located.{Located}

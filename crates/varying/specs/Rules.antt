@@ -1,5 +1,4 @@
 -- Payloads compared.
-use Prim.Native.Nat.{ℕ}
 use mathlib.Core.Bool.{Bool, true, false}
 use lib.Dec.{eqb}
 use Rattle.varying.specs.declared.Payload.{Payload}

@@ -1,9 +1,7 @@
 // What passes between stages: a variable at a location, and the payload of a task stage.
 ghost use mathlib.Core.Path.{_≡_};
-ghost use mathlib.Core.Bool.{Bool};
-ghost use Prim.Native.Nat.{_<_, _≤_, _^_};
 ghost use Rattle.varying.specs.Format.{varFiled, varOf, locationFiled, payloadFiled, payloadOf};
-ghost use Rattle.varying.specs.Rules.{samePayload, payloadPresent};
+ghost use Rattle.varying.specs.Rules.{samePayload};
 use numeric::types::NumericType;
 
 // Interpolation is 0 for none, 4 for per vertex and 1 to 3 for the others; sampling is 0 for none and 1 to 5.

@@ -6,7 +6,7 @@ use native.Mathlib.Numerals.{add-one}
 use mathlib.Core.Path.{_≡_, refl, sym, ap, _∙_}
 use mathlib.Core.Bool.{Bool, true, false}
 use mathlib.Core.List.{List, [], _∷_, _++_}
-use lib.ListN.{getD, length, take, drop, length-drop, length-append}
+use lib.ListN.{getD, length, take, drop, length-drop}
 use lib.Seq.{getD-drop, drop-drop, drop-cons}
 use Rattle.word.specs.Choice.{pick}
 use Rattle.word.specs.Words.{wordAt}

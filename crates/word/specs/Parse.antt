@@ -1,6 +1,6 @@
 -- Readers of a format: from words to a meaning and the words behind it, or a fault.
 use Prim.Native.Nat.{ℕ, zero, suc}
-use mathlib.Core.Bool.{Bool, true, false}
+use mathlib.Core.Bool.{Bool}
 use mathlib.Core.List.{List, [], _∷_}
 use lib.ListN.{drop}
 use Rattle.word.specs.Choice.{pick}

@@ -1,6 +1,6 @@
 // Words of 32 bits: a total read, the kind and the content of a word, the closing sum, and the answer of a check.
 ghost use mathlib.Core.Path.{_≡_};
-ghost use Prim.Native.Nat.{ℕ, _<_, _^_};
+ghost use Prim.Native.Nat.{_<_, _^_};
 ghost use Rattle.word.specs.Words.{wordAt, kindOf, contentOf, closingSum};
 
 pub mod answer;

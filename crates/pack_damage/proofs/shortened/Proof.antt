@@ -1,6 +1,5 @@
 use native.Mathlib.Omega.{arith}
 use mathlib.Core.Path.{sym}
-use lib.ListN.{length-set}
 use lib.Seq.{length-take-le}
 use borrow.Author.Needs.{needs}
 use Rattle.pack_damage.proofs.shortened.Statement.{statement}

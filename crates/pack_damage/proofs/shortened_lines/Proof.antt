@@ -1,6 +1,4 @@
 use Prim.Native.Nat.{_-_}
-use mathlib.Core.Path.{_≡_}
-use lib.ListN.{length}
 use borrow.Author.Needs.{needs}
 use Rattle.pack_damage.proofs.shortened_lines.Statement.{statement}
 use Rattle.pack_damage.proofs.shortened_lines.Tie as tie

@@ -1,6 +1,5 @@
 use Rattle.varying.specs.Format.{payloadOf}
 use Rattle.word.proofs.Tests.{tests}
-use borrow.Author.Needs.{needs}
 use Rattle.varying.proofs.payload_of.Statement.{statement}
 use Rattle.varying.proofs.payload_of.Tie as tie
 

@@ -1,7 +1,6 @@
 use Prim.Native.Nat.{_+_, _*_, _≤_}
 use mathlib.Core.Path.{_≡_}
-use mathlib.Core.Bool.{Bool, true}
-use lib.ListN.{length}
+use mathlib.Core.Bool.{true}
 use Rattle.interface.specs.Format.{decode}
 use Rattle.interface.specs.Reads.{interfaceOf}
 use Rattle.interface.specs.Parts.{chosenIn}

@@ -1,5 +1,4 @@
 use Rattle.word.proofs.Tests.{tests}
-use borrow.Author.Needs.{needs}
 use Rattle.interface.proofs.reads.topology_at.Statement.{statement}
 use Rattle.interface.proofs.reads.topology_at.Tie as tie
 

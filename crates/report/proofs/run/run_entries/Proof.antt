@@ -2,7 +2,6 @@ use Prim.Native.Nat.{_+_, _*_, _≤_}
 use mathlib.Core.Path.{_≡_}
 use mathlib.Core.List.{[]}
 use lib.ListN.{length, take, drop}
-use Rattle.interface.specs.Meaning.{Interface}
 use Rattle.interface.specs.Format.{decode}
 use Rattle.interface.specs.Reads.{interfaceOf}
 use Rattle.interface.specs.Parts.{endFrom, entryEnd}

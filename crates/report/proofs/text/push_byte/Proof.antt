@@ -1,5 +1,4 @@
 use Rattle.report.proofs.Writing.{wrote-byte}
-use Rattle.word.proofs.Tests.{tests}
 use borrow.Author.Needs.{needs}
 use Rattle.report.proofs.text.push_byte.Statement.{statement}
 use Rattle.report.proofs.text.push_byte.Tie as tie

@@ -1,5 +1,4 @@
 use Rattle.report.proofs.Writing.{half-written}
-use Rattle.word.proofs.Tests.{tests}
 use borrow.Author.Needs.{needs}
 use Rattle.report.proofs.text.push_hex_half.Statement.{statement}
 use Rattle.report.proofs.text.push_hex_half.Tie as tie

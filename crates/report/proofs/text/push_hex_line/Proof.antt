@@ -1,5 +1,4 @@
 use Rattle.report.proofs.Writing.{hex-written}
-use Rattle.word.proofs.Tests.{tests}
 use borrow.Author.Needs.{needs}
 use Rattle.report.proofs.text.push_hex_line.Statement.{statement}
 use Rattle.report.proofs.text.push_hex_line.Tie as tie

@@ -1,5 +1,4 @@
 use Rattle.resource.proofs.CodeLaws.{codes-differ, codes-agree}
-use Rattle.word.proofs.Tests.{tests}
 use borrow.Author.Needs.{needs}
 use Rattle.resource.proofs.binding_codes.same_binding.Statement.{statement}
 use Rattle.resource.proofs.binding_codes.same_binding.Tie as tie

@@ -1,5 +1,4 @@
 use Rattle.word.proofs.Tests.{tests}
-use borrow.Author.Needs.{needs}
 use Rattle.resource.proofs.derives.sampler_type.Statement.{statement}
 use Rattle.resource.proofs.derives.sampler_type.Tie as tie
 

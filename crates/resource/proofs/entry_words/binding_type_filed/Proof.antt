@@ -1,6 +1,5 @@
 use Rattle.resource.specs.Format.{bindingTypeFiled}
 use Rattle.word.proofs.Tests.{tests}
-use borrow.Author.Needs.{needs}
 use Rattle.resource.proofs.entry_words.binding_type_filed.Statement.{statement}
 use Rattle.resource.proofs.entry_words.binding_type_filed.Tie as tie
 

@@ -1,5 +1,4 @@
 use Rattle.resource.proofs.EntryLaws.{entry-past, entry-there}
-use Rattle.word.proofs.Tests.{tests}
 use borrow.Author.Needs.{needs}
 use Rattle.resource.proofs.entry_words.entry_at.Statement.{statement}
 use Rattle.resource.proofs.entry_words.entry_at.Tie as tie

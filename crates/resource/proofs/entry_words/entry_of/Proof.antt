@@ -1,5 +1,4 @@
 use Rattle.resource.proofs.EntryLaws.{entry-parts}
-use Rattle.word.proofs.Tests.{tests}
 use borrow.Author.Needs.{needs}
 use Rattle.resource.proofs.entry_words.entry_of.Statement.{statement}
 use Rattle.resource.proofs.entry_words.entry_of.Tie as tie

@@ -1,5 +1,4 @@
 use Rattle.word.proofs.Tests.{tests}
-use borrow.Author.Needs.{needs}
 use Rattle.resource.proofs.entry_words.sample_at.Statement.{statement}
 use Rattle.resource.proofs.entry_words.sample_at.Tie as tie
 

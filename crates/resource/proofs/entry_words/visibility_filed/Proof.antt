@@ -1,5 +1,4 @@
 use Rattle.word.proofs.Tests.{tests}
-use borrow.Author.Needs.{needs}
 use Rattle.resource.proofs.entry_words.visibility_filed.Statement.{statement}
 use Rattle.resource.proofs.entry_words.visibility_filed.Tie as tie
 

@@ -1,5 +1,4 @@
 use Rattle.word.proofs.Tests.{tests}
-use borrow.Author.Needs.{needs}
 use Rattle.resource.proofs.resource_words.dimension_at.Statement.{statement}
 use Rattle.resource.proofs.resource_words.dimension_at.Tie as tie
 

@@ -1,5 +1,4 @@
 use Rattle.resource.proofs.ResourceLaws.{resource-past, resource-there}
-use Rattle.word.proofs.Tests.{tests}
 use borrow.Author.Needs.{needs}
 use Rattle.resource.proofs.resource_words.resource_at.Statement.{statement}
 use Rattle.resource.proofs.resource_words.resource_at.Tie as tie

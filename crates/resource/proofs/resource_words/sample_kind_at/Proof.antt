@@ -1,5 +1,4 @@
 use Rattle.word.proofs.Tests.{tests}
-use borrow.Author.Needs.{needs}
 use Rattle.resource.proofs.resource_words.sample_kind_at.Statement.{statement}
 use Rattle.resource.proofs.resource_words.sample_kind_at.Tie as tie
 

@@ -1,5 +1,4 @@
 use Rattle.word.proofs.Tests.{tests}
-use borrow.Author.Needs.{needs}
 use Rattle.resource.proofs.texture_uses.storable.Statement.{statement}
 use Rattle.resource.proofs.texture_uses.storable.Tie as tie
 

@@ -1,5 +1,4 @@
 use Rattle.word.proofs.Tests.{tests}
-use borrow.Author.Needs.{needs}
 use Rattle.resource.proofs.uses.same_bool.Statement.{statement}
 use Rattle.resource.proofs.uses.same_bool.Tie as tie
 

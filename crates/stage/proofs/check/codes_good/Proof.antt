@@ -1,5 +1,4 @@
 use Rattle.stage.proofs.CheckLaws.{stage-past, topology-past, mode-past, dual-past, codes-last}
-use borrow.Author.Needs.{needs}
 use Rattle.stage.proofs.check.codes_good.Statement.{statement}
 use Rattle.stage.proofs.check.codes_good.Tie as tie
 

@@ -1,6 +1,5 @@
 use Rattle.resource.proofs.UseLaws.{use-buffer, use-sampler, use-texture, use-acceleration}
 use Rattle.resource.specs.Rules.{checkBindingUse}
-use Rattle.word.proofs.Tests.{tests}
 use borrow.Author.Needs.{needs}
 use Rattle.resource.proofs.types.ResourceType.check_binding_use.Statement.{statement}
 use Rattle.resource.proofs.types.ResourceType.check_binding_use.Tie as tie
