@@ -1,0 +1,13 @@
+use Rattle.bokwingi.proofs.DetailLaws.{handed-on}
+use borrow.Author.Needs.{needs}
+use Rattle.bokwingi.proofs.bokwingi_check_texture_format.Statement.{statement}
+use Rattle.bokwingi.proofs.bokwingi_check_texture_format.Tie as tie
+
+pub bokwingi-check-texture-format-spec : {M : Type 1} → statement M
+bokwingi-check-texture-format-spec =
+    tie.close
+    (tie.spec
+    (λ c κs. search needs)  -- check-texture-format-requires
+    (λ c κs. search needs)  -- hand-out-requires
+    (λ c. search needs)  -- same-length
+    (λ c. search handed-on))  -- returns
