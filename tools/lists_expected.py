@@ -6,7 +6,8 @@ of its lines, and when it prints `-` because it does not ask: for a list that is
     tools/lists_expected.py            from the repository's root: writes crates/lists_check/stdin and stdout
     tools/lists_expected.py layout N   writes to standard output one case: the tests of a layout list of N entries, N at most 255
     tools/lists_expected.py damaged N  the same with the last entry damaged, or the head where there is none
-    tools/lists_expected.py sizes N    the same as layout for a size list, N at most 511"""
+    tools/lists_expected.py sizes N    the same as layout for a size list, N at most 511
+    tools/lists_expected.py shared N   the same as sizes with places that all share one mark"""
 import random, struct, sys
 
 R = random.Random(20)
@@ -388,8 +389,9 @@ def all_cases():
 
 
 def one_case(sort, n):
-    if sort == 'sizes':
-        return case(TESTS, sizes_words(many_pairs(n), [0] * (MOST - 1 - 2 * n)))
+    if sort in ('sizes', 'shared'):
+        pairs = many_pairs(n) if sort == 'sizes' else [[place_word(0, 1024 * i), of(6, 1)] for i in range(n)]
+        return case(TESTS, sizes_words(pairs, [0] * (MOST - 1 - 2 * n)))
     ws = layout_words(8, many_entries(n), [0] * (MOST - 1 - 4 * n))
     if sort == 'damaged':
         ws[4 * n] ^= 1 << 31

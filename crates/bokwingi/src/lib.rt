@@ -4,7 +4,6 @@ ghost use Rattle.numeric.specs.Rules.{vertexFormat, textureFormat};
 ghost use Rattle.numeric.specs.Format.{formatAnswer, readType, checkTextureFormat, compareTypes, subtypeNumber};
 ghost use Rattle.interface.specs.Format.{decode};
 ghost use Rattle.interface.specs.Rules.{finalizeName};
-ghost use Rattle.stage.specs.Meaning.{Outcome};
 ghost use Rattle.stage.specs.Stage.{checkStage, call};
 ghost use Rattle.bokwingi.specs.Details.{Handed};
 use interface::choose::finalize_entry_point_name;

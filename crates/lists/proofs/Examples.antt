@@ -4,14 +4,14 @@ use mathlib.Core.Path.{_≡_, refl}
 use mathlib.Core.Bool.{Bool, true, false}
 use mathlib.Core.List.{List, [], _∷_, _++_}
 use lib.Dec.{eqb}
-use lib.ListN.{length, replicate, getD}
+use lib.ListN.{replicate}
 use Rattle.word.specs.Choice.{pick, yes}
 use Rattle.word.specs.Words.{ofKind}
 use Rattle.numeric.specs.Format.{typeFiled, typeOf, typeWord}
 use Rattle.resource.specs.Format.{bindingTypeFiled, bindingTypeOf, entryFiled, entryOf, entryWords, bindingCode, leastSize}
 use Rattle.resource.specs.declared.types.BindGroupLayoutEntry.{BindGroupLayoutEntry}
 use Rattle.varying.specs.Format.{varFiled, varOf, varWord, payloadFiled, payloadOf, payloadWord}
-use Rattle.lists.specs.Meaning.{Layout, placeIn, distinctPlaces, rising}
+use Rattle.lists.specs.Meaning.{placeIn, distinctPlaces, rising}
 use Rattle.lists.specs.Format.{groupsOf, countOf, past, records, each, flat, layoutHead, layoutFiled, decodeLayout, encodeLayout, sizesHead, sizesFiled, decodeSizes, encodeSizes}
 use Rattle.lists.specs.Format.{stageHead, outFiled, stageFiled, decodeStage, encodeStage}
 

@@ -1,21 +1,19 @@
 -- The records of each list: reader and writer belong together.
-use Prim.Native.Nat.{ℕ, zero, suc, _+_, _-_, _*_, _/_, _%_, _^_, _<_, _≤_}
+use Prim.Native.Nat.{ℕ, _^_, _<_, _≤_}
 use native.Mathlib.Omega.{arith}
-use mathlib.Core.Path.{_≡_, refl, sym, ap, _∙_}
-use mathlib.Core.Bool.{Bool, true, false, not, _&&_}
+use mathlib.Core.Path.{_≡_, refl, sym, ap}
+use mathlib.Core.Bool.{true, not}
 use mathlib.Core.List.{List, [], _∷_, _++_}
 use lib.Dec.{eqb, ltb}
 use lib.ListN.{length, drop}
-use borrow.Author.Tests.{eqb-true, eqb-false, ltb-true, eq-eqb, ne-eqb, lt-ltb, not-true}
-use Rattle.word.specs.Choice.{pick}
-use Rattle.word.specs.Words.{wordAt, kindOf, contentOf, bits, ofKind}
-use Rattle.resource.specs.Format.{placeOf, placeFiled, placeWord, placeHeld, sizeFiled, entryFiled, entryOf, entryWords, entryHeld}
+use borrow.Author.Tests.{eqb-true, ltb-true, lt-ltb}
+use Rattle.word.specs.Words.{wordAt, kindOf, contentOf, ofKind}
+use Rattle.resource.specs.Format.{placeOf, placeWord, placeHeld, sizeFiled, entryOf, entryWords, entryHeld}
 use Rattle.resource.specs.declared.types.ResourceBinding.{ResourceBinding}
 use Rattle.resource.specs.declared.types.BindGroupLayoutEntry.{BindGroupLayoutEntry}
 use Rattle.resource.proofs.ReadLaws.{place-held}
 use Rattle.resource.proofs.EntryFormat.{place-filed, place-read, place-back, entry-filed, entry-read, entry-held, entry-back}
-use Rattle.varying.specs.Format.{varFiled, varOf, varWord, varHeld, locationFiled, locatedOf, locatedWords, locatedHeld}
-use Rattle.varying.specs.declared.Located.{Located}
+use Rattle.varying.specs.Format.{varFiled, varOf, varWord, varHeld, locationFiled, locatedWords, locatedHeld}
 use Rattle.word.proofs.Truth.{first, second, both}
 use Rattle.varying.proofs.Joined.{var-written, var-held, var-filed, var-read, location-written, location-filed, location-read}
 use Rattle.lists.specs.Format.{readPlace, readEntry, entryGood, entryFits, readSize, sizeGood, sizeWords, sizeHeld, readLocated, locatedGood}

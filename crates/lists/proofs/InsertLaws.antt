@@ -1,5 +1,5 @@
 -- A variable put into a stage list by its location, over its meaning.
-use Prim.Native.Nat.{ℕ, zero, suc, _+_, _-_, _*_, _^_, _<_, _≤_}
+use Prim.Native.Nat.{ℕ, suc, _+_, _<_, _≤_}
 use native.Mathlib.Omega.{arith}
 use mathlib.Core.Path.{_≡_, refl, sym, ap, _∙_}
 use mathlib.Core.Bool.{Bool, true, false}

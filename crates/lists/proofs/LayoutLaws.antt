@@ -1,22 +1,22 @@
 -- What is done to a layout, over its meaning: a new entry, a stage joined, and the rules that stay.
-use Prim.Native.Nat.{ℕ, zero, suc, _+_, _-_, _*_, _/_, _%_, _^_, _<_, _≤_}
+use Prim.Native.Nat.{ℕ, zero, suc, _+_, _<_, _≤_}
 use native.Mathlib.Omega.{arith}
-use mathlib.Core.Path.{_≡_, refl, sym, ap, _∙_}
+use mathlib.Core.Path.{_≡_, refl, ap}
 use mathlib.Core.Bool.{Bool, true, false, not, _&&_}
-use mathlib.Core.List.{List, [], _∷_, _++_, map, map-append}
-use lib.Dec.{eqb, leb, ltb}
-use lib.ListN.{length, drop, getD, set, length-append, length-drop, length-set, length-map}
+use mathlib.Core.List.{List, [], _∷_, _++_, map-append}
+use lib.Dec.{eqb, ltb}
+use lib.ListN.{length, getD, set, length-append, length-drop, length-set, length-map}
 use lib.Seq.{map-set-same}
-use borrow.Author.Tests.{ltb-true, leb-true, lt-ltb, le-leb}
+use borrow.Author.Tests.{ltb-true, lt-ltb}
 use Rattle.word.specs.Choice.{pick}
-use Rattle.resource.specs.Format.{placeHeld, formatHeld, entryHeld}
+use Rattle.resource.specs.Format.{placeHeld, formatHeld}
 use Rattle.resource.specs.declared.types.ResourceBinding.{ResourceBinding}
 use Rattle.resource.specs.declared.types.BindGroupLayoutEntry.{BindGroupLayoutEntry}
-use Rattle.word.proofs.Truth.{first, second, both, by-test, never, allBelow, below-all}
-use Rattle.lists.specs.Meaning.{Layout, every, samePlace, placeFrom, placeIn, distinctPlaces, entryPlaces, entryHas, distinctEntries, findEntry}
-use Rattle.lists.specs.Meaning.{entryNth, emptyEntry, fits, pushed, seesBit, joinBit, seenBy, joinAt, joined}
+use Rattle.word.proofs.Truth.{first, second, never, allBelow, below-all}
+use Rattle.lists.specs.Meaning.{Layout, samePlace, entryPlaces, entryHas, findEntry}
+use Rattle.lists.specs.Meaning.{entryNth, emptyEntry, pushed, seesBit, joinBit, seenBy, joinAt, joined}
 use Rattle.lists.specs.Format.{entryFits, layoutGood}
-use Rattle.lists.specs.declared.types.Found.the-variants.{At, Nothing}
+use Rattle.lists.specs.declared.types.Found.the-variants.{At}
 use Rattle.lists.proofs.Records.{every-more, every-set, every-nth}
 use Rattle.lists.proofs.PlaceLaws.{distinct-more, found-last, found-kept}
 use Rattle.lists.proofs.LayoutLists.{Good, good, is-good}

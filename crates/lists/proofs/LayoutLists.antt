@@ -1,17 +1,16 @@
 -- A layout and its words: what is well formed is exactly what the writer makes.
-use Prim.Native.Nat.{ℕ, zero, suc, _+_, _-_, _*_, _/_, _%_, _^_, _<_, _≤_}
+use Prim.Native.Nat.{ℕ, _+_, _*_, _^_, _≤_}
 use native.Mathlib.Omega.{arith}
-use mathlib.Core.Path.{_≡_, refl, sym, ap, _∙_}
-use mathlib.Core.Bool.{Bool, true, false, _&&_}
-use mathlib.Core.List.{List, [], _∷_, _++_, map}
-use lib.Dec.{eqb, leb, ltb}
+use mathlib.Core.Path.{_≡_}
+use mathlib.Core.Bool.{true}
+use mathlib.Core.List.{List, [], _∷_}
 use lib.ListN.{length, drop, length-append}
-use borrow.Author.Tests.{eqb-true, leb-true, eq-eqb, le-leb}
+use borrow.Author.Tests.{eqb-true, leb-true, le-leb}
 use Rattle.word.specs.Words.{wordAt, kindOf, bits, ofKind}
-use Rattle.resource.specs.Format.{entryWords, entryOf}
-use Rattle.word.proofs.Truth.{first, second, both}
-use Rattle.lists.specs.Meaning.{Layout, every, entryPlaces, distinctEntries}
-use Rattle.lists.specs.Format.{shortEnough, past, records, each, flat, places, groupsOf, countOf, readEntry, entryGood, entryFits, readEntries}
+use Rattle.resource.specs.Format.{entryWords}
+use Rattle.word.proofs.Truth.{first, second}
+use Rattle.lists.specs.Meaning.{Layout, every, distinctEntries}
+use Rattle.lists.specs.Format.{past, each, flat, groupsOf, countOf, readEntry, entryGood, entryFits, readEntries}
 use Rattle.lists.specs.Format.{layoutHead, layoutFiled, decodeLayout, encodeLayout, layoutGood}
 use Rattle.lists.proofs.Records.{read-length, room-length, flat-length, flat-read, every-read, read-flat, past-flat, each-flat}
 use Rattle.lists.proofs.Forms.{entry-form}

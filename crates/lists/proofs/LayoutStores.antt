@@ -1,18 +1,17 @@
 -- What the code's stores into a layout list make of it.
-use Prim.Native.Nat.{ℕ, zero, suc, _+_, _-_, _*_, _/_, _%_, _^_, _<_, _≤_}
+use Prim.Native.Nat.{ℕ, suc, _+_, _*_, _^_, _<_, _≤_}
 use native.Mathlib.Omega.{arith}
 use mathlib.Core.Path.{_≡_, refl, sym, ap, _∙_}
-use mathlib.Core.Bool.{Bool, true, false, _&&_}
+use mathlib.Core.Bool.{true, false}
 use mathlib.Core.List.{List, [], _∷_, _++_}
-use lib.Dec.{leb}
 use lib.ListN.{length, drop, getD, set, length-append, length-drop}
 use borrow.Author.Tests.{ltb-true, le-leb, lt-leb}
 use Rattle.word.specs.Words.{wordAt, kindOf, contentOf, bits, ofKind}
 use Rattle.resource.specs.Format.{placeWord, bindingCode, leastSize, entryWords, entryOf, entryHeld}
 use Rattle.resource.specs.declared.types.BindGroupLayoutEntry.{BindGroupLayoutEntry}
-use Rattle.word.proofs.Truth.{first, second}
-use Rattle.lists.specs.Meaning.{Layout, entryHas, entryNth, emptyEntry, fits, pushed, joinBit, seenBy, joinAt, joined}
-use Rattle.lists.specs.Format.{put, past, records, each, flat, countOf, groupsOf, readEntry, readEntries, entryGood, entryFits}
+use Rattle.word.proofs.Truth.{second}
+use Rattle.lists.specs.Meaning.{entryHas, entryNth, emptyEntry, fits, pushed, joinBit, seenBy, joinAt, joined}
+use Rattle.lists.specs.Format.{put, past, each, flat, countOf, groupsOf, readEntry, readEntries, entryGood, entryFits}
 use Rattle.lists.specs.Format.{layoutFiled, decodeLayout, encodeLayout, layoutGood}
 use Rattle.lists.proofs.Words.{put-put, put-next, there}
 use Rattle.lists.proofs.Records.{read-length, room-length, flat-read, put-last, set-flat}

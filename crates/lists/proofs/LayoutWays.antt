@@ -1,20 +1,18 @@
 -- The code's ways through a layout list.
-use Prim.Native.Nat.{ℕ, zero, suc, _+_, _-_, _*_, _/_, _%_, _^_, _<_, _≤_}
+use Prim.Native.Nat.{ℕ, zero, suc, _+_, _*_, _<_, _≤_}
 use native.Mathlib.Omega.{arith}
-use mathlib.Core.Path.{_≡_, refl, sym, ap, _∙_}
-use mathlib.Core.Bool.{Bool, true, false, not, _&&_}
-use mathlib.Core.List.{List, [], _∷_, _++_, map}
+use mathlib.Core.Path.{_≡_, refl, sym, _∙_}
+use mathlib.Core.Bool.{Bool, true, false, _&&_}
+use mathlib.Core.List.{List}
 use lib.Dec.{eqb, leb, ltb}
 use lib.ListN.{length, drop}
 use lib.Seq.{drop-drop}
-use borrow.Author.Tests.{not-true, not-false}
-use Rattle.word.specs.Choice.{pick}
-use Rattle.word.specs.Words.{wordAt, kindOf, contentOf, bits}
+use Rattle.word.specs.Words.{wordAt, kindOf, bits}
 use Rattle.resource.specs.Format.{entryFiledAt, entryAt, entryOf}
 use Rattle.resource.specs.declared.types.ResourceBinding.{ResourceBinding}
 use Rattle.resource.specs.declared.types.BindGroupLayoutEntry.{BindGroupLayoutEntry}
-use Rattle.lists.specs.Meaning.{Layout, placeFrom, distinctPlaces, distinctEntries, entryPlaces, findEntry, foundBelow, entryNth, emptyEntry}
-use Rattle.lists.specs.Format.{records, each, countOf, groupsOf, places, readEntry, entryGood, readEntries, layoutHead, layoutFiled, decodeLayout}
+use Rattle.lists.specs.Meaning.{placeFrom, distinctPlaces, distinctEntries, entryPlaces, findEntry, foundBelow, entryNth, emptyEntry}
+use Rattle.lists.specs.Format.{records, each, countOf, groupsOf, places, readEntry, entryGood, readEntries, layoutHead, decodeLayout}
 use Rattle.lists.specs.declared.types.Found.{Found}
 use Rattle.lists.proofs.Records.{read-length, read-mapped, nth-record}
 use Rattle.lists.proofs.LayoutLaws.{nth-getD}

@@ -5,6 +5,7 @@ pub mod Records
 pub mod BitWays
 pub mod PlaceLaws
 pub mod PlaceWays
+pub mod MarkLaws
 pub mod Forms
 pub mod LayoutLists
 pub mod LayoutLaws

@@ -1,25 +1,25 @@
 -- What the code's stores into the list out make of it.
-use Prim.Native.Nat.{ℕ, zero, suc, _+_, _-_, _*_, _/_, _%_, _^_, _<_, _≤_}
+use Prim.Native.Nat.{ℕ, suc, _+_, _-_, _*_, _^_, _<_, _≤_}
 use native.Mathlib.Omega.{arith}
 use native.Mathlib.Numerals.{add-one}
 use mathlib.Core.Path.{_≡_, refl, sym, ap, _∙_}
 use mathlib.Core.Bool.{Bool, true, false}
-use mathlib.Core.List.{List, [], _∷_, _++_, append-assoc, append-nil}
-use lib.ListN.{length, take, drop, getD, set, length-append, length-drop, take-append-drop}
+use mathlib.Core.List.{List, [], _∷_, _++_, append-assoc}
+use lib.ListN.{length, take, drop, set, length-append, length-drop, take-append-drop}
 use lib.Seq.{drop-drop, drop-at, take-suc, length-take-le}
 use borrow.Author.Tests.{ltb-true}
 use Rattle.word.specs.Choice.{pick}
 use Rattle.word.specs.Words.{wordAt, kindOf, contentOf, bits, ofKind}
-use Rattle.varying.specs.Format.{locatedWords, locatedHeld, varFiled, varHeld, varOf, varWord, payloadHeld, payloadWord, payloadOf}
+use Rattle.varying.specs.Format.{locatedWords, locatedHeld, varFiled, varHeld, varOf, varWord, payloadHeld, payloadWord}
 use Rattle.varying.specs.declared.Located.{Located}
 use Rattle.varying.specs.declared.Payload.{Payload}
-use Rattle.word.proofs.Truth.{first, second, by-test}
+use Rattle.word.proofs.Truth.{first, second}
 use Rattle.varying.proofs.Joined.{payload-written, location-written, var-written, var-filed, var-read}
 use Rattle.lists.specs.Meaning.{StageIo, every, rising, insert, inserted, varyingAt, isProvided}
-use Rattle.lists.specs.Format.{put, past, records, each, flat, countOf, primitiveAt, primitiveCode, readLocated, locatedGood, readVaryings}
+use Rattle.lists.specs.Format.{put, past, each, flat, countOf, primitiveCode, readLocated, locatedGood, readVaryings}
 use Rattle.lists.specs.Format.{outFiled, decodeStage, encodeStage, outGood}
 use Rattle.lists.specs.declared.types.PrimitiveIndex.{PrimitiveIndex}
-use Rattle.lists.proofs.Words.{here, there, put-put, put-next}
+use Rattle.lists.proofs.Words.{here, there, put-put}
 use Rattle.lists.proofs.Records.{read-length, room-length, left-cons, left-none, each-cons, first-passes, rest-passes, past-drop, flat-length, take-read}
 use Rattle.lists.proofs.Forms.{two, located-form}
 use Rattle.lists.proofs.StageLists.{Filed, filed, is-good, code-back, decode-encode, filed-encode, good-decode}

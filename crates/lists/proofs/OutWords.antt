@@ -1,9 +1,8 @@
 -- The words that a stage list is written in.
-use Prim.Native.Nat.{ℕ, _+_, _*_, _/_, _^_, _<_, _≤_}
+use Prim.Native.Nat.{ℕ, _+_, _*_, _^_, _<_, _≤_}
 use native.Mathlib.Omega.{arith}
-use mathlib.Core.Path.{_≡_, refl, sym, ap, _∙_}
-use mathlib.Core.Bool.{Bool, true, false, _&&_}
-use lib.Dec.{eqb, ltb}
+use mathlib.Core.Path.{_≡_}
+use mathlib.Core.Bool.{true}
 use borrow.Author.Tests.{eqb-true, ltb-true}
 use Rattle.word.specs.Choice.{pick, yes}
 use Rattle.word.specs.Words.{kindOf, ofKind}

@@ -1,18 +1,16 @@
 -- Places in a list: one more at the end, and the position of one.
-use Prim.Native.Nat.{ℕ, zero, suc, _+_, _-_, _<_, _≤_}
+use Prim.Native.Nat.{ℕ, suc, _+_, _-_, _<_, _≤_}
 use native.Mathlib.Omega.{arith}
-use mathlib.Core.Path.{_≡_, refl, sym, ap, _∙_}
-use mathlib.Core.Bool.{Bool, true, false, _&&_}
+use mathlib.Core.Path.{_≡_, refl}
+use mathlib.Core.Bool.{Bool, true, false}
 use mathlib.Core.List.{List, [], _∷_, _++_}
-use lib.Dec.{eqb}
 use lib.ListN.{length, getD}
 use borrow.Author.Tests.{eqb-true, eq-eqb}
 use Rattle.word.specs.Choice.{pick}
 use Rattle.resource.specs.declared.types.ResourceBinding.{ResourceBinding}
 use Rattle.word.proofs.Truth.{first, second, by-test, never}
 use Rattle.lists.specs.Meaning.{samePlace, placeFrom, placeIn, distinctPlaces}
-use Rattle.lists.specs.declared.types.Found.{Found}
-use Rattle.lists.specs.declared.types.Found.the-variants.{At, Nothing}
+use Rattle.lists.specs.declared.types.Found.the-variants.{At}
 
 pub same-place-eq : (a b : ResourceBinding) → samePlace a b ≡ true → a ≡ b
 same-place-eq a b h =

@@ -1,5 +1,5 @@
 -- The code's ways through places.
-use Prim.Native.Nat.{ℕ, zero, suc, _+_, _-_, _*_, _^_, _<_, _≤_}
+use Prim.Native.Nat.{ℕ, _+_, _-_, _<_, _≤_}
 use native.Mathlib.Omega.{arith}
 use mathlib.Core.Path.{_≡_, refl, sym, ap, _∙_}
 use mathlib.Core.Bool.{Bool, true, false}
@@ -10,11 +10,11 @@ use Rattle.word.specs.Words.{wordAt}
 use Rattle.resource.specs.Format.{placeOf}
 use Rattle.resource.specs.declared.types.ResourceBinding.{ResourceBinding}
 use Rattle.lists.specs.Meaning.{samePlace, placeFrom, placeIn, distinctPlaces}
-use Rattle.lists.specs.Format.{countOf, records, readPlace, places}
+use Rattle.lists.specs.Format.{readPlace, places}
 use Rattle.lists.specs.declared.types.Found.{Found}
 use Rattle.lists.specs.declared.types.Found.the-variants.{At, Nothing}
 use Rattle.lists.proofs.Records.{left-cons, left-none}
-use Rattle.lists.proofs.Words.{here, there}
+use Rattle.lists.proofs.Words.{here}
 
 -- ---- a place sought
 

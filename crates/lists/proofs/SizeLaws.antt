@@ -1,23 +1,21 @@
 -- What is done to a size list, over its meaning: each place keeps the largest size recorded.
-use Prim.Native.Nat.{ℕ, zero, suc, _+_, _-_, _*_, _^_, _<_, _≤_, max}
+use Prim.Native.Nat.{ℕ, suc, _+_, _-_, _^_, _<_, _≤_, max}
 use native.Mathlib.Omega.{arith}
-use mathlib.Core.Path.{_≡_, refl, sym, ap, _∙_}
-use mathlib.Core.Bool.{Bool, true, false, not, _&&_}
-use mathlib.Core.List.{List, [], _∷_, _++_, map, map-append}
-use lib.Dec.{eqb, leb, ltb}
-use lib.ListN.{length, drop, getD, set, length-append, length-drop, length-set, length-map, List·getD-map}
-use lib.Seq.{map-set-same}
-use borrow.Author.Tests.{ltb-true, lt-ltb, le-leb, leb-true, ne-eqb, eqb-false, not-true}
-use Rattle.word.specs.Choice.{pick}
+use mathlib.Core.Path.{_≡_, refl}
+use mathlib.Core.Bool.{true, false, not}
+use mathlib.Core.List.{List, [], _∷_, _++_, map-append}
+use lib.Dec.{eqb}
+use lib.ListN.{length, drop, getD, set, length-append, length-drop}
+use borrow.Author.Tests.{ltb-true, lt-ltb, leb-true, ne-eqb, eqb-false, not-true}
 use Rattle.resource.specs.Format.{placeHeld}
 use Rattle.resource.specs.declared.types.ResourceBinding.{ResourceBinding}
-use Rattle.word.proofs.Truth.{first, second, both, by-test, never}
-use Rattle.lists.specs.Meaning.{Sizes, every, samePlace, placeFrom, placeIn, distinctPlaces, sizePlaces, sizeHas, distinctSizes, sizeAt, raiseAt, sizeRecord, sizeFits, recorded, fits}
+use Rattle.word.proofs.Truth.{first, second, by-test, never}
+use Rattle.lists.specs.Meaning.{Sizes, every, samePlace, placeFrom, placeIn, sizePlaces, sizeHas, sizeAt, raiseAt, sizeRecord, sizeFits, recorded, fits}
 use Rattle.lists.specs.Format.{sizeHeld, sizesGood}
 use Rattle.lists.specs.declared.types.SizeRecord.{SizeRecord}
-use Rattle.lists.specs.declared.types.Found.the-variants.{At, Nothing}
+use Rattle.lists.specs.declared.types.Found.the-variants.{At}
 use Rattle.lists.proofs.Records.{first-passes, rest-passes, every-more}
-use Rattle.lists.proofs.PlaceLaws.{same-place-eq, same-place-refl, found-not, FoundAt, found-there, in-last, distinct-more}
+use Rattle.lists.proofs.PlaceLaws.{same-place-eq, same-place-refl, found-not, found-there, in-last, distinct-more}
 use Rattle.lists.proofs.SizeLists.{Good, good, is-good}
 
 abbrev pub raised : ℕ → SizeRecord → SizeRecord

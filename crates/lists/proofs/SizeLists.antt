@@ -1,14 +1,13 @@
 -- A size list and its words: what is well formed is exactly what the writer makes.
-use Prim.Native.Nat.{ℕ, zero, suc, _+_, _-_, _*_, _/_, _%_, _^_, _<_, _≤_}
+use Prim.Native.Nat.{ℕ, _+_, _*_, _≤_}
 use native.Mathlib.Omega.{arith}
-use mathlib.Core.Path.{_≡_, refl, sym, ap, _∙_}
-use mathlib.Core.Bool.{Bool, true, false, _&&_}
-use mathlib.Core.List.{List, [], _∷_, _++_}
-use lib.Dec.{eqb, leb, ltb}
+use mathlib.Core.Path.{_≡_}
+use mathlib.Core.Bool.{true}
+use mathlib.Core.List.{List, [], _∷_}
 use lib.ListN.{length, drop, length-append}
-use borrow.Author.Tests.{eqb-true, leb-true, eq-eqb, le-leb}
+use borrow.Author.Tests.{eqb-true, leb-true, le-leb}
 use Rattle.word.specs.Words.{wordAt, kindOf, bits, ofKind}
-use Rattle.word.proofs.Truth.{first, second, both}
+use Rattle.word.proofs.Truth.{first, second}
 use Rattle.lists.specs.Meaning.{Sizes, every, distinctSizes}
 use Rattle.lists.specs.Format.{past, records, each, flat, countOf, readSize, sizeGood, sizeWords, sizeHeld, readSizes}
 use Rattle.lists.specs.Format.{sizesHead, sizesFiled, decodeSizes, encodeSizes, sizesGood}

@@ -1,20 +1,18 @@
 -- What the code's stores into a size list make of it.
-use Prim.Native.Nat.{ℕ, zero, suc, _+_, _-_, _*_, _/_, _%_, _^_, _<_, _≤_, max}
+use Prim.Native.Nat.{ℕ, suc, _+_, _-_, _*_, _^_, _<_, _≤_, max}
 use native.Mathlib.Omega.{arith}
-use mathlib.Core.Path.{_≡_, refl, sym, ap, _∙_}
-use mathlib.Core.Bool.{Bool, true, false, _&&_}
+use mathlib.Core.Path.{_≡_, sym, ap, _∙_}
+use mathlib.Core.Bool.{true, false}
 use mathlib.Core.List.{List, [], _∷_, _++_}
-use lib.Dec.{leb, eqb}
 use lib.ListN.{length, drop, getD, set, length-append, length-drop, length-map}
-use lib.Seq.{set-getD}
 use borrow.Author.Tests.{eqb-true, le-leb, lt-leb}
 use Rattle.word.specs.Words.{wordAt, kindOf, contentOf, bits, ofKind}
 use Rattle.resource.specs.Format.{placeWord, placeHeld}
 use Rattle.resource.specs.declared.types.ResourceBinding.{ResourceBinding}
 use Rattle.word.proofs.Truth.{first, second}
-use Rattle.lists.specs.Meaning.{Sizes, placeFrom, placeIn, sizePlaces, sizeHas, raiseAt, sizeRecord, sizeFits, recorded, fits}
+use Rattle.lists.specs.Meaning.{placeFrom, sizePlaces, sizeHas, sizeRecord, sizeFits, recorded}
 use Rattle.lists.specs.Format.{put, past, records, each, flat, countOf, places, readSize, readSizes, sizeGood, sizeWords}
-use Rattle.lists.specs.Format.{sizesFiled, decodeSizes, encodeSizes, sizesGood}
+use Rattle.lists.specs.Format.{sizesFiled, decodeSizes, encodeSizes}
 use Rattle.lists.specs.declared.types.SizeRecord.{SizeRecord}
 use Rattle.lists.specs.declared.types.Found.{Found}
 use Rattle.lists.specs.declared.types.Found.the-variants.{At, Nothing}

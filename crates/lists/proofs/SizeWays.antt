@@ -1,17 +1,16 @@
 -- The code's ways through a size list.
-use Prim.Native.Nat.{ℕ, zero, suc, _+_, _-_, _*_, _/_, _%_, _^_, _<_, _≤_}
-use native.Mathlib.Omega.{arith}
-use mathlib.Core.Path.{_≡_, refl, sym, ap, _∙_}
-use mathlib.Core.Bool.{Bool, true, false, not, _&&_}
-use mathlib.Core.List.{List, [], _∷_, _++_}
+use Prim.Native.Nat.{ℕ, _+_, _*_}
+use mathlib.Core.Path.{_≡_}
+use mathlib.Core.Bool.{Bool, false, _&&_}
+use mathlib.Core.List.{List}
 use lib.Dec.{eqb, leb}
 use lib.ListN.{length, drop}
 use borrow.Author.Tests.{eq-eqb, ne-eqb}
-use Rattle.word.specs.Words.{wordAt, kindOf, contentOf, bits}
+use Rattle.word.specs.Words.{wordAt, kindOf, bits}
 use Rattle.resource.specs.Format.{sizeFiled}
 use Rattle.lists.specs.Meaning.{distinctPlaces, distinctSizes, sizePlaces}
 use Rattle.lists.specs.Format.{countOf, places, readSize, sizeGood, readSizes, sizesHead}
-use Rattle.lists.proofs.Records.{read-length, read-mapped}
+use Rattle.lists.proofs.Records.{read-mapped}
 use Rattle.lists.proofs.Words.{here, there}
 
 pub head-word : (ws : List ℕ) (w : ℕ) (r : Bool) → w ≡ wordAt ws 0

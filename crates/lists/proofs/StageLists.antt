@@ -1,23 +1,22 @@
 -- A stage list and its words: what is well formed is exactly what the writer makes.
-use Prim.Native.Nat.{ℕ, zero, suc, _+_, _-_, _*_, _/_, _%_, _^_, _<_, _≤_}
+use Prim.Native.Nat.{ℕ, _+_, _*_, _^_, _<_, _≤_}
 use native.Mathlib.Omega.{arith}
-use mathlib.Core.Path.{_≡_, refl, sym, ap, _∙_}
-use mathlib.Core.Bool.{Bool, true, false, _&&_}
-use mathlib.Core.List.{List, [], _∷_, _++_}
-use lib.Dec.{eqb, leb, ltb}
+use mathlib.Core.Path.{_≡_, refl, ap}
+use mathlib.Core.Bool.{true}
+use mathlib.Core.List.{List, [], _∷_}
+use lib.Dec.{eqb, leb}
 use lib.ListN.{length, drop, length-append}
-use borrow.Author.Tests.{eqb-true, leb-true, ltb-true, eq-eqb, le-leb, lt-ltb}
-use Rattle.word.specs.Choice.{pick}
+use borrow.Author.Tests.{eqb-true, leb-true, ltb-true, le-leb, lt-ltb}
 use Rattle.word.specs.Words.{wordAt, kindOf, bits, ofKind}
-use Rattle.varying.specs.Format.{locatedWords, locatedHeld, payloadFiled, payloadOf, payloadWord, payloadHeld}
-use Rattle.word.proofs.Truth.{first, second, both, allBelow, below-all}
+use Rattle.varying.specs.Format.{locatedWords, locatedHeld, payloadFiled, payloadWord, payloadHeld}
+use Rattle.word.proofs.Truth.{first, second, both, below-all}
 use Rattle.varying.proofs.Joined.{payload-written, payload-held, payload-filed, payload-read}
 use Rattle.lists.specs.Meaning.{StageIo, every, rising}
-use Rattle.lists.specs.Format.{past, records, each, flat, countOf, primitiveAt, primitiveCode, readLocated, locatedGood, readVaryings}
+use Rattle.lists.specs.Format.{past, each, flat, countOf, primitiveAt, primitiveCode, readLocated, locatedGood, readVaryings}
 use Rattle.lists.specs.Format.{stageHead, outFiled, stageFiled, decodeStage, encodeStage, outGood, stageGood}
 use Rattle.lists.specs.declared.types.PrimitiveIndex.{PrimitiveIndex}
 use Rattle.lists.specs.declared.types.PrimitiveIndex.the-variants as Index
-use Rattle.lists.proofs.Records.{read-length, room-length, flat-length, flat-read, every-read, read-flat, past-flat, each-flat}
+use Rattle.lists.proofs.Records.{read-length, flat-length, flat-read, every-read, read-flat, past-flat, each-flat}
 use Rattle.lists.proofs.Forms.{located-form}
 
 -- ---- what well-formed words say

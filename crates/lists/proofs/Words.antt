@@ -1,12 +1,12 @@
 -- Words at a position, and words written there.
-use Prim.Native.Nat.{ℕ, zero, suc, _+_, _<_, _≤_, max}
+use Prim.Native.Nat.{ℕ, suc, _+_, _<_, _≤_, max}
 use native.Mathlib.Omega.{arith}
 use native.Mathlib.Nat.{add-zero}
 use native.Mathlib.Numerals.{add-one}
-use mathlib.Core.Path.{_≡_, refl, sym, ap, _∙_}
+use mathlib.Core.Path.{_≡_, sym, ap, _∙_}
 use mathlib.Core.List.{List, [], _∷_, _++_, append-assoc}
-use lib.ListN.{length, take, drop, set, length-append, length-take, length-drop}
-use lib.Seq.{getD-drop, set-getD, sets, sets-eq, take-at, drop-at, drop-drop, length-take-le}
+use lib.ListN.{length, take, drop, set, length-append}
+use lib.Seq.{getD-drop, set-getD, sets-eq, take-at, drop-at, drop-drop, length-take-le}
 use Rattle.word.specs.Words.{wordAt}
 use Rattle.lists.specs.Format.{put}
 

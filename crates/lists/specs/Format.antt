@@ -1,6 +1,6 @@
 -- How words carry the lists (document 01, 'Layout list', 'Size list', 'Stage list').
 use Prim.Native.Nat.{ℕ, zero, suc, _+_, _*_, _^_}
-use mathlib.Core.Bool.{Bool, true, false, not, _&&_, _||_}
+use mathlib.Core.Bool.{Bool, true, false, not, _&&_}
 use mathlib.Core.List.{List, [], _∷_, _++_}
 use lib.Dec.{eqb, leb, ltb}
 use lib.ListN.{length, take, drop}
@@ -9,7 +9,7 @@ use Rattle.word.specs.Words.{wordAt, kindOf, contentOf, bits, ofKind}
 use Rattle.resource.specs.Format.{placeOf, placeFiled, placeWord, placeHeld, sizeFiled, entryFiledAt, entryAt, entryWords, entryHeld}
 use Rattle.resource.specs.declared.types.ResourceBinding.{ResourceBinding}
 use Rattle.resource.specs.declared.types.BindGroupLayoutEntry.{BindGroupLayoutEntry}
-use Rattle.varying.specs.Format.{locationFiled, varFiled, varOf, locatedOf, locatedWords, locatedHeld, payloadFiled, payloadOf, payloadWord, payloadHeld}
+use Rattle.varying.specs.Format.{locationFiled, varFiled, locatedOf, locatedWords, locatedHeld, payloadFiled, payloadOf, payloadWord, payloadHeld}
 use Rattle.varying.specs.declared.Located.{Located}
 use Rattle.lists.specs.Meaning.{Layout, Sizes, StageIo, every, distinctEntries, distinctSizes, rising}
 use Rattle.lists.specs.declared.types.SizeRecord.{SizeRecord}

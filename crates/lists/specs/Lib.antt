@@ -1,2 +1,3 @@
 pub mod Meaning
 pub mod Format
+pub mod Marks

@@ -1,6 +1,6 @@
 -- What the lent lists are, and what is done to them.
 use Prim.Native.Nat.{ℕ, zero, suc, _+_, _/_, _%_, _^_, max}
-use mathlib.Core.Bool.{Bool, true, false, not, _&&_}
+use mathlib.Core.Bool.{Bool, true, false, _&&_}
 use mathlib.Core.List.{List, [], _∷_, _++_, map}
 use lib.Dec.{eqb, leb, ltb}
 use lib.ListN.{length, drop}

@@ -1,6 +1,6 @@
 // A layout list: whether it is one, what it holds, a new entry, and a stage joined to one.
 ghost use mathlib.Core.Path.{_≡_};
-ghost use mathlib.Core.Bool.{Bool, true, false};
+ghost use mathlib.Core.Bool.{true, false};
 ghost use Prim.Native.Nat.{_+_, _<_, _≤_};
 ghost use lib.ListN.{length, drop};
 ghost use Rattle.word.specs.Choice.{pick};

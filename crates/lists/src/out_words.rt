@@ -1,7 +1,7 @@
 // The words that a stage list is written in.
 ghost use mathlib.Core.Path.{_≡_};
-ghost use mathlib.Core.Bool.{Bool, true};
-ghost use Prim.Native.Nat.{_+_, _*_, _<_, _≤_, _^_};
+ghost use mathlib.Core.Bool.{true};
+ghost use Prim.Native.Nat.{_+_, _*_, _≤_, _^_};
 ghost use Rattle.word.specs.Choice.{pick, yes};
 ghost use Rattle.word.specs.Words.{ofKind};
 ghost use Rattle.varying.specs.Format.{varHeld, varWord, payloadHeld, payloadWord};

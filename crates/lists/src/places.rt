@@ -1,11 +1,12 @@
 // Places, each in the first word of a record of some width.
 ghost use mathlib.Core.Path.{_≡_};
-ghost use mathlib.Core.Bool.{Bool, true};
+ghost use mathlib.Core.Bool.{true};
 ghost use Prim.Native.Nat.{_<_, _≤_, _^_};
 ghost use lib.ListN.{drop};
 ghost use Rattle.word.specs.Words.{wordAt};
 ghost use Rattle.resource.specs.Format.{placeOf};
-ghost use Rattle.lists.specs.Meaning.{samePlace, placeFrom, placeIn, distinctPlaces, foundBelow};
+ghost use Rattle.lists.specs.Meaning.{samePlace, placeFrom, placeIn, distinctPlaces, foundBelow, every};
+ghost use Rattle.lists.specs.Marks.{slot, marked};
 ghost use Rattle.lists.specs.Format.{countOf, places};
 use crate::heads::count;
 use crate::types::Found;
@@ -54,8 +55,8 @@ fn has_place(l: &[u32], from: usize, n: usize, width: usize, place: ResourceBind
     }
 }
 
-// Whether no two records have one place.
-pub fn distinct_places(l: &[u32], width: usize) -> bool
+// Whether no two records have one place: each is compared with all behind it.
+fn distinct_pairs(l: &[u32], width: usize) -> bool
     requires { ⌜ width ≤ 4 ⌝ }
     ensures { λ r. ⌜ r ≡ distinctPlaces (places width (countOf (now (l .entry))) (drop 1 (now (l .entry)))) ⌝ }
 {
@@ -70,4 +71,66 @@ pub fn distinct_places(l: &[u32], width: usize) -> bool
         }
     }
     true
+}
+
+// Where a place has its mark.
+fn slot_of(place: ResourceBinding) -> usize
+    ensures { λ r. ⌜ r ≡ slot place ⌝ }
+    ensures { λ r. ⌜ r < 1024 ⌝ }
+{
+    ((place.binding % 1024 + 128 * (place.group % 8)) % 1024) as usize
+}
+
+// Whether a place is among those of records that all have their mark. Without a mark it is not.
+fn has_marked(
+    l: &[u32],
+    from: usize,
+    n: usize,
+    width: usize,
+    place: ResourceBinding,
+    marks: &[u8; 1024],
+) -> bool
+    requires { ⌜ (from < 2 ^ 32) × (n < 2 ^ 32) × (width ≤ 4) ⌝ }
+    requires { ⌜ every (marked (now marks)) (places width n (drop from (now l))) ≡ true ⌝ }
+    ensures { λ r. ⌜ r ≡ placeIn place (places width n (drop from (now (l .entry)))) ⌝ }
+{
+    let slot = slot_of(place);
+    if marks[slot] == 0 {
+        return false;
+    }
+    has_place(l, from, n, width, place)
+}
+
+// Whether no two records have one place, from the last record to the first: those behind have their mark.
+fn distinct_marked(l: &[u32], width: usize) -> bool
+    requires { ⌜ width ≤ 4 ⌝ }
+    ensures { λ r. ⌜ r ≡ distinctPlaces (places width (countOf (now (l .entry))) (drop 1 (now (l .entry)))) ⌝ }
+{
+    let n = count(l);
+    let mut marks: [u8; 1024] = [0; 1024];
+    let mut at = 1 + width * n;
+    let mut left = n;
+    while left != 0 {
+        let behind = at;
+        at -= width;
+        let place = place_at(l, at);
+        if has_marked(l, behind, n - left, width, place, &marks) {
+            return false;
+        }
+        let slot = slot_of(place);
+        marks[slot] = 1;
+        left -= 1;
+    }
+    true
+}
+
+// Whether no two records have one place. Marks pay where there are more than a few.
+pub fn distinct_places(l: &[u32], width: usize) -> bool
+    requires { ⌜ width ≤ 4 ⌝ }
+    ensures { λ r. ⌜ r ≡ distinctPlaces (places width (countOf (now (l .entry))) (drop 1 (now (l .entry)))) ⌝ }
+{
+    if count(l) <= 12 {
+        return distinct_pairs(l, width);
+    }
+    distinct_marked(l, width)
 }

@@ -1,6 +1,6 @@
 // A size list: whether it is one, and a size recorded.
 ghost use mathlib.Core.Path.{_≡_};
-ghost use mathlib.Core.Bool.{Bool, true, false};
+ghost use mathlib.Core.Bool.{true, false};
 ghost use Prim.Native.Nat.{_<_, _≤_, _^_};
 ghost use lib.ListN.{drop};
 ghost use Rattle.resource.specs.Format.{placeHeld};

@@ -1,11 +1,10 @@
 // What the stage before provides: its variables by rising location, its payload and its primitive index.
 ghost use mathlib.Core.Path.{_≡_};
-ghost use mathlib.Core.Bool.{Bool};
-ghost use Prim.Native.Nat.{_<_, _≤_, _+_, _*_, _^_};
-ghost use lib.ListN.{length, drop};
+ghost use Prim.Native.Nat.{_<_, _+_, _*_, _^_};
+ghost use lib.ListN.{drop};
 ghost use Rattle.word.specs.Words.{wordAt, contentOf};
 ghost use Rattle.lists.specs.Meaning.{rising, varyingAt};
-ghost use Rattle.lists.specs.Format.{countOf, each, locatedGood, readVaryings, primitiveAt, stageHead, outFiled, stageFiled, decodeStage};
+ghost use Rattle.lists.specs.Format.{countOf, each, locatedGood, readVaryings, stageHead, outFiled, stageFiled, decodeStage};
 use crate::heads::count;
 use crate::types::PrimitiveIndex;
 use crate::types::Provided;

@@ -1,6 +1,5 @@
 // The stages that see a layout entry.
 ghost use mathlib.Core.Path.{_≡_};
-ghost use mathlib.Core.Bool.{Bool};
 ghost use Prim.Native.Nat.{_+_, _<_, _≤_, _^_};
 ghost use Rattle.lists.specs.Meaning.{seesBit, joinBit};
 

@@ -1,4 +1,4 @@
-use Rattle.word.proofs.Truth.{first, second}
+use Rattle.word.proofs.Truth.{first}
 use Rattle.lists.proofs.LayoutStores.{room-lacks, room-fits, words-kept, head-more, push-stored, push-decoded, push-filed}
 use borrow.Author.Needs.{needs}
 use Rattle.lists.proofs.layout.push_entry.Statement.{statement}

@@ -1,5 +1,4 @@
 use Rattle.word.proofs.Tests.{tests}
-use borrow.Author.Needs.{needs}
 use Rattle.lists.proofs.places.same_place.Statement.{statement}
 use Rattle.lists.proofs.places.same_place.Tie as tie
 

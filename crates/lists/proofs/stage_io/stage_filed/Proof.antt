@@ -1,4 +1,3 @@
-use Rattle.lists.proofs.Ways.{test-fails, test-passes}
 use Rattle.word.proofs.Tests.{tests}
 use borrow.Author.Needs.{needs}
 use Rattle.lists.proofs.stage_io.stage_filed.Statement.{statement}

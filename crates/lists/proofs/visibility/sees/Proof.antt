@@ -1,5 +1,4 @@
 use Rattle.lists.proofs.BitWays.{sees-first, sees-is, sees-last}
-use borrow.Author.Needs.{needs}
 use Rattle.lists.proofs.visibility.sees.Statement.{statement}
 use Rattle.lists.proofs.visibility.sees.Tie as tie
 

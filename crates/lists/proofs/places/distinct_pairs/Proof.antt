@@ -5,8 +5,8 @@ use Rattle.lists.specs.Meaning.{distinctPlaces}
 use Rattle.lists.specs.Format.{countOf, places}
 use Rattle.lists.proofs.PlaceWays.{distinct-begins, distinct-twice, distinct-onward, distinct-ended}
 use borrow.Author.Needs.{needs}
-use Rattle.lists.proofs.places.distinct_places.Statement.{statement}
-use Rattle.lists.proofs.places.distinct_places.Tie as tie
+use Rattle.lists.proofs.places.distinct_pairs.Statement.{statement}
+use Rattle.lists.proofs.places.distinct_pairs.Tie as tie
 
 abbrev Inv-loop : tie.InvT-loop
 Inv-loop l width at₀ left₀ at left = (at + 4 * left < 2 ^ 30) × (distinctPlaces (places width (countOf l) (drop 1 l)) ≡ distinctPlaces (places width left (drop at l)))
@@ -14,8 +14,8 @@ Inv-loop l width at₀ left₀ at left = (at + 4 * left < 2 ^ 30) × (distinctPl
 abbrev μ-loop : tie.MeasureT-loop
 μ-loop l width at₀ left₀ at left = left
 
-pub distinct-places-spec : {M : Type 1} → statement M
-distinct-places-spec =
+pub distinct-pairs-spec : {M : Type 1} → statement M
+distinct-pairs-spec =
     tie.close
     (tie.spec
     Inv-loop

@@ -1,0 +1,41 @@
+use Prim.Native.Nat.{_+_, _-_, _*_, _<_, _≤_, _^_}
+use mathlib.Core.Path.{_≡_}
+use mathlib.Core.Bool.{true}
+use lib.ListN.{length, drop}
+use Rattle.lists.specs.Meaning.{distinctPlaces, every}
+use Rattle.lists.specs.Marks.{marked}
+use Rattle.lists.specs.Format.{places}
+use Rattle.lists.proofs.MarkLaws.{records-fit, end-fits, record-fits, record-starts, marks-begin, marked-begins, marks-onward, marked-twice, marked-onward, marked-ended}
+use borrow.Author.Needs.{needs}
+use Rattle.lists.proofs.places.distinct_marked.Statement.{statement}
+use Rattle.lists.proofs.places.distinct_marked.Tie as tie
+
+abbrev Inv-loop : tie.InvT-loop
+Inv-loop l width n marks₀ at₀ left₀ marks at left =
+    (left ≤ n) × (at < 2 ^ 30) × (at ≡ 1 + width * left) × (length marks ≡ 1024) × (every (marked marks) (places width (n - left) (drop at l)) ≡ true)
+    × (distinctPlaces (places width (n - left) (drop at l)) ≡ true)
+
+abbrev μ-loop : tie.MeasureT-loop
+μ-loop l width n marks₀ at₀ left₀ marks at left = left
+
+pub distinct-marked-spec : {M : Type 1} → statement M
+distinct-marked-spec =
+    tie.close
+    (tie.spec
+    Inv-loop
+    μ-loop
+    (λ c κs. search needs)  -- count-requires
+    (λ c. search (records-fit, needs))  -- mul-at
+    (λ c. search (end-fits, needs))  -- add-at
+    (λ c. (search needs, search (end-fits, needs), search needs, search needs, search marks-begin, search marked-begins))  -- loop-holds
+    (λ c. search record-fits)  -- sub-at
+    (λ c κs. search needs)  -- place-at-requires
+    (λ c. search needs)  -- sub-has-marked
+    (λ c κs. search needs)  -- has-marked-requires
+    (λ c. search marked-twice)  -- returns
+    (λ c κs. search needs)  -- slot-of-requires
+    (λ c. search needs)  -- array-write-marks
+    (λ c. search needs)  -- sub-left
+    (λ c. search needs)  -- loop-less
+    (λ c. (search needs, search needs, search record-starts, search needs, search marks-onward, search marked-onward))  -- loop-again
+    (λ c. search marked-ended))  -- returns-2
