@@ -1,12 +1,17 @@
 #!/bin/sh
 # Changes a temporary copy of validation.rs in one place at a time and sees that the comparison notices each change.
 #   oracle/mutations.sh [FIRST [LAST]]      changes FIRST to LAST, all of them by default
-# Nothing is written inside the repository. The last line says how many changes were noticed.
+# The changed file is compared with the proved library where its archive is, else with the model. The recorded answers of
+# crates/replay are held to it as well. Nothing is written inside the repository. The last line says how many changes
+# were noticed, and how many of them by the recorded answers too.
 set -u
 here=$(cd "$(dirname "$0")" && pwd)
 file=${BOKWINGI_VALIDATION_RS:-$here/../../shared/docs/src/src/validation.rs}
 first=${1:-1}
 last=${2:-1000}
+archive=${BOKWINGI_ARCHIVE:-$here/../target/staticlib/libbokwingi.a}
+against=
+[ -f "$archive" ] && against=--library
 tmp=$(mktemp -d)
 trap 'rm -rf "$tmp"' EXIT
 export CARGO_TARGET_DIR="$tmp/target"
@@ -14,13 +19,17 @@ export BOKWINGI_VALIDATION_RS="$tmp/validation.rs"
 
 run() {
     (cd "$here" && nice cargo build -q -j1 --release --offline -p compare 2>"$tmp/build.log") || return 2
-    nice "$tmp/target/release/compare" --count 60000 --quiet >"$tmp/run.log" 2>&1
+    nice "$tmp/target/release/compare" $against --count 60000 --quiet >"$tmp/run.log" 2>&1
+}
+
+recorded() {
+    nice "$tmp/target/release/record" check "$here/../crates/replay" >"$tmp/record.log" 2>&1
 }
 
 cp "$file" "$tmp/validation.rs"
-if ! run; then
+if ! run || ! recorded; then
     echo "the unchanged file does not compare equal:"
-    cat "$tmp/build.log" "$tmp/run.log"
+    cat "$tmp/build.log" "$tmp/run.log" "$tmp/record.log"
     exit 1
 fi
 
@@ -82,6 +91,7 @@ CHANGES
 at=0
 tried=0
 noticed=0
+by_recorded=0
 while IFS= read -r change; do
     at=$((at + 1))
     [ "$at" -ge "$first" ] && [ "$at" -le "$last" ] || continue
@@ -95,11 +105,12 @@ while IFS= read -r change; do
     case $? in
     1)
         noticed=$((noticed + 1))
-        echo "$at noticed ($(tail -n 1 "$tmp/run.log"))   $change"
+        recorded || by_recorded=$((by_recorded + 1))
+        echo "$at noticed ($(tail -n 1 "$tmp/run.log"); $(tail -n 1 "$tmp/record.log"))   $change"
         ;;
     0) echo "$at NOT NOTICED   $change" ;;
     *) echo "$at DOES NOT BUILD   $change" && head -n 5 "$tmp/build.log" ;;
     esac
 done <"$tmp/changes"
-echo "$noticed of $tried changes noticed"
+echo "$noticed of $tried changes noticed, $by_recorded by the recorded answers too"
 [ "$noticed" -eq "$tried" ]

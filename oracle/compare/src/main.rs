@@ -1,11 +1,12 @@
-//! Runs the oracle and the model on the same cases, in one process, and reports where they differ. See README.md.
+//! Runs the oracle and the model, or the oracle and the proved library, on the same cases, in one process, and reports
+//! where they differ. See README.md.
 
 use cases::{Answer, Case};
 use std::collections::BTreeMap;
 use std::process::exit;
 
 fn usage() -> ! {
-    eprintln!("usage: compare [--count N] [--seed N] [--no-leaves] [--quiet]");
+    eprintln!("usage: compare [--library] [--count N] [--seed N] [--no-leaves] [--quiet]");
     exit(2)
 }
 
@@ -27,9 +28,16 @@ struct Tally {
 }
 
 impl Tally {
-    fn add(&mut self, what: &str, at: u64, case: &Case, oracle: &Answer, model: &Answer) {
-        *self.numbers.entry(oracle.number()).or_default() += 1;
-        if oracle == model {
+    fn add(
+        &mut self,
+        what: &str,
+        at: u64,
+        case: &Case,
+        (judge, first): (&str, &Answer),
+        (by, second): (&str, &Answer),
+    ) {
+        *self.numbers.entry(first.number()).or_default() += 1;
+        if first == second {
             self.same += 1;
             return;
         }
@@ -37,9 +45,9 @@ impl Tally {
         if self.shown < 3 {
             self.shown += 1;
             println!("difference, {what}, case {at} of the run:");
-            println!("  case   {}", short(case));
-            println!("  oracle {}", short(oracle));
-            println!("  model  {}", short(model));
+            println!("  case    {}", short(case));
+            println!("  {judge:7} {}", short(first));
+            println!("  {by:7} {}", short(second));
         }
     }
 
@@ -61,18 +69,25 @@ impl Tally {
 }
 
 fn main() {
-    let (mut count, mut seed, mut leaves, mut quiet) = (300_000u64, 1u64, true, false);
+    let (mut count, mut seed, mut leaves, mut quiet, mut linked) = (300_000u64, 1u64, true, false, false);
     let mut args = std::env::args().skip(1);
     while let Some(arg) = args.next() {
         let mut number = || args.next().and_then(|n| n.parse().ok()).unwrap_or_else(|| usage());
         match &arg[..] {
             "--count" => count = number(),
             "--seed" => seed = number(),
+            "--library" => linked = true,
             "--no-leaves" => leaves = false,
             "--quiet" => quiet = true,
             _ => usage(),
         }
     }
+    if linked && !library::LINKED {
+        eprintln!("the library's archive was not there when this was built");
+        exit(2);
+    }
+    let by = if linked { "library" } else { "model" };
+    let other = |case: &Case| if linked { library::answer(case) } else { Some(model::answer(case)) };
     oracle::silence_panics();
 
     let mut failed = 0;
@@ -80,9 +95,14 @@ fn main() {
         for sort in gen::leaf::SORTS {
             let mut tally = Tally::default();
             for (i, case) in (0..).zip(gen::leaf::cases(sort).unwrap()) {
-                tally.add(sort, i, &case, &oracle::answer(&case), &model::answer(&case));
+                if let Some(other) = other(&case) {
+                    tally.add(sort, i, &case, ("oracle", &oracle::answer(&case)), (by, &other));
+                }
             }
-            tally.line(sort);
+            // The library has no function for `use` and `derive`.
+            if tally.same + tally.differ > 0 {
+                tally.line(sort);
+            }
             failed += tally.differ;
         }
     }
@@ -90,26 +110,28 @@ fn main() {
     let mut names = Tally::default();
     for i in 0..count / 10 {
         let case = gen::stage::name_case(seed, i);
-        names.add("name", i, &case, &oracle::answer(&case), &model::answer(&case));
+        names.add("name", i, &case, ("oracle", &oracle::answer(&case)), (by, &other(&case).unwrap()));
     }
     names.line("name");
     failed += names.differ;
 
     let (mut inside, mut outside, mut order) = (Tally::default(), Tally::default(), Tally::default());
+    let mut another_first = 0u64;
     for i in 0..count {
         let case = Case::Stage(Box::new(gen::stage::stage_call(seed, i)));
         let Case::Stage(call) = &case else { unreachable!() };
         let by_model = model::answer(&case);
         let by_oracle = oracle::answer(&case);
+        let by_other = other(&case).unwrap();
+        let pair = (by, &by_other);
         if model::domain::inside(call, by_model.number().unwrap()) {
-            inside.add("stage, inside the domain", i, &case, &by_oracle, &by_model);
+            inside.add("stage, inside the domain", i, &case, ("oracle", &by_oracle), pair);
         } else if model::domain::several_pairs_fail(call) {
-            // The Rust walks its pairs in the order of a hash set.
-            order.numbers.entry(by_oracle.number()).and_modify(|n| *n += 1).or_insert(1);
-            order.same += (by_oracle == by_model) as u64;
-            order.differ += (by_oracle != by_model) as u64;
+            // The Rust walks its pairs in the order of a hash set; here the model is the judge.
+            another_first += (by_oracle != by_model) as u64;
+            order.add("stage, several pairs fail", i, &case, ("model", &by_model), pair);
         } else {
-            outside.add("stage, outside the domain", i, &case, &by_oracle, &by_model);
+            outside.add("stage, outside the domain", i, &case, ("oracle", &by_oracle), pair);
         }
     }
     inside.line("stage, inside the domain");
@@ -120,12 +142,9 @@ fn main() {
     if !quiet {
         outside.numbers("  outside");
     }
-    println!(
-        "stage, outside because several pairs fail: {} cases, {} with another pair first",
-        order.same + order.differ,
-        order.differ
-    );
-    failed += inside.differ + outside.differ;
+    order.line("stage, outside because several pairs fail");
+    println!("  {another_first} of them with another pair first in the Rust");
+    failed += inside.differ + outside.differ + order.differ;
     println!("{failed} differences");
     exit((failed != 0) as i32);
 }
