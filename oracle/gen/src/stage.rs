@@ -159,7 +159,7 @@ fn large(rng: &mut Rng) -> StageCall {
 }
 
 /// Adds one-word built-ins to the entry points beside the target until the pack has this many words, if it can.
-fn fill_to(pack: &mut Pack, target: usize, total: usize) {
+pub fn fill_to(pack: &mut Pack, target: usize, total: usize) {
     let mut missing = total.saturating_sub(pack.words().len());
     for (i, e) in pack.entries.iter_mut().enumerate() {
         if i == target {

@@ -4,6 +4,9 @@
 mod linked;
 
 #[cfg(archive)]
+pub mod raw;
+
+#[cfg(archive)]
 pub use linked::answer;
 
 /// Whether the archive was there at build time.

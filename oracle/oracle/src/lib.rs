@@ -18,10 +18,13 @@ pub mod command {
     }
 }
 
-/// Stand-in: a derived layout's map from binding number to entry.
+/// Stand-in: a group's map from binding number to entry.
 pub mod device {
     pub mod bgl {
-        pub type EntryMap = indexmap::IndexMap<u32, wgt::BindGroupLayoutEntry>;
+        use crate::fast_hash::FastHasher;
+        use std::hash::BuildHasherDefault;
+
+        pub type EntryMap = indexmap::IndexMap<u32, wgt::BindGroupLayoutEntry, BuildHasherDefault<FastHasher>>;
     }
 }
 
@@ -40,12 +43,12 @@ pub mod resource {
 /// Stand-in: the layout look-up as document 01 fixes it, the entry at that place or none.
 pub mod binding_model {
     pub struct PipelineLayout {
-        pub entries: Vec<(u32, wgt::BindGroupLayoutEntry)>,
+        pub groups: Vec<crate::device::bgl::EntryMap>,
     }
 
     impl PipelineLayout {
         pub fn get_bgl_entry(&self, group: u32, binding: u32) -> Option<&wgt::BindGroupLayoutEntry> {
-            self.entries.iter().find(|(g, e)| *g == group && e.binding == binding).map(|(_, e)| e)
+            self.groups.get(group as usize)?.get(&binding)
         }
     }
 }

@@ -540,26 +540,21 @@ pub struct Workings {
 
 impl Workings {
     pub fn new(derived: bool, layout: &decode::Layout, sizes: &[(Place, u32)]) -> Self {
+        let mut maps: Vec<bgl::EntryMap> = (0..layout.groups).map(|_| Default::default()).collect();
+        for e in &layout.entries {
+            match maps[e.place.group as usize].entry(e.place.binding) {
+                indexmap::map::Entry::Vacant(v) => v.insert(layout_entry(e)),
+                indexmap::map::Entry::Occupied(_) => unreachable!("places differ"),
+            };
+        }
         let layouts = if derived {
-            let mut maps: ArrayVec<bgl::EntryMap, { hal::MAX_BIND_GROUPS }> = ArrayVec::new();
-            for _ in 0..layout.groups {
-                maps.push(Default::default());
+            let mut list: ArrayVec<bgl::EntryMap, { hal::MAX_BIND_GROUPS }> = ArrayVec::new();
+            for map in maps {
+                list.push(map);
             }
-            for e in &layout.entries {
-                match maps[e.place.group as usize].entry(e.place.binding) {
-                    indexmap::map::Entry::Vacant(v) => v.insert(layout_entry(e)),
-                    indexmap::map::Entry::Occupied(_) => unreachable!("places differ"),
-                };
-            }
-            BindingLayoutSource::Derived(Box::new(maps))
+            BindingLayoutSource::Derived(Box::new(list))
         } else {
-            BindingLayoutSource::Provided(Arc::new(crate::binding_model::PipelineLayout {
-                entries: layout
-                    .entries
-                    .iter()
-                    .map(|e| (e.place.group, layout_entry(e)))
-                    .collect(),
-            }))
+            BindingLayoutSource::Provided(Arc::new(crate::binding_model::PipelineLayout { groups: maps }))
         };
         let sizes = sizes.iter().map(|(p, n)| (binding(*p), size(*n))).collect();
         Self { layouts, sizes }
@@ -576,22 +571,21 @@ impl Workings {
                 visibility: e.visibility.0,
             }
         };
-        match &self.layouts {
-            BindingLayoutSource::Provided(layout) => layout.entries.iter().map(|(g, e)| back(*g, e)).collect(),
-            BindingLayoutSource::Derived(maps) => {
-                let mut all: Vec<_> = (0u32..)
-                    .zip(maps.iter())
-                    .flat_map(|(g, map)| map.items().iter().map(move |i| (i.stamp, g, i)))
-                    .collect();
-                all.sort_by_key(|(stamp, ..)| *stamp);
-                all.iter()
-                    .map(|(_, g, i)| {
-                        assert_eq!(i.key, i.value.binding);
-                        back(*g, &i.value)
-                    })
-                    .collect()
-            }
-        }
+        let maps: &[bgl::EntryMap] = match &self.layouts {
+            BindingLayoutSource::Provided(layout) => &layout.groups,
+            BindingLayoutSource::Derived(maps) => maps,
+        };
+        let mut all: Vec<_> = (0u32..)
+            .zip(maps)
+            .flat_map(|(g, map)| map.items().iter().map(move |i| (i.stamp, g, i)))
+            .collect();
+        all.sort_by_key(|(stamp, ..)| *stamp);
+        all.iter()
+            .map(|(_, g, i)| {
+                assert_eq!(i.key, i.value.binding);
+                back(*g, &i.value)
+            })
+            .collect()
     }
 
     pub fn size_of(&self, p: Place) -> Option<u32> {
@@ -602,7 +596,12 @@ impl Workings {
         self.sizes.len()
     }
 
-    /// The stage check itself. The list handed out is kind 11, kind 9 and the varyings by rising location.
+    /// The Rust's stage check and nothing else.
+    pub fn ask(&mut self, interface: &Interface, name: &str, asked: Asked) -> Found {
+        let Asked { stage, io, topology } = asked;
+        Found(interface.check_stage(&mut self.layouts, &mut self.sizes, name, stage, io, topology))
+    }
+
     pub fn check_stage(
         &mut self,
         interface: &Interface,
@@ -610,10 +609,24 @@ impl Workings {
         call: &cases::StageCall,
         inputs: &decode::StageList,
     ) -> Result<Vec<u32>, Refusal> {
+        self.ask(interface, name, Asked::of(call, inputs)).words()
+    }
+}
+
+/// What a stage check is asked, in the Rust's form.
+pub struct Asked {
+    stage: ShaderStageForValidation,
+    io: StageIo,
+    topology: Option<wgt::PrimitiveTopology>,
+}
+
+impl Asked {
+    pub fn of(call: &cases::StageCall, inputs: &decode::StageList) -> Self {
+        let topology = topology(call.topology);
         let stage = match call.stage {
             0 => ShaderStageForValidation::Vertex {
                 // Document 01's 'no topology' is not a point list; the Rust has none to give here.
-                topology: topology(call.topology).unwrap_or(wgt::PrimitiveTopology::LineList),
+                topology: topology.unwrap_or(wgt::PrimitiveTopology::LineList),
                 compare_function: None,
             },
             1 => ShaderStageForValidation::Fragment {
@@ -629,10 +642,17 @@ impl Workings {
             task_payload_size: inputs.payload,
             primitive_index: [None, Some(false), Some(true)][inputs.primitive_index as usize],
         };
-        let io = interface
-            .check_stage(&mut self.layouts, &mut self.sizes, name, stage, io, topology(call.topology))
-            .map_err(|error| refusal(&error))?;
+        Self { stage, io, topology }
+    }
+}
 
+/// What a stage check answered, in the Rust's form.
+pub struct Found(Result<StageIo, StageError>);
+
+impl Found {
+    /// The list handed out, kind 11, kind 9 and the varyings by rising location, or the refusal.
+    pub fn words(self) -> Result<Vec<u32>, Refusal> {
+        let io = self.0.map_err(|error| refusal(&error))?;
         let primitive_index = match io.primitive_index {
             None => 0,
             Some(false) => 1,

@@ -1,0 +1,234 @@
+//! The calls that are counted: small ones, middle ones, the largest, and a series of growing packs.
+
+use cases::StageCall;
+use gen::build::*;
+use model::binding;
+
+/// A vector of four f32.
+const VEC4: u32 = 3 | 2 << 4 | 4 << 6;
+const PER_VERTEX: u32 = 4 << 12;
+
+/// How much of everything a pack has.
+#[derive(Clone, Copy)]
+pub struct Measure {
+    pub resources: u32,
+    pub entries: u32,
+    pub listed: u32,
+    pub pairs: usize,
+    pub varyings: u32,
+    pub name: usize,
+    pub sorts: Sorts,
+}
+
+#[derive(Clone, Copy)]
+pub enum Sorts {
+    /// Uniform buffers, storage buffers, textures and samplers in turn.
+    InTurn,
+    /// Of the target's resources one texture, one sampler and else buffers: each pair and each buffer is looked up.
+    Buffers,
+}
+
+fn resource(sorts: Sorts, i: u32) -> Resource {
+    let (uniform, storage, texture, sampler) = (0, 1 << 3 | 1, 2 << 23 | 1, 1 << 23);
+    let ty = match sorts {
+        Sorts::InTurn => [uniform, storage, texture, sampler][i as usize % 4],
+        Sorts::Buffers if i == 76 => texture,
+        Sorts::Buffers if i == 77 => sampler,
+        Sorts::Buffers => uniform,
+    };
+    Resource { place: place(i % 8, i), ty, size: 16 * (i + 1) }
+}
+
+/// An entry point; its names differ in the last byte only, so that telling them apart takes longest.
+fn entry_point(m: &Measure, stage: u32, number: u32) -> EntryPoint {
+    let resources: Vec<u32> = (0..m.listed).map(|i| (number + i) % m.resources).collect();
+    let of = |sort: u32| resources.iter().copied().filter(move |i| resource(m.sorts, *i).sort() == sort);
+    let mut pairs: Vec<(u32, u32)> = of(2).flat_map(|t| of(1).map(move |s| (t, s))).take(m.pairs).collect();
+    if let Some(last) = pairs.last() {
+        pairs.resize(m.pairs, *last);
+    }
+    let mut name = vec![b'a'; m.name];
+    *name.last_mut().unwrap() = b'a' + number as u8;
+    // The last input is per vertex, which only triangles allow.
+    let locals = (0..m.varyings).map(|i| Varying::Local(i, if i + 1 < m.varyings { VEC4 } else { VEC4 | PER_VERTEX }));
+    let (inputs, outputs) = match stage {
+        2 => (vec![Varying::BuiltIn(0, 0)], Vec::new()),
+        _ => (locals.clone().collect(), locals.collect()),
+    };
+    let workgroup = if stage == 2 { [8, 8, 1] } else { [0; 3] };
+    EntryPoint { stage, name, workgroup, payload: None, mesh: None, dual: false, resources, pairs, inputs, outputs }
+}
+
+/// A pack; the entry points' stages are taken from the list in turn.
+pub fn pack(m: &Measure, stages: &[u32]) -> Pack {
+    let limits = [64, 63, 256, 256, 64, 256, 128, 1024, 128, 1024, 256, 256, 16384];
+    let resources = (0..m.resources).map(|i| resource(m.sorts, i)).collect();
+    let entries = (0..m.entries).map(|e| entry_point(m, stages[e as usize % stages.len()], e)).collect();
+    Pack { limits, resources, entries }
+}
+
+/// How the lists of a call are filled beside what it needs.
+#[derive(Clone, Copy)]
+pub struct Beside {
+    pub layout: usize,
+    pub sizes: usize,
+    pub inputs: usize,
+    /// Whether the places beside share one mark, so that each is compared with all behind it.
+    pub one_mark: bool,
+}
+
+pub const NOTHING: Beside = Beside { layout: 0, sizes: 0, inputs: 0, one_mark: false };
+pub const FULL: Beside = Beside { layout: 255, sizes: 511, inputs: 63, one_mark: false };
+
+impl Beside {
+    /// A place that no resource has.
+    fn place(&self, i: usize) -> u32 {
+        match (128 + i as u32, self.one_mark) {
+            (n, false) => place(n % 8, n),
+            (n, true) => place(0, 1024 * n),
+        }
+    }
+}
+
+/// In provided mode the entries of all listed resources, in derived mode room for them, behind others.
+fn layout(pack: &Pack, e: &EntryPoint, mode: u32, beside: &Beside) -> Layout {
+    let mut out = Layout { groups: 8, entries: Vec::new(), free: Vec::new() };
+    for i in e.resources.len()..beside.layout {
+        out.entries.push(LayoutEntry { place: beside.place(i), ty: 0, least: 64, visibility: 31 });
+    }
+    for index in &e.resources {
+        let r = &pack.resources[*index as usize];
+        let named = e.pairs.iter().any(|p| p.0 == *index);
+        let (ty, least) = binding::derive(r.ty, r.size, named).unwrap();
+        match mode {
+            0 => out.entries.push(LayoutEntry { place: r.place, ty, least, visibility: 31 }),
+            _ => out.free.extend([0; 4]),
+        }
+    }
+    out
+}
+
+/// Room for the records of the listed buffers, or behind others the records themselves, with a smaller size.
+fn sizes(pack: &Pack, e: &EntryPoint, mode: u32, beside: &Beside) -> Sizes {
+    let listed = e.resources.iter().map(|i| &pack.resources[*i as usize]);
+    let buffers: Vec<&Resource> = listed.filter(|r| r.sort() == 0).collect();
+    let mut out = Sizes { records: Vec::new(), free: Vec::new() };
+    for i in buffers.len()..beside.sizes {
+        out.records.push((beside.place(i), 64));
+    }
+    match (mode, beside.sizes) {
+        (0, 0) => out.free = vec![0; 2 * buffers.len()],
+        _ => out.records.extend(buffers.iter().map(|r| (r.place, 1))),
+    }
+    out
+}
+
+/// What the entry point takes in, with others behind.
+fn inputs(e: &EntryPoint, beside: &Beside) -> StageList {
+    let mut varyings: Vec<(u32, u32)> = Vec::new();
+    for v in &e.inputs {
+        if let Varying::Local(location, ty) = *v {
+            varyings.push((location, ty));
+        }
+    }
+    for i in varyings.len()..beside.inputs {
+        varyings.push((100 + i as u32, VEC4));
+    }
+    StageList { primitive_index: 0, payload: None, varyings, free: Vec::new() }
+}
+
+/// An accepted call on one entry point.
+pub fn call(pack: &Pack, target: usize, mode: u32, beside: Beside) -> StageCall {
+    let e = &pack.entries[target];
+    let locals = e.outputs.iter().filter(|v| v.is_local()).count();
+    StageCall {
+        pack: pack.words(),
+        layout: layout(pack, e, mode, &beside).words(),
+        sizes: sizes(pack, e, mode, &beside).words(),
+        inputs: inputs(e, &beside).words(),
+        out: vec![0; 2 + 2 * locals],
+        name: e.name.clone(),
+        stage: e.stage,
+        topology: 3,
+        mode,
+        dual: 0,
+        depth: 0,
+    }
+}
+
+/// The same call refused as late as can be: 78 for a per-vertex input without triangles, 41 for a compute stage.
+pub fn refused_late(pack: &Pack, target: usize, mode: u32, beside: Beside) -> StageCall {
+    let mut pack = pack.clone();
+    if pack.entries[target].stage == 2 {
+        pack.entries[target].workgroup[2] = 0;
+    }
+    StageCall { topology: 1, ..call(&pack, target, mode, beside) }
+}
+
+/// The largest pack: 4,096 words, 128 resources, 16 entry points of one stage, the last of them with all lists full.
+pub fn largest(sorts: Sorts) -> Pack {
+    let full = Measure { resources: 128, entries: 16, listed: 63, pairs: 63, varyings: 63, name: 64, sorts };
+    let mut p = pack(&Measure { listed: 8, pairs: 4, varyings: 8, ..full }, &[1]);
+    p.entries[15] = entry_point(&full, 1, 15);
+    gen::stage::fill_to(&mut p, 15, 4096);
+    p
+}
+
+/// All calls, with their labels.
+pub fn all() -> Vec<(String, StageCall)> {
+    let sorts = Sorts::InTurn;
+    let smallest = Measure { resources: 1, entries: 1, listed: 1, pairs: 0, varyings: 0, name: 4, sorts };
+    let small = Measure { resources: 4, entries: 1, listed: 4, pairs: 1, varyings: 2, name: 4, sorts };
+    let middle = Measure { resources: 12, entries: 4, listed: 8, pairs: 4, varyings: 6, name: 10, sorts };
+    let upper = Measure { resources: 24, entries: 6, listed: 12, pairs: 6, varyings: 8, name: 12, sorts };
+    let (in_turn, buffers) = (largest(sorts), largest(Sorts::Buffers));
+    let calls = [
+        ("smallest vertex", pack(&smallest, &[0]), 0, NOTHING),
+        ("small vertex", pack(&small, &[0]), 0, NOTHING),
+        ("small fragment", pack(&small, &[1]), 0, NOTHING),
+        ("small compute", pack(&small, &[2]), 0, NOTHING),
+        ("middle vertex", pack(&middle, &[0, 1, 2]), 3, NOTHING),
+        ("middle fragment", pack(&middle, &[0, 1, 2]), 1, NOTHING),
+        ("middle compute", pack(&middle, &[0, 1, 2]), 2, NOTHING),
+        ("upper middle fragment", pack(&upper, &[0, 1, 2]), 4, NOTHING),
+        ("largest", in_turn, 15, FULL),
+        ("largest, most look-ups", buffers.clone(), 15, FULL),
+        ("largest, one mark for all", buffers, 15, Beside { one_mark: true, ..FULL }),
+    ];
+    let mut out = Vec::new();
+    for (label, pack, target, beside) in &calls {
+        for (mode, said) in [(0, "provided"), (1, "derived")] {
+            out.push((format!("{label}, {said}"), call(pack, *target, mode, *beside)));
+            if matches!(*label, "small fragment" | "small compute" | "middle fragment" | "largest") {
+                out.push((format!("{label}, {said}, refused late"), refused_late(pack, *target, mode, *beside)));
+            }
+        }
+    }
+    out
+}
+
+/// Packs of growing size with one small entry point asked for, and an entry point that grows with its lists.
+pub fn series() -> Vec<(String, StageCall)> {
+    let (mut out, sorts) = (Vec::new(), Sorts::InTurn);
+    for words in [64usize, 128, 256, 512, 1024, 2048, 4096] {
+        let part = words as u32 / 64;
+        let m = Measure {
+            resources: (2 * part).clamp(4, 128),
+            entries: part.clamp(2, 16),
+            listed: 4,
+            pairs: 1,
+            varyings: 2,
+            name: 8,
+            sorts,
+        };
+        let mut p = pack(&m, &[1]);
+        gen::stage::fill_to(&mut p, 0, words);
+        out.push((format!("growing pack, {words}"), call(&p, 0, 0, NOTHING)));
+    }
+    for n in [4u32, 8, 16, 32, 63] {
+        let m = Measure { resources: 2 * n, entries: 1, listed: n, pairs: n as usize / 4, varyings: n, name: 8, sorts };
+        let beside = Beside { layout: 4 * n as usize, sizes: 8 * n as usize, inputs: n as usize, one_mark: false };
+        out.push((format!("growing entry point and lists, {n}"), call(&pack(&m, &[1]), 0, 0, beside)));
+    }
+    out
+}
