@@ -17,7 +17,7 @@ use Rattle.lists.proofs.LayoutLists as layouts
 use Rattle.lists.proofs.SizeLists as sizes
 use Rattle.interface.specs.Meaning.{EntryPoint, Interface}
 use Rattle.interface.specs.Format.{decode, decodedNumber, stageAt, contents, pairsOf}
-use Rattle.interface.specs.Reads.{interfaceOf, entryNth, standing, resourcesAt, varyings}
+use Rattle.interface.specs.Reads.{interfaceOf, entryNth, standing, resourcesAt}
 use Rattle.interface.specs.Parts.{resourceCount, Placed, chosenIn}
 use Rattle.interface.specs.Rules.{findEntryPoint}
 use Rattle.interface.specs.declared.types.Chosen.{Chosen}
@@ -28,14 +28,13 @@ use Rattle.interface.specs.declared.types.ShaderStage.{ShaderStage}
 use Rattle.stage.specs.Meaning.{Call, Outcome, outcome, State, state}
 use Rattle.stage.specs.Resources.{resourceSteps}
 use Rattle.stage.specs.Interfaces.{stageOut, summaryOf}
-use Rattle.stage.specs.Given.{resourceTable, eachHeld, eachBelow, pairsBelow, Named, Given}
+use Rattle.stage.specs.Given.{resourceTable, eachHeld, eachBelow, pairsBelow, Named, Given, Summed}
 use Rattle.stage.specs.ListOut.{outputHeld}
 use Rattle.stage.specs.Judging.{request, requestWith, judged, handedOut}
 use Rattle.stage.specs.Stage.{requestOf, inputWalk, judgement, outWords, finish, runBody, callGood, onEntryPoint, onChosen, checkStage, call}
 use Rattle.stage.specs.declared.types.Walked.{Walked}
 use Rattle.stage.specs.declared.types.Summary.{Summary}
 use Rattle.stage.proofs.JudgeLaws.{judged-answer, judged-walk, pairs-standing}
-use Rattle.stage.proofs.ListOutLaws.{outputs-standing}
 use Rattle.stage.proofs.GivenLaws.{given-held, given-below, given-pairs, given-outputs}
 use Rattle.stage.proofs.RunLaws.{run-refused, run-went, pack-refused, call-refused, call-went}
 
@@ -139,21 +138,20 @@ pub gives : (ws offsets : List ℕ) (i : Interface) (e : EntryPoint) → resourc
 unfolding resourceTable
 gives ws offsets i e t n = record { table = t; named = n }
 
-pub out-words : (ws : List ℕ) (p : EntryParts) (k n : ℕ) (s : Summary) → k ≡ wordAt ws (p .counts) → n ≡ bits 5 0 k
-    → s ≡ summaryOf (varyings n (drop (p .outputs) ws)) → 2 + 2 * s .locals ≡ outWords (standing ws p)
+out-words : (ws : List ℕ) (p : EntryParts) (s : Summary) → Summed ws p s → 2 + 2 * s .locals ≡ outWords (standing ws p)
 unfolding summaryOf
-out-words ws p k n s ek en es = rw (es, outputs-standing ws p k n ek en)
+out-words ws p s g = rw (g .outputs)
 
-module _ (c : Call) (i : Interface) (e f : EntryPoint) (n : ℕ) (ef : f ≡ e) (en : n ≡ outWords f) where
-  pub entry-short : (a : Answer) (l z o : List ℕ) → l ≡ c .layout → z ≡ c .sizes → o ≡ c .out → a ≡ refused 4 → length (c .out) < n
+module _ (c : Call) (i : Interface) (e : EntryPoint) (ws : List ℕ) (p : EntryParts) (s : Summary) (ef : standing ws p ≡ e) (g : Summed ws p s) where
+  pub entry-short : (a : Answer) (l z o : List ℕ) → l ≡ c .layout → z ≡ c .sizes → o ≡ c .out → a ≡ refused 4 → length (c .out) < 2 + 2 * s .locals
       → outcome a l z o ≡ onEntryPoint c i e
-  entry-short a l z o el ez eo ea h = rw (← ef, ← en, lt-ltb (length (c .out)) n h, ea, el, ez, eo)
+  entry-short a l z o el ez eo ea h = rw (← ef, ← out-words ws p s g, lt-ltb (length (c .out)) (2 + 2 * s .locals) h, ea, el, ez, eo)
 
-  pub entry-went : (x : Outcome) → n ≤ length (c .out) → x ≡ runBody c i f → x ≡ onEntryPoint c i e
-  entry-went x h ex = rw (← ef, ← en, le-ltb (length (c .out)) n h) ex
+  pub entry-went : (x : Outcome) → 2 + 2 * s .locals ≤ length (c .out) → x ≡ runBody c i (standing ws p) → x ≡ onEntryPoint c i e
+  entry-went x h ex = rw (← ef, ← out-words ws p s g, le-ltb (length (c .out)) (2 + 2 * s .locals) h) ex
 
-pub room-enough : (f : EntryPoint) (n l : ℕ) → n ≡ outWords f → n ≤ l → outWords f ≤ l
-room-enough f n l en h = rw (← en) h
+pub room-enough : (ws : List ℕ) (p : EntryParts) (s : Summary) (l : ℕ) → Summed ws p s → 2 + 2 * s .locals ≤ l → outWords (standing ws p) ≤ l
+room-enough ws p s l g h = rw (← out-words ws p s g) h
 
 module _ (c : Call) (i : Interface) (chosen : Chosen) where
   pub chosen-at : (k : ℕ) (x : Outcome) → chosen ≡ Ch.At k → x ≡ onEntryPoint c i (entryNth (i .entries) k) → x ≡ onChosen c i chosen

@@ -29,6 +29,7 @@ use Rattle.interface.specs.declared.types.BuiltIn.{BuiltIn}
 use Rattle.interface.specs.declared.types.Varying.{Varying}
 use Rattle.interface.specs.declared.types.Varying.the-variants as Var
 use Rattle.stage.specs.Interfaces.{isLocal, localCount, localsOf, primitiveOut, stageOut, summaryOf}
+use Rattle.stage.specs.Given.{Summed}
 use Rattle.stage.specs.ListOut.{outputHeld, handed}
 use Rattle.stage.specs.declared.types.InputWalk.{InputWalk}
 use Rattle.stage.specs.declared.types.Summary.{Summary}
@@ -222,9 +223,9 @@ module _ (ws : List ℕ) (p : EntryParts) (k n : ℕ) (ek : k ≡ wordAt ws (p .
   outputs-room l h = rw outputs-standing h
 
   pub list-out : (stage : ShaderStage) (walk : InputWalk) (s : Summary) (b : Bool) (i : PrimitiveIndex) (w : ℕ) (q : Payload) (out o : List ℕ)
-      → s ≡ summaryOf (varyings n (drop (p .outputs) ws)) → b ≡ (walk .«primitive_index» || s .primitive) → i ≡ primitiveOut stage b
+      → Summed ws p s → b ≡ (walk .«primitive_index» || s .primitive) → i ≡ primitiveOut stage b
       → w ≡ wordAt ws (p .workgroup + 3) → q ≡ payloadOf w
       → o ≡ encodeStage (outOf i q (localsOf (varyings n (drop (p .outputs) ws)) []) out)
       → o ≡ encodeStage (stageOut stage (standing ws p) walk out)
   unfolding stageOut summaryOf standing
-  list-out stage walk s b i w q out o es eb ei ew eq eo = rw (← ek, ← en, ← ew, ← eq) (eo ∙ rw (ei, eb, es))
+  list-out stage walk s b i w q out o g eb ei ew eq eo = rw (← ek, ← en, ← ew, ← eq) (eo ∙ rw (ei, eb, g .outputs, ← ek, ← en))

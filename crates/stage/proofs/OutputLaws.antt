@@ -1,5 +1,5 @@
 -- The ways through outputs and places.
-use Prim.Native.Nat.{ℕ, _+_, _-_, _*_, _/_, _%_, _<_, _≤_, _^_}
+use Prim.Native.Nat.{ℕ, zero, suc, _+_, _-_, _*_, _/_, _%_, _<_, _≤_, _^_}
 use native.Mathlib.Nat.{add-zero, zero-add}
 use native.Mathlib.Omega.{arith}
 use mathlib.Core.Path.{_≡_, refl, sym, _∙_}
@@ -9,11 +9,11 @@ use lib.Dec.{eqb}
 use lib.ListN.{drop}
 use borrow.Author.Tests.{eq-eqb, ne-eqb, lt-ltb, le-ltb}
 use Rattle.word.specs.Choice.{pick, yes}
-use Rattle.word.specs.Words.{wordAt, bits}
+use Rattle.word.specs.Words.{wordAt, kindOf, contentOf, bits}
 use Rattle.word.specs.Answers.{answer, accepted, refused}
 use Rattle.word.specs.declared.answer.Answer.{Answer}
 use Rattle.varying.specs.Format.{locationFiled}
-use Rattle.varying.specs.declared.InterfaceVar.{InterfaceVar}
+use Rattle.lists.proofs.Words.{here}
 use Rattle.interface.specs.Meaning.{EntryPoint}
 use Rattle.interface.specs.Format.{local, builtInOf}
 use Rattle.interface.specs.Reads.{varying, varyingWidth, varyings, standing}
@@ -26,6 +26,7 @@ use Rattle.interface.specs.declared.types.BuiltIn.the-variants as In
 use Rattle.interface.specs.declared.types.Varying.{Varying}
 use Rattle.interface.specs.declared.types.Varying.the-variants as Var
 use Rattle.stage.specs.Meaning.{Request}
+use Rattle.stage.specs.Given.{Summed}
 use Rattle.stage.specs.Interfaces.{isLocal, clipPart, builtInPart, isDepth, isPrimitive, localCount, clipPlaces, builtInPlaces, anyOf, summaryOf, locationUse, locationUses, countUse, pointPart, vertexOutputs, fragmentPlaces, attachmentUse, fragmentOutputs, placesStep}
 use Rattle.stage.specs.declared.types.Summary.{Summary}
 use Rattle.stage.proofs.VaryingLaws.{varyings-left, varyings-none}
@@ -97,15 +98,63 @@ one-varying : (v : Varying) → summaryOf (v ∷ []) ≡ partOf v
 unfolding summaryOf localCount clipPlaces builtInPlaces anyOf
 one-varying v = simp (add-zero, pick-itself)
 
-pub varying-part : (v u : Varying) (r : Summary) → v ≡ u → r ≡ summaryOf (u ∷ []) → r ≡ summaryOf (v ∷ [])
-varying-part v u r e h = rw e h
+-- a built-in by the code and the places of its word
+abbrev coded : ℕ → ℕ → BuiltIn
+coded code places =
+    pick (eqb code 0) (In.Other places) (pick (eqb code 1) (In.PrimitiveIndex places) (pick (eqb code 2) (In.DrawIndex places)
+    (pick (eqb code 3) (In.FragDepth places) (In.ClipDistances places))))
 
-pub built-in-part : (b k : BuiltIn) (r : Summary) → b ≡ k → r ≡ partOf (Var.BuiltIn k) → r ≡ summaryOf (Var.BuiltIn b ∷ [])
-built-in-part b k r e h = rw e (h ∙ sym (one-varying (Var.BuiltIn k)))
+pub built-in-taking : (w : ℕ) (r : Summary) → w / 2 ^ 24 % 8 < 4
+    → r ≡ record { locals = 0; «clip_places» = 0; «built_in_places» = w % 256; depth = eqb (w / 2 ^ 24 % 8) 3; primitive = eqb (w / 2 ^ 24 % 8) 1 }
+    → r ≡ summaryOf (Var.BuiltIn (builtInOf w) ∷ [])
+built-in-taking w r h e = e ∙ go (w / 2 ^ 24 % 8) (w % 256) h ∙ sym (one-varying (Var.BuiltIn (builtInOf w)))
+  where
+    go : (code places : ℕ) → code < 4
+        → _≡_ {A = Summary} (record { locals = 0; «clip_places» = 0; «built_in_places» = places; depth = eqb code 3; primitive = eqb code 1 })
+        (partOf (Var.BuiltIn (coded code places)))
+    go zero places h = refl
+    go (suc zero) places h = refl
+    go (suc (suc zero)) places h = refl
+    go (suc (suc (suc zero))) places h = refl
+    go (suc (suc (suc (suc code)))) places h = absurd (omega (arith, h))
 
-pub clip-part : (b : BuiltIn) (size q : ℕ) → b ≡ In.ClipDistances size → q ≡ (size + 3) / 4
-    → _≡_ {A = Summary} (record { locals = 0; «clip_places» = q; «built_in_places» = 0; depth = false; primitive = false }) (summaryOf (Var.BuiltIn b ∷ []))
-clip-part b size q e h = rw (h, e) (sym (one-varying (Var.BuiltIn (In.ClipDistances size))))
+clip-coded : (code size : ℕ) → 4 ≤ code → coded code size ≡ In.ClipDistances size
+clip-coded code size h = rw (ne-eqb code 0 (omega (arith, h)), ne-eqb code 1 (omega (arith, h)), ne-eqb code 2 (omega (arith, h)), ne-eqb code 3 (omega (arith, h)))
+
+pub built-in-clip : (w q : ℕ) → 4 ≤ w / 2 ^ 24 % 8 → q ≡ (w % 256 + 3) / 4
+    → _≡_ {A = Summary} (record { locals = 0; «clip_places» = q; «built_in_places» = 0; depth = false; primitive = false })
+    (summaryOf (Var.BuiltIn (builtInOf w) ∷ []))
+built-in-clip w q h e = rw (e, clip-coded (w / 2 ^ 24 % 8) (w % 256) h) (sym (one-varying (Var.BuiltIn (In.ClipDistances (w % 256)))))
+
+-- ---- a varying by its first word
+
+module _ (w k : ℕ) (ek : k ≡ kindOf w) where
+  pub first-local : k ≡ 12
+      → _≡_ {A = Summary} (record { locals = 1; «clip_places» = 0; «built_in_places» = 0; depth = false; primitive = false })
+      (summaryOf (varying (w ∷ []) ∷ []))
+  first-local h = rw (← ek, eq-eqb k 12 h) (sym (one-varying (local w 0)))
+
+  pub first-built-in : (r : Summary) → (k ≡ 12 → ⊥) → r ≡ summaryOf (Var.BuiltIn (builtInOf w) ∷ []) → r ≡ summaryOf (varying (w ∷ []) ∷ [])
+  first-built-in r n e = rw (← ek, ne-eqb k 12 n) e
+
+-- the type of a local variable does not matter
+module _ (ws : List ℕ) (at w : ℕ) (ew : w ≡ wordAt ws at) where
+  first-summary : summaryOf (varying (w ∷ []) ∷ []) ≡ summaryOf (varying (drop at ws) ∷ [])
+  first-summary =
+      rw (here ws at, ← ew, one-varying (varying (w ∷ [])), one-varying (pick (locationFiled w) (local w (wordAt (drop at ws) 1)) (Var.BuiltIn (builtInOf w))))
+      (go (locationFiled w))
+    where
+      go : (t : Bool) → partOf (pick t (local w 0) (Var.BuiltIn (builtInOf w))) ≡ partOf (pick t (local w (wordAt (drop at ws) 1)) (Var.BuiltIn (builtInOf w)))
+      go true = refl
+      go false = refl
+
+  first-location : (number past limit : ℕ) → locationUse number past limit (varying (w ∷ [])) ≡ locationUse number past limit (varying (drop at ws))
+  first-location number past limit = rw (here ws at, ← ew) (go (locationFiled w))
+    where
+      go : (t : Bool) → locationUse number past limit (pick t (local w 0) (Var.BuiltIn (builtInOf w)))
+          ≡ locationUse number past limit (pick t (local w (wordAt (drop at ws) 1)) (Var.BuiltIn (builtInOf w)))
+      go true = refl
+      go false = refl
 
 -- ---- the sums of a pass stay small
 
@@ -126,22 +175,22 @@ built-in-small b w e = rw e (go (eqb (bits 26 24 w) 0) (eqb (bits 26 24 w) 1) (e
     go false false false true = record { locals = omega arith; clip = omega arith; built-in = omega arith }
     go false false false false = record { locals = omega arith; clip = omega arith; built-in = omega arith }
 
-varying-small : (ws : List ℕ) (t : Bool) → Small (partOf (pick t (local (wordAt ws 0) (wordAt ws 1)) (Var.BuiltIn (builtInOf (wordAt ws 0)))))
-varying-small ws true = record { locals = omega arith; clip = omega arith; built-in = omega arith }
-varying-small ws false = built-in-small (builtInOf (wordAt ws 0)) (wordAt ws 0) refl
+varying-small : (w : ℕ) (t : Bool) → Small (partOf (pick t (local w 0) (Var.BuiltIn (builtInOf w))))
+varying-small w true = record { locals = omega arith; clip = omega arith; built-in = omega arith }
+varying-small w false = built-in-small (builtInOf w) w refl
 
-part-small : (ws : List ℕ) (v : Varying) (s : Summary) → v ≡ varying ws → s ≡ summaryOf (v ∷ []) → Small s
-part-small ws v s d e = rw (e, one-varying v, d) (varying-small ws (locationFiled (wordAt ws 0)))
+part-small : (w : ℕ) (s : Summary) → s ≡ summaryOf (varying (w ∷ []) ∷ []) → Small s
+part-small w s e = rw (e, one-varying (varying (w ∷ []))) (varying-small w (locationFiled w))
 
-module _ (ws : List ℕ) (v : Varying) (s : Summary) (d : v ≡ varying ws) (e : s ≡ summaryOf (v ∷ [])) where
+module _ (w : ℕ) (s : Summary) (e : s ≡ summaryOf (varying (w ∷ []) ∷ [])) where
   pub part-locals : s .locals < 2 ^ 31
-  part-locals = omega (arith, part-small ws v s d e .locals)
+  part-locals = omega (arith, part-small w s e .locals)
 
   pub part-clip : s .«clip_places» < 2 ^ 31
-  part-clip = omega (arith, part-small ws v s d e .clip)
+  part-clip = omega (arith, part-small w s e .clip)
 
   pub part-built-in : s .«built_in_places» < 2 ^ 31
-  part-built-in = omega (arith, part-small ws v s d e .built-in)
+  part-built-in = omega (arith, part-small w s e .built-in)
 
 -- what the varyings that are left may still add
 pub record Within (s : Summary) (left : ℕ) : Type 0 where
@@ -152,10 +201,10 @@ pub record Within (s : Summary) (left : ℕ) : Type 0 where
 pub within-start : (s : Summary) (n : ℕ) → s ≡ nothing → n ≤ 63 → Within s n
 within-start s n e h = rw e (record { locals = omega arith; clip = omega arith; built-in = omega arith })
 
-pub within-more : (ws : List ℕ) (v : Varying) (s p r : Summary) (left : ℕ) → v ≡ varying ws → p ≡ summaryOf (v ∷ []) → r ≡ plus s p
+pub within-more : (w : ℕ) (s p r : Summary) (left : ℕ) → p ≡ summaryOf (varying (w ∷ []) ∷ []) → r ≡ plus s p
     → (left ≡ 0 → ⊥) → Within s left → Within r (left - 1)
-within-more ws v s p r left d e f n h =
-    let q : Small p = part-small ws v p d e in
+within-more w s p r left e f n h =
+    let q : Small p = part-small w p e in
     rw f (record { locals = omega (arith, h .locals, q .locals); clip = omega (arith, h .clip, q .clip); built-in = omega (arith, h .built-in, q .built-in) })
 
 -- ---- one pass
@@ -164,36 +213,42 @@ pub summary-start : (vs : List Varying) (s : Summary) → s ≡ nothing → summ
 summary-start vs s e = rw e (plus-start vs)
 
 module _ (ws : List ℕ) (k at : ℕ) (s goal : Summary) (inv : goal ≡ plus s (summaryOf (varyings k (drop at ws)))) where
-  pub summary-onward : (v : Varying) (p r : Summary) (width : ℕ) → (k ≡ 0 → ⊥) → v ≡ varying (drop at ws) → p ≡ summaryOf (v ∷ []) → r ≡ plus s p
+  pub summary-onward : (w : ℕ) (p r : Summary) (width : ℕ) → (k ≡ 0 → ⊥) → w ≡ wordAt ws at → p ≡ summaryOf (varying (w ∷ []) ∷ []) → r ≡ plus s p
       → width ≡ varyingWidth (drop at ws) → goal ≡ plus r (summaryOf (varyings (k - 1) (drop (at + width) ws)))
-  summary-onward v p r width h d e f x =
-      inv ∙ rw (varyings-left ws k at h, ← d, plus-more s v (varyings (k - 1) (drop (at + varyingWidth (drop at ws)) ws)), ← e, f, ← x)
+  summary-onward w p r width h d e f x =
+      let part : p ≡ summaryOf (varying (drop at ws) ∷ []) = e ∙ first-summary ws at w d in
+      let others : List Varying = varyings (k - 1) (drop (at + width) ws) in
+      inv ∙ rw (varyings-left ws k at h, ← x) (plus-more s (varying (drop at ws)) others ∙ rw (← part, f))
 
   pub summary-ended : k ≡ 0 → s ≡ goal
   summary-ended h = sym (inv ∙ rw (varyings-none (drop at ws) k h) (plus-end s))
 
 -- ---- locations
 
-module _ (number past limit : ℕ) (v : Varying) (location : ℕ) (iv : InterfaceVar) (r : Answer) (e : v ≡ Var.Local location iv) where
-  pub location-below : location < past → r ≡ accepted → r ≡ locationUse number past limit v
-  location-below h x = rw (e, lt-ltb location past h) x
+module _ (number past limit w k : ℕ) (r : Answer) (ek : k ≡ kindOf w) where
+  pub location-none : (k ≡ 12 → ⊥) → r ≡ accepted → r ≡ locationUse number past limit (varying (w ∷ []))
+  location-none n x = rw (← ek, ne-eqb k 12 n) x
 
-  pub location-past : past ≤ location → r ≡ answer number location limit 0 → r ≡ locationUse number past limit v
-  location-past h x = rw (e, le-ltb location past h) x
+  module _ (location : ℕ) (h : k ≡ 12) (el : location ≡ contentOf w) where
+    pub location-below : location < past → r ≡ accepted → r ≡ locationUse number past limit (varying (w ∷ []))
+    location-below l x = rw (← ek, eq-eqb k 12 h, ← el, lt-ltb location past l) x
 
-pub location-none : (number past limit : ℕ) (v : Varying) (b : BuiltIn) (r : Answer) → v ≡ Var.BuiltIn b → r ≡ accepted → r ≡ locationUse number past limit v
-location-none number past limit v b r e x = rw e x
+    pub location-past : past ≤ location → r ≡ answer number location limit 0 → r ≡ locationUse number past limit (varying (w ∷ []))
+    location-past l x = rw (← ek, eq-eqb k 12 h, ← el, le-ltb location past l) x
 
 module _ (number past limit : ℕ) (ws : List ℕ) (k at : ℕ) (goal : Answer) (inv : goal ≡ locationUses number past limit (varyings k (drop at ws))) where
-  module _ (v : Varying) (a : Answer) (h : k ≡ 0 → ⊥) (d : v ≡ varying (drop at ws)) (e : a ≡ locationUse number past limit v) where
+  module _ (w : ℕ) (a : Answer) (h : k ≡ 0 → ⊥) (d : w ≡ wordAt ws at) (e : a ≡ locationUse number past limit (varying (w ∷ []))) where
+    use-is : a ≡ locationUse number past limit (varying (drop at ws))
+    use-is = e ∙ first-location ws at w d number past limit
+
     pub locations-refused : (a .number ≡ 0 → ⊥) → a ≡ goal
     unfolding locationUses
-    locations-refused n = sym (inv ∙ rw (varyings-left ws k at h, ← d, ← e, ne-eqb (a .number) 0 n))
+    locations-refused n = sym (inv ∙ rw (varyings-left ws k at h, ← use-is, ne-eqb (a .number) 0 n))
 
     pub locations-onward : (width : ℕ) → a .number ≡ 0 → width ≡ varyingWidth (drop at ws)
         → goal ≡ locationUses number past limit (varyings (k - 1) (drop (at + width) ws))
     unfolding locationUses
-    locations-onward width z x = inv ∙ rw (varyings-left ws k at h, ← d, ← e, eq-eqb (a .number) 0 z, x)
+    locations-onward width z x = inv ∙ rw (varyings-left ws k at h, ← use-is, eq-eqb (a .number) 0 z, x)
 
   pub locations-ended : (a : Answer) → k ≡ 0 → a ≡ accepted → a ≡ goal
   unfolding locationUses
@@ -255,19 +310,24 @@ module _ (vs : List Varying) (s : Summary) (hs : s ≡ summaryOf vs) where
 
 -- ---- attachments
 
-module _ (dual depth shader : Bool) (vs : List Varying) (r : Answer) (b : Bool) (e : b ≡ (dual && not shader)) where
-  pub dual-lacks : b ≡ true → r ≡ refused 66 → r ≡ attachmentUse dual depth shader vs
+module _ (ws : List ℕ) (p : EntryParts) (dual depth : Bool) (r : Answer) (head : ℕ) (b : Bool) (eh : head ≡ wordAt ws (p .head))
+    (e : b ≡ (dual && not (eqb (head % 2) 1))) where
+  shader-is : standing ws p .dual ≡ eqb (head % 2) 1
+  unfolding standing
+  shader-is = rw eh
+
+  pub dual-lacks : b ≡ true → r ≡ refused 66 → r ≡ attachmentUse dual depth (standing ws p .dual) (standing ws p .outputs)
   unfolding attachmentUse yes
-  dual-lacks t x = rw (← e, t) x
+  dual-lacks t x = rw (shader-is, ← e, t) x
 
-  module _ (s : Summary) (hs : s ≡ summaryOf vs) (d : Bool) (f : d ≡ (s .depth && not depth)) (n : b ≡ false) where
-    pub depth-lacks : d ≡ true → r ≡ refused 67 → r ≡ attachmentUse dual depth shader vs
+  module _ (s : Summary) (g : Summed ws p s) (d : Bool) (f : d ≡ (s .depth && not depth)) (n : b ≡ false) where
+    pub depth-lacks : d ≡ true → r ≡ refused 67 → r ≡ attachmentUse dual depth (standing ws p .dual) (standing ws p .outputs)
     unfolding attachmentUse yes
-    depth-lacks t x = rw (← e, n, depth-is vs s hs, ← f, t) x
+    depth-lacks t x = rw (shader-is, ← e, n, depth-is (standing ws p .outputs) s (g .outputs), ← f, t) x
 
-    pub attachments-good : d ≡ false → r ≡ accepted → r ≡ attachmentUse dual depth shader vs
+    pub attachments-good : d ≡ false → r ≡ accepted → r ≡ attachmentUse dual depth (standing ws p .dual) (standing ws p .outputs)
     unfolding attachmentUse yes
-    attachments-good t x = rw (← e, n, depth-is vs s hs, ← f, t) x
+    attachments-good t x = rw (shader-is, ← e, n, depth-is (standing ws p .outputs) s (g .outputs), ← f, t) x
 
 -- ---- an entry point by its parts
 
@@ -288,10 +348,14 @@ module _ (ws : List ℕ) (p : EntryParts) (counts n : ℕ) (a : Answer) (hc : co
     unfolding standing
     colours-stand number past limit x = rw (← hc, ← hn) x
 
-    pub attachments-stand : (dual depth : Bool) (head : ℕ) → head ≡ wordAt ws (p .head)
-        → a ≡ attachmentUse dual depth (eqb (head % 2) 1) (varyings n (drop (p .outputs) ws)) → a ≡ attachmentUse dual depth (standing ws p .dual) (standing ws p .outputs)
-    unfolding standing
-    attachments-stand dual depth head hh x = rw (← hc, ← hn, ← hh) x
+module _ (ws : List ℕ) (p : EntryParts) (counts n : ℕ) (s : Summary) (hc : counts ≡ wordAt ws (p .counts)) (hn : n ≡ bits 5 0 counts) where
+  pub summed-read : Summed ws p s → s ≡ summaryOf (varyings n (drop (p .outputs) ws))
+  unfolding standing
+  summed-read g = rw (hn, hc) (g .outputs)
+
+  pub summed-here : s ≡ summaryOf (varyings n (drop (p .outputs) ws)) → s .locals ≤ 63 → s .«clip_places» ≤ 63 * 64 → Summed ws p s
+  unfolding standing
+  summed-here e l c = record { outputs = rw (← hc, ← hn) e; locals = l; clip = c }
 
 -- the arms of a `match`
 pub places-at : (stage s : ShaderStage) (q : Request) (l : Limits) (e : EntryPoint) (locals : ℕ) (r : Answer) → stage ≡ s

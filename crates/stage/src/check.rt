@@ -11,17 +11,17 @@ ghost use Rattle.interface.specs.Reads.{interfaceOf, entryNth, standing};
 ghost use Rattle.interface.specs.Parts.{Placed, chosenIn};
 ghost use Rattle.stage.specs.Meaning.{outcome, state};
 ghost use Rattle.stage.specs.Resources.{resourceSteps};
-ghost use Rattle.stage.specs.Given.{Named, Given};
+ghost use Rattle.stage.specs.Given.{Named, Given, Summed};
 ghost use Rattle.stage.specs.Judging.{requestWith, handedOut};
 ghost use Rattle.stage.specs.Stage.{inputWalk, judgement, outWords, runBody, onEntryPoint, onChosen, callGood, checkStage, call};
 use crate::judge::judge;
 use crate::list_out::list_out;
-use crate::outputs::summary;
+use crate::outputs::output_summary;
 use crate::resources::resource_steps;
+use crate::types::Summary;
 use interface::check_pack::check_pack;
 use interface::choose::find_entry_point;
 use interface::offsets::resource_offsets;
-use interface::parts::outputs_counted;
 use interface::parts::pairs_counted;
 use interface::parts::resources_counted;
 use interface::reads::entry_parts;
@@ -76,6 +76,7 @@ fn check_resources(
 fn judge_out(
     pack: &[u32],
     parts: EntryParts,
+    outputs: Summary,
     offsets: &[u32],
     layout: &[u32],
     inputs: &[u32],
@@ -87,8 +88,8 @@ fn judge_out(
     depth: bool,
 ) -> Answer
     requires { ⌜ (decodedNumber (decode (now pack)) ≡ 0) × Placed (now pack) parts ⌝ }
+    requires { ⌜ Summed (now pack) parts outputs × (outWords (standing (now pack) parts) ≤ length (now out)) ⌝ }
     requires { ⌜ Given (now pack) (now offsets) (interfaceOf (decode (now pack))) (standing (now pack) parts) ⌝ }
-    requires { ⌜ outWords (standing (now pack) parts) ≤ length (now out) ⌝ }
     ensures { λ r. ⌜ r ≡ judgement (requestWith derived stage topology dual depth) (interfaceOf (decode (now (pack .entry))))
         (standing (now (pack .entry)) parts) (decodeStage (now (inputs .entry))) (decodeLayout (now (layout .entry))) ⌝ }
     ensures { λ r. ⌜ now (out .exit) ≡ handedOut r stage (standing (now (pack .entry)) parts)
@@ -101,6 +102,7 @@ fn judge_out(
         parts,
         offsets,
         limits,
+        outputs,
         layout,
         inputs,
         stage,
@@ -113,7 +115,7 @@ fn judge_out(
     if answer.number != 0 {
         return answer;
     }
-    list_out(pack, parts, stage, judged.walk, out);
+    list_out(pack, parts, stage, judged.walk, outputs, out);
     answer
 }
 
@@ -121,6 +123,7 @@ fn judge_out(
 fn judge_call(
     pack: &[u32],
     parts: EntryParts,
+    outputs: Summary,
     offsets: &[u32],
     layout: &[u32],
     inputs: &[u32],
@@ -133,7 +136,7 @@ fn judge_call(
 ) -> Answer
     requires { ⌜ (decodedNumber (decode (now pack)) ≡ 0) × Placed (now pack) parts ⌝ }
     requires { ⌜ Given (now pack) (now offsets) (interfaceOf (decode (now pack))) (standing (now pack) parts) ⌝ }
-    requires { ⌜ outWords (standing (now pack) parts) ≤ length (now out) ⌝ }
+    requires { ⌜ Summed (now pack) parts outputs × (outWords (standing (now pack) parts) ≤ length (now out)) ⌝ }
     ensures { λ r. ⌜ r ≡ judgement (requestWith (eqb mode 1) (stageAt stage) topology (eqb dual 1) (eqb depth 1)) (interfaceOf (decode (now (pack .entry))))
         (standing (now (pack .entry)) parts) (decodeStage (now (inputs .entry))) (decodeLayout (now (layout .entry))) ⌝ }
     ensures { λ r. ⌜ now (out .exit) ≡ handedOut r (stageAt stage) (standing (now (pack .entry)) parts)
@@ -144,6 +147,7 @@ fn judge_call(
     judge_out(
         pack,
         parts,
+        outputs,
         offsets,
         layout,
         inputs,
@@ -160,6 +164,7 @@ fn judge_call(
 fn run_body(
     pack: &[u32],
     parts: EntryParts,
+    outputs: Summary,
     offsets: &[u32],
     layout: &mut [u32],
     sizes: &mut [u32],
@@ -174,7 +179,7 @@ fn run_body(
     requires { ⌜ (decodedNumber (decode (now pack)) ≡ 0) × Placed (now pack) parts ⌝ }
     requires { ⌜ (layoutFiled (now layout) ≡ true) × (sizesFiled (now sizes) ≡ true) ⌝ }
     requires { ⌜ Given (now pack) (now offsets) (interfaceOf (decode (now pack))) (standing (now pack) parts) ⌝ }
-    requires { ⌜ outWords (standing (now pack) parts) ≤ length (now out) ⌝ }
+    requires { ⌜ Summed (now pack) parts outputs × (outWords (standing (now pack) parts) ≤ length (now out)) ⌝ }
     ensures { λ a. ⌜ outcome a (now (layout .exit)) (now (sizes .exit)) (now (out .exit)) ≡ runBody (call (now (pack .entry)) (now (layout .entry)) (now (sizes .entry))
         (now (inputs .entry)) (now (out .entry)) stage [] topology mode dual depth)
         (interfaceOf (decode (now (pack .entry)))) (standing (now (pack .entry)) parts) ⌝ }
@@ -186,6 +191,7 @@ fn run_body(
     judge_call(
         pack,
         parts,
+        outputs,
         offsets,
         layout,
         inputs,
@@ -202,6 +208,7 @@ fn run_body(
 fn run_parts(
     pack: &[u32],
     parts: EntryParts,
+    outputs: Summary,
     layout: &mut [u32],
     sizes: &mut [u32],
     inputs: &[u32],
@@ -215,7 +222,7 @@ fn run_parts(
     requires { ⌜ (decodedNumber (decode (now pack)) ≡ 0) × Placed (now pack) parts ⌝ }
     requires { ⌜ (layoutFiled (now layout) ≡ true) × (sizesFiled (now sizes) ≡ true) ⌝ }
     requires { ⌜ Named (interfaceOf (decode (now pack))) (standing (now pack) parts) ⌝ }
-    requires { ⌜ outWords (standing (now pack) parts) ≤ length (now out) ⌝ }
+    requires { ⌜ Summed (now pack) parts outputs × (outWords (standing (now pack) parts) ≤ length (now out)) ⌝ }
     ensures { λ a. ⌜ outcome a (now (layout .exit)) (now (sizes .exit)) (now (out .exit)) ≡ runBody (call (now (pack .entry)) (now (layout .entry)) (now (sizes .entry))
         (now (inputs .entry)) (now (out .entry)) stage [] topology mode dual depth)
         (interfaceOf (decode (now (pack .entry)))) (standing (now (pack .entry)) parts) ⌝ }
@@ -225,6 +232,7 @@ fn run_parts(
     run_body(
         pack,
         parts,
+        outputs,
         &offsets,
         layout,
         sizes,
@@ -236,16 +244,6 @@ fn run_parts(
         dual,
         depth,
     )
-}
-
-// The words that the list out of an entry point takes.
-fn out_words(pack: &[u32], parts: EntryParts) -> usize
-    requires { ⌜ Placed (now pack) parts ⌝ }
-    ensures { λ r. ⌜ r ≡ outWords (standing (now (pack .entry)) parts) ⌝ }
-{
-    let n = outputs_counted(word(pack, parts.counts));
-    let s = summary(pack, parts.outputs, n);
-    2 + 2 * s.locals as usize
 }
 
 // The room of the list out, then all steps of the entry point at a place among those of the pack.
@@ -270,12 +268,14 @@ fn on_entry_point(
         (interfaceOf (decode (now (pack .entry)))) (entryNth (interfaceOf (decode (now (pack .entry))) .entries) position) ⌝ }
 {
     let parts = entry_parts(pack, position);
-    if out.len() < out_words(pack, parts) {
+    let outputs = output_summary(pack, parts);
+    if out.len() < 2 + 2 * outputs.locals as usize {
         return Answer::refused(4);
     }
     run_parts(
         pack,
         parts,
+        outputs,
         layout,
         sizes,
         inputs,

@@ -8,7 +8,7 @@ ghost use Rattle.interface.specs.Reads.{standing};
 ghost use Rattle.interface.specs.Parts.{Placed};
 ghost use Rattle.word.specs.Choice.{pick, yes};
 ghost use Rattle.word.specs.Answers.{accepted};
-ghost use Rattle.stage.specs.Given.{resourceTable, pairsBelow};
+ghost use Rattle.stage.specs.Given.{resourceTable, pairsBelow, Summed};
 ghost use Rattle.stage.specs.Interfaces.{walked, startWalk};
 ghost use Rattle.stage.specs.Resources.{pairUses};
 ghost use Rattle.stage.specs.Judging.{request, behindInputs, judgedInputs, judged};
@@ -17,6 +17,7 @@ use crate::last::last_step;
 use crate::outputs::places_step;
 use crate::pairs::pair_uses;
 use crate::types::InputWalk;
+use crate::types::Summary;
 use crate::types::Walked;
 use crate::workgroup::workgroup_step;
 use interface::parts::inputs_counted;
@@ -76,6 +77,7 @@ fn after_inputs(
     pack: &[u32],
     parts: EntryParts,
     limits: Limits,
+    outputs: Summary,
     inputs: &[u32],
     stage: ShaderStage,
     topology: u32,
@@ -83,7 +85,7 @@ fn after_inputs(
     depth: bool,
     walk: InputWalk,
 ) -> Answer
-    requires { ⌜ Placed (now pack) parts ⌝ }
+    requires { ⌜ Placed (now pack) parts × Summed (now pack) parts outputs ⌝ }
     ensures { λ r. ⌜ r ≡ behindInputs (request stage topology dual depth) limits (standing (now (pack .entry)) parts)
         (decodeStage (now (inputs .entry))) walk ⌝ }
 {
@@ -91,6 +93,7 @@ fn after_inputs(
         pack,
         parts,
         limits,
+        outputs,
         stage,
         topology,
         dual,
@@ -112,13 +115,14 @@ fn judge_inputs(
     pack: &[u32],
     parts: EntryParts,
     limits: Limits,
+    outputs: Summary,
     inputs: &[u32],
     stage: ShaderStage,
     topology: u32,
     dual: bool,
     depth: bool,
 ) -> Walked
-    requires { ⌜ Placed (now pack) parts ⌝ }
+    requires { ⌜ Placed (now pack) parts × Summed (now pack) parts outputs ⌝ }
     ensures { λ r. ⌜ r ≡ judgedInputs (request stage topology dual depth) limits (standing (now (pack .entry)) parts)
         (decodeStage (now (inputs .entry))) ⌝ }
 {
@@ -133,6 +137,7 @@ fn judge_inputs(
         pack,
         parts,
         limits,
+        outputs,
         inputs,
         stage,
         topology,
@@ -169,6 +174,7 @@ pub fn judge(
     parts: EntryParts,
     offsets: &[u32],
     limits: Limits,
+    outputs: Summary,
     layout: &[u32],
     inputs: &[u32],
     stage: ShaderStage,
@@ -177,7 +183,7 @@ pub fn judge(
     dual: bool,
     depth: bool,
 ) -> Walked
-    requires { ⌜ Placed (now pack) parts ⌝ }
+    requires { ⌜ Placed (now pack) parts × Summed (now pack) parts outputs ⌝ }
     requires { ⌜ pairsBelow (length (resourceTable (now pack) (now offsets))) (standing (now pack) parts .pairs) ≡ true ⌝ }
     ensures { λ r. ⌜ r ≡ judged derived (request stage topology dual depth) (resourceTable (now (pack .entry)) (now (offsets .entry))) limits
         (standing (now (pack .entry)) parts) (decodeStage (now (inputs .entry))) (decodeLayout (now (layout .entry))) ⌝ }
@@ -191,7 +197,17 @@ pub fn judge(
     if size.number != 0 {
         return stopped(size);
     }
-    judge_inputs(pack, parts, limits, inputs, stage, topology, dual, depth)
+    judge_inputs(
+        pack,
+        parts,
+        limits,
+        outputs,
+        inputs,
+        stage,
+        topology,
+        dual,
+        depth,
+    )
 }
 
 // A walk that was not begun.

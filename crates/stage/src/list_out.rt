@@ -9,10 +9,11 @@ ghost use Rattle.lists.specs.Meaning.{every};
 ghost use Rattle.lists.specs.Format.{outFiled, decodeStage, encodeStage};
 ghost use Rattle.interface.specs.Reads.{varying, varyingWidth, varyings, standing};
 ghost use Rattle.stage.specs.Interfaces.{isLocal, localCount, localsOf, primitiveOut, stageOut};
+ghost use Rattle.stage.specs.Given.{Summed};
 ghost use Rattle.stage.specs.ListOut.{outputHeld, handed};
 use crate::inputs::either;
-use crate::outputs::summary;
 use crate::types::InputWalk;
+use crate::types::Summary;
 use interface::parts::outputs_counted;
 use interface::reads::varying_at;
 use interface::reads::varying_width;
@@ -110,16 +111,16 @@ pub fn list_out(
     parts: EntryParts,
     stage: ShaderStage,
     walk: InputWalk,
+    outputs: Summary,
     out: &mut [u32],
 )
-    requires { ⌜ (parts .workgroup < 2 ^ 40) × (parts .outputs < 2 ^ 40) ⌝ }
+    requires { ⌜ (parts .workgroup < 2 ^ 40) × (parts .outputs < 2 ^ 40) × Summed (now pack) parts outputs ⌝ }
     requires { ⌜ every outputHeld (standing (now pack) parts .outputs) ≡ true ⌝ }
     requires { ⌜ 2 + 2 * localCount (standing (now pack) parts .outputs) ≤ length (now out) ⌝ }
     ensures { λ _. ⌜ now (out .exit) ≡ encodeStage (stageOut stage (standing (now (pack .entry)) parts) walk (now (out .entry))) ⌝ }
 {
     let n = outputs_counted(word(pack, parts.counts));
-    let s = summary(pack, parts.outputs, n);
-    let primitive = primitive_out(stage, either(walk.primitive_index, s.primitive));
+    let primitive = primitive_out(stage, either(walk.primitive_index, outputs.primitive));
     let payload = varying::payload_of(word(pack, parts.workgroup + 3));
     write_out(pack, parts.outputs, n, out, primitive, payload);
 }

@@ -4,21 +4,24 @@ ghost use mathlib.Core.Bool.{false, not, _&&_, _||_};
 ghost use mathlib.Core.List.{[], _∷_};
 ghost use Prim.Native.Nat.{_+_, _*_, _/_, _<_, _≤_, _^_};
 ghost use lib.ListN.{drop};
-ghost use Rattle.interface.specs.Reads.{varyings, standing};
+ghost use Rattle.interface.specs.Format.{builtInOf};
+ghost use Rattle.interface.specs.Reads.{varying, varyings, standing};
+ghost use Rattle.interface.specs.declared.types.Varying.the-variants as Var;
+ghost use Rattle.interface.specs.Parts.{Placed};
 ghost use Rattle.stage.specs.Meaning.{both};
+ghost use Rattle.stage.specs.Given.{Summed};
 ghost use Rattle.stage.specs.Interfaces.{summaryOf, locationUse, locationUses, countUse, pointPart, vertexOutputs, fragmentPlaces, attachmentUse, placesStep};
 use crate::inputs::either;
 use crate::types::Summary;
 use interface::parts::inputs_counted;
 use interface::parts::outputs_counted;
-use interface::reads::varying_at;
 use interface::reads::varying_width;
-use interface::types::BuiltIn;
 use interface::types::EntryParts;
 use interface::types::Limits;
 use interface::types::ShaderStage;
-use interface::types::Varying;
 use word::answer::Answer;
+use word::content;
+use word::kind;
 use word::word;
 
 // A size over four, rounded up.
@@ -44,37 +47,37 @@ fn taking(places: u32, depth: bool, primitive: bool) -> Summary
     }
 }
 
-fn built_in_summary(built_in: BuiltIn) -> Summary
-    ensures { λ r. ⌜ r ≡ summaryOf (Varying.BuiltIn «built_in» ∷ []) ⌝ }
+// The summary of the built-in that a word means.
+fn built_in_summary(w: u32) -> Summary
+    ensures { λ r. ⌜ r ≡ summaryOf (Var.BuiltIn (builtInOf w) ∷ []) ⌝ }
 {
-    match built_in {
-        BuiltIn::Other { places } => taking(places, false, false),
-        BuiltIn::PrimitiveIndex { places } => taking(places, false, true),
-        BuiltIn::DrawIndex { places } => taking(places, false, false),
-        BuiltIn::FragDepth { places } => taking(places, true, false),
-        BuiltIn::ClipDistances { array_size } => Summary {
-            locals: 0,
-            clip_places: quarters(array_size),
-            built_in_places: 0,
-            depth: false,
-            primitive: false,
-        },
+    let code = w / 0x100_0000 % 8;
+    if code < 4 {
+        return taking(w % 256, code == 3, code == 1);
+    }
+    Summary {
+        locals: 0,
+        clip_places: quarters(w % 256),
+        built_in_places: 0,
+        depth: false,
+        primitive: false,
     }
 }
 
-fn varying_summary(v: Varying) -> Summary
-    ensures { λ r. ⌜ r ≡ summaryOf (v ∷ []) ⌝ }
+// The summary of a varying, by its first word.
+fn first_summary(w: u32) -> Summary
+    ensures { λ r. ⌜ r ≡ summaryOf (varying (w ∷ []) ∷ []) ⌝ }
 {
-    match v {
-        Varying::Local { location: _, iv: _ } => Summary {
+    if kind(w) == 12 {
+        return Summary {
             locals: 1,
             clip_places: 0,
             built_in_places: 0,
             depth: false,
             primitive: false,
-        },
-        Varying::BuiltIn { built_in } => built_in_summary(built_in),
+        };
     }
+    built_in_summary(w)
 }
 
 // Two summaries as one.
@@ -108,8 +111,7 @@ pub fn summary(pack: &[u32], from: usize, n: usize) -> Summary
     let mut at = from;
     let mut left = n;
     while left != 0 {
-        let v = varying_at(pack, at);
-        let part = varying_summary(v);
+        let part = first_summary(word(pack, at));
         s = joined(s, part);
         at += varying_width(pack, at);
         left -= 1;
@@ -117,19 +119,27 @@ pub fn summary(pack: &[u32], from: usize, n: usize) -> Summary
     s
 }
 
-// A local variable at or past a location is refused.
-fn location_use(v: Varying, number: u32, past: u32, limit: u32) -> Answer
-    ensures { λ r. ⌜ r ≡ locationUse number past limit v ⌝ }
+// What stands among the outputs of an entry point.
+pub fn output_summary(pack: &[u32], parts: EntryParts) -> Summary
+    requires { ⌜ Placed (now pack) parts ⌝ }
+    ensures { λ r. ⌜ Summed (now (pack .entry)) parts r ⌝ }
 {
-    match v {
-        Varying::Local { location, iv: _ } => {
-            if location < past {
-                return Answer::accepted();
-            }
-            Answer::new(number, location, limit, 0)
-        }
-        Varying::BuiltIn { built_in: _ } => Answer::accepted(),
+    let n = outputs_counted(word(pack, parts.counts));
+    summary(pack, parts.outputs, n)
+}
+
+// A local variable at or past a location is refused, by its first word.
+fn location_use(w: u32, number: u32, past: u32, limit: u32) -> Answer
+    ensures { λ r. ⌜ r ≡ locationUse number past limit (varying (w ∷ [])) ⌝ }
+{
+    if kind(w) != 12 {
+        return Answer::accepted();
     }
+    let location = content(w);
+    if location < past {
+        return Answer::accepted();
+    }
+    Answer::new(number, location, limit, 0)
 }
 
 // The first local variable at or past a location.
@@ -147,8 +157,8 @@ pub fn location_uses(
     let mut at = from;
     let mut left = n;
     while left != 0 {
-        let v = varying_at(pack, at);
-        let a = location_use(v, number, past, limit);
+        let w = word(pack, at);
+        let a = location_use(w, number, past, limit);
         if a.number != 0 {
             return a;
         }
@@ -179,12 +189,19 @@ fn point_part(topology: u32) -> u32
 }
 
 // The outputs of a vertex stage against the places that a point list and clip distances leave.
-pub fn vertex_outputs(pack: &[u32], from: usize, n: usize, topology: u32, limit: u32) -> Answer
+pub fn vertex_outputs(
+    pack: &[u32],
+    from: usize,
+    n: usize,
+    outputs: Summary,
+    topology: u32,
+    limit: u32,
+) -> Answer
     requires { ⌜ (from < 2 ^ 40) × (n ≤ 63) ⌝ }
+    requires { ⌜ (outputs ≡ summaryOf (varyings n (drop from (now pack)))) × (outputs .«clip_places» ≤ 63 * 64) ⌝ }
     ensures { λ r. ⌜ r ≡ vertexOutputs topology limit (varyings n (drop from (now (pack .entry)))) ⌝ }
 {
-    let s = summary(pack, from, n);
-    let clip = s.clip_places;
+    let clip = outputs.clip_places;
     let taken = point_part(topology) + clip;
     if limit < taken {
         return Answer::refused(65);
@@ -196,7 +213,7 @@ pub fn vertex_outputs(pack: &[u32], from: usize, n: usize, topology: u32, limit:
     if locations.number != 0 {
         return locations;
     }
-    count_use(61, s.locals, limit - taken, limit)
+    count_use(61, outputs.locals, limit - taken, limit)
 }
 
 // The inputs of a fragment stage against the places that its built-in inputs leave.
@@ -229,20 +246,19 @@ fn lacks(wanted: bool, given: bool) -> bool
 // Dual source blending asks for a shader that has it, and fragment depth for a depth attachment.
 pub fn attachment_use(
     pack: &[u32],
-    from: usize,
-    n: usize,
+    parts: EntryParts,
+    outputs: Summary,
     dual: bool,
     depth: bool,
-    shader: bool,
 ) -> Answer
-    requires { ⌜ (from < 2 ^ 40) × (n ≤ 63) ⌝ }
-    ensures { λ r. ⌜ r ≡ attachmentUse dual depth shader (varyings n (drop from (now (pack .entry)))) ⌝ }
+    requires { ⌜ Summed (now pack) parts outputs ⌝ }
+    ensures { λ r. ⌜ r ≡ attachmentUse dual depth (standing (now (pack .entry)) parts .dual) (standing (now (pack .entry)) parts .outputs) ⌝ }
 {
+    let shader = word(pack, parts.head) % 2 == 1;
     if lacks(dual, shader) {
         return Answer::refused(66);
     }
-    let s = summary(pack, from, n);
-    if lacks(s.depth, depth) {
+    if lacks(outputs.depth, depth) {
         return Answer::refused(67);
     }
     Answer::accepted()
@@ -253,11 +269,12 @@ pub fn fragment_outputs(
     pack: &[u32],
     parts: EntryParts,
     limits: Limits,
+    outputs: Summary,
     dual: bool,
     depth: bool,
     locals: u32,
 ) -> Answer
-    requires { ⌜ (parts .inputs < 2 ^ 40) × (parts .outputs < 2 ^ 40) ⌝ }
+    requires { ⌜ (parts .inputs < 2 ^ 40) × (parts .outputs < 2 ^ 40) × Summed (now pack) parts outputs ⌝ }
     ensures { λ r. ⌜ r ≡ both (fragmentPlaces (limits .«max_inter_stage_shader_variables») locals (standing (now (pack .entry)) parts .inputs))
         (both (locationUses 64 (limits .«max_color_attachments») (limits .«max_color_attachments») (standing (now (pack .entry)) parts .outputs))
         (attachmentUse dual depth (standing (now (pack .entry)) parts .dual) (standing (now (pack .entry)) parts .outputs))) ⌝ }
@@ -270,13 +287,12 @@ pub fn fragment_outputs(
         return places;
     }
     let most = limits.max_color_attachments;
-    let outputs = outputs_counted(counts);
-    let colours = location_uses(pack, parts.outputs, outputs, 64, most, most);
+    let n = outputs_counted(counts);
+    let colours = location_uses(pack, parts.outputs, n, 64, most, most);
     if colours.number != 0 {
         return colours;
     }
-    let shader = word(pack, parts.head) % 2 == 1;
-    attachment_use(pack, parts.outputs, outputs, dual, depth, shader)
+    attachment_use(pack, parts, outputs, dual, depth)
 }
 
 // What a stage puts out, or a fragment stage takes in, against the places that there are.
@@ -284,13 +300,14 @@ pub fn places_step(
     pack: &[u32],
     parts: EntryParts,
     limits: Limits,
+    outputs: Summary,
     stage: ShaderStage,
     topology: u32,
     dual: bool,
     depth: bool,
     locals: u32,
 ) -> Answer
-    requires { ⌜ (parts .inputs < 2 ^ 40) × (parts .outputs < 2 ^ 40) ⌝ }
+    requires { ⌜ (parts .inputs < 2 ^ 40) × (parts .outputs < 2 ^ 40) × Summed (now pack) parts outputs ⌝ }
     ensures { λ r. ⌜ r ≡ placesStep stage
         (record { stage = stage; topology = topology; derived = false; dual = dual; depth = depth })
         limits (standing (now (pack .entry)) parts) locals ⌝ }
@@ -299,9 +316,17 @@ pub fn places_step(
         ShaderStage::Vertex => {
             let n = outputs_counted(word(pack, parts.counts));
             let limit = limits.max_inter_stage_shader_variables;
-            vertex_outputs(pack, parts.outputs, n, topology, limit)
+            vertex_outputs(pack, parts.outputs, n, outputs, topology, limit)
         }
-        ShaderStage::Fragment => fragment_outputs(pack, parts, limits, dual, depth, locals),
+        ShaderStage::Fragment => fragment_outputs(
+            pack,
+            parts,
+            limits,
+            outputs,
+            dual,
+            depth,
+            locals,
+        ),
         ShaderStage::Compute => Answer::accepted(),
         ShaderStage::Task => Answer::accepted(),
         ShaderStage::Mesh => Answer::accepted(),

@@ -8,10 +8,13 @@ on-entry-point-spec =
     tie.close
     (tie.spec
     (λ c κs. search needs)  -- entry-parts-requires
-    (λ c κs. search needs)  -- out-words-requires
+    (λ c κs. search needs)  -- output-summary-requires
+    (λ c. search needs)  -- cast-if1
+    (λ c. search needs)  -- mul-if1
+    (λ c. search needs)  -- add-if1
     (λ c κs. search needs)  -- refused-requires
     (λ c. search entry-short)  -- returns
-    (λ c κs. (search needs, (search needs, (search names-of, search room-enough))))  -- run-parts-requires
+    (λ c κs. (search needs, (search needs, (search names-of, (search needs, search room-enough)))))  -- run-parts-requires
     (λ c. search needs)  -- same-length
     (λ c. search needs)  -- same-length-2
     (λ c. search needs)  -- same-length-3

@@ -9,7 +9,6 @@ list-out-spec =
     (tie.spec
     (λ c κs. search needs)  -- word-requires
     (λ c κs. search needs)  -- outputs-counted-requires
-    (λ c κs. search needs)  -- summary-requires
     (λ c κs. search needs)  -- either-requires
     (λ c κs. search needs)  -- primitive-out-requires
     (λ c. search needs)  -- add-word

@@ -7,10 +7,10 @@ pub attachment-use-spec : {M : Type 1} → statement M
 attachment-use-spec =
     tie.close
     (tie.spec
+    (λ c κs. search needs)  -- word-requires
     (λ c κs. search needs)  -- lacks-requires
     (λ c κs. search needs)  -- refused-requires
     (λ c. search dual-lacks)  -- returns
-    (λ c κs. search needs)  -- summary-requires
     (λ c κs. search needs)  -- lacks-requires-2
     (λ c κs. search needs)  -- refused-requires-2
     (λ c. search depth-lacks)  -- returns-2

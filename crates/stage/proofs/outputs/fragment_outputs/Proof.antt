@@ -1,5 +1,5 @@
 use Rattle.stage.proofs.Both.{sequence}
-use Rattle.stage.proofs.OutputLaws.{inputs-stand, colours-stand, attachments-stand}
+use Rattle.stage.proofs.OutputLaws.{inputs-stand, colours-stand}
 use borrow.Author.Needs.{needs}
 use Rattle.stage.proofs.outputs.fragment_outputs.Statement.{statement}
 use Rattle.stage.proofs.outputs.fragment_outputs.Tie as tie
@@ -15,6 +15,5 @@ fragment-outputs-spec =
     (λ c κs. search needs)  -- outputs-counted-requires
     (λ c κs. search needs)  -- location-uses-requires
     (λ c. search (sequence, inputs-stand, colours-stand))  -- returns-2
-    (λ c κs. search needs)  -- word-requires-2
     (λ c κs. search needs)  -- attachment-use-requires
-    (λ c. search (sequence, inputs-stand, colours-stand, attachments-stand)))  -- returns-3
+    (λ c. search (sequence, inputs-stand, colours-stand)))  -- returns-3

@@ -22,7 +22,7 @@ location-uses-spec =
     Inv-loop
     μ-loop
     (λ c. search needs)  -- loop-holds
-    (λ c κs. search needs)  -- varying-at-requires
+    (λ c κs. search needs)  -- word-requires
     (λ c κs. search needs)  -- location-use-requires
     (λ c. search locations-refused)  -- returns
     (λ c κs. search needs)  -- varying-width-requires

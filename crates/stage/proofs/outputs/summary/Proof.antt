@@ -23,8 +23,8 @@ summary-spec =
     μ-loop
     (λ c κs. search needs)  -- taking-requires
     (λ c. (search needs, search within-start, search summary-start))  -- loop-holds
-    (λ c κs. search needs)  -- varying-at-requires
-    (λ c κs. search needs)  -- varying-summary-requires
+    (λ c κs. search needs)  -- word-requires
+    (λ c κs. search needs)  -- first-summary-requires
     (λ c κs. (search needs, (search part-locals, search part-clip, search part-built-in)))  -- joined-requires
     (λ c κs. search needs)  -- varying-width-requires
     (λ c. search needs)  -- add-at

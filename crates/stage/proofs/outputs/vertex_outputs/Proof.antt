@@ -7,7 +7,6 @@ pub vertex-outputs-spec : {M : Type 1} → statement M
 vertex-outputs-spec =
     tie.close
     (tie.spec
-    (λ c κs. search needs)  -- summary-requires
     (λ c κs. search needs)  -- point-part-requires
     (λ c. search needs)  -- add-taken
     (λ c κs. search needs)  -- refused-requires

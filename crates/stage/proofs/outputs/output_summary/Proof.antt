@@ -1,0 +1,13 @@
+use Rattle.stage.proofs.OutputLaws.{summed-here}
+use borrow.Author.Needs.{needs}
+use Rattle.stage.proofs.outputs.output_summary.Statement.{statement}
+use Rattle.stage.proofs.outputs.output_summary.Tie as tie
+
+pub output-summary-spec : {M : Type 1} → statement M
+output-summary-spec =
+    tie.close
+    (tie.spec
+    (λ c κs. search needs)  -- word-requires
+    (λ c κs. search needs)  -- outputs-counted-requires
+    (λ c κs. search needs)  -- summary-requires
+    (λ c. search summed-here))  -- returns
