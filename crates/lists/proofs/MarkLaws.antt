@@ -18,7 +18,7 @@ use Rattle.lists.specs.Marks.{slot, marked}
 use Rattle.lists.specs.Format.{countOf, readPlace, places}
 use Rattle.lists.proofs.Words.{here}
 use Rattle.lists.proofs.PlaceLaws.{same-place-eq}
-use Rattle.lists.proofs.Records.{first-passes, rest-passes, left-cons, left-none}
+use Rattle.lists.proofs.Records.{first-passes, rest-passes, one-less, left-cons, left-none}
 
 -- ---- marks
 
@@ -68,14 +68,11 @@ module _ (width n m : ℕ) (w : width ≤ 4) (h : n < 0x1_0000) (k : 0x8_0000 �
   end-fits = let q : width * n ≤ 4 * n = mul-le-mul-right n w in omega arith
 
 module _ (width at left : ℕ) (e : at ≡ 1 + width * left) (h : left ≡ 0 → ⊥) where
-  one-less : width * left ≡ width * (left - 1) + width
-  one-less = let m : left ≡ suc (left - 1) = omega arith in ap (λ k. width * k) m ∙ mul-suc width (left - 1)
-
   pub record-fits : width ≤ at
-  record-fits = omega (arith, one-less)
+  record-fits = omega (arith, one-less width left h)
 
   pub record-starts : at - width ≡ 1 + width * (left - 1)
-  record-starts = omega (arith, one-less)
+  record-starts = omega (arith, one-less width left h)
 
 -- ---- the records from a position on
 

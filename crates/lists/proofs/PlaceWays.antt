@@ -1,20 +1,25 @@
 -- The code's ways through places.
-use Prim.Native.Nat.{ℕ, _+_, _-_, _<_, _≤_}
+use Prim.Native.Nat.{ℕ, _+_, _-_, _*_, _%_, _<_, _≤_, _^_}
 use native.Mathlib.Omega.{arith}
+use native.Mathlib.Nat.{mul-le-mul-right}
 use mathlib.Core.Path.{_≡_, refl, sym, ap, _∙_}
 use mathlib.Core.Bool.{Bool, true, false}
 use mathlib.Core.List.{List, [], _∷_}
-use lib.ListN.{drop}
+use lib.ListN.{length, drop}
+use borrow.Author.Tests.{eq-eqb}
 use Rattle.word.specs.Choice.{pick}
-use Rattle.word.specs.Words.{wordAt}
-use Rattle.resource.specs.Format.{placeOf}
+use Rattle.word.specs.Words.{wordAt, bits}
+use Rattle.word.proofs.Truth.{by-test}
+use Rattle.resource.specs.Format.{placeOf, placeWord, placeHeld}
 use Rattle.resource.specs.declared.types.ResourceBinding.{ResourceBinding}
+use Rattle.resource.proofs.EntryFormat.{place-read}
 use Rattle.lists.specs.Meaning.{samePlace, placeFrom, placeIn, distinctPlaces}
 use Rattle.lists.specs.Format.{readPlace, places}
 use Rattle.lists.specs.declared.types.Found.{Found}
 use Rattle.lists.specs.declared.types.Found.the-variants.{At, Nothing}
-use Rattle.lists.proofs.Records.{left-cons, left-none}
+use Rattle.lists.proofs.Records.{one-less, left-cons, left-none}
 use Rattle.lists.proofs.Words.{here}
+use Rattle.lists.proofs.PlaceLaws.{same-place-eq}
 
 -- ---- a place sought
 
@@ -42,6 +47,70 @@ module _ (width : ℕ) (l : List ℕ) (n i at : ℕ) (place : ResourceBinding) (
   pub sought-nowhere : n ≤ i → Nothing ≡ goal
   unfolding placeFrom
   sought-nowhere h = let z : n - i ≡ 0 = omega arith in sym (inv ∙ rw (left-none width readPlace (n - i) (drop at l) z))
+
+-- ---- a place sought by the content of its word
+
+module _ (w content : ℕ) (h : content < 2 ^ 27) where
+  content-same : w % 0x800_0000 ≡ content → samePlace (placeOf w) (placeOf content) ≡ true
+  content-same e =
+      let g : bits 26 23 w ≡ bits 26 23 content = omega arith in
+      let b : bits 22 0 w ≡ bits 22 0 content = omega arith in
+      rw (eq-eqb (bits 26 23 w) (bits 26 23 content) g, eq-eqb (bits 22 0 w) (bits 22 0 content) b)
+
+  content-other : (w % 0x800_0000 ≡ content → ⊥) → samePlace (placeOf w) (placeOf content) ≡ false
+  content-other n =
+      by-test (samePlace (placeOf w) (placeOf content))
+      (λ t.
+      let e : placeOf w ≡ placeOf content = same-place-eq (placeOf w) (placeOf content) t in
+      let g : bits 26 23 w ≡ bits 26 23 content = ap (λ p. p .group) e in
+      let b : bits 22 0 w ≡ bits 22 0 content = ap (λ p. p .binding) e in
+      absurd (n (omega arith)))
+      (λ f. f)
+
+module _ (width : ℕ) (l : List ℕ) (n i at content : ℕ) (goal : Found) (inv : goal ≡ placeFrom (placeOf content) (places width (n - i) (drop at l)) i)
+    (h : i < n) (held : content < 2 ^ 27) where
+  pub content-found : wordAt l at % 0x800_0000 ≡ content → At i ≡ goal
+  content-found e =
+      sought-found width l n i at (placeOf content) goal inv (placeOf (wordAt l at)) true h refl (sym (content-same (wordAt l at) content held e)) refl
+
+  pub content-onward : (wordAt l at % 0x800_0000 ≡ content → ⊥)
+      → goal ≡ placeFrom (placeOf content) (places width (n - (i + 1)) (drop (at + width) l)) (i + 1)
+  content-onward e =
+      sought-onward width l n i at (placeOf content) goal inv (placeOf (wordAt l at)) false h refl (sym (content-other (wordAt l at) content held e)) refl
+
+-- the records lie within the words
+module _ (width n m : ℕ) where
+  pub within-begins : (from : ℕ) → from + width * n ≤ m → from + width * (n - 0) ≤ m
+  within-begins from h = let e : n - 0 ≡ n = omega arith in rw e h
+
+  module _ (at i : ℕ) (h : at + width * (n - i) ≤ m) (k : i < n) where
+    pub within : 0 < width → at < m
+    within o = omega (arith, one-less width (n - i) (λ e. omega arith))
+
+    pub within-onward : at + width + width * (n - (i + 1)) ≤ m
+    within-onward =
+        let e : n - i - 1 ≡ n - (i + 1) = omega arith in
+        let s : width * (n - i) ≡ width * (n - (i + 1)) + width = rw e at (one-less width (n - i) (λ z. omega arith)) in
+        omega arith
+
+module _ (width n m : ℕ) (w : width ≤ 4) (h : n < 2 ^ 32) (k : 2 ^ 60 ≤ m) where
+  pub sought-fit : width * n < m
+  sought-fit = let q : width * n ≤ 4 * n = mul-le-mul-right n w in omega arith
+
+  pub sought-end-fits : (from : ℕ) → from < 2 ^ 32 → from + width * n < m
+  sought-end-fits from f = let q : width * n ≤ 4 * n = mul-le-mul-right n w in omega arith
+
+-- a place that a word holds is the one that its content tells
+module _ (place : ResourceBinding) (b : Bool) (h : b ≡ placeHeld place) (t : b ≡ true) where
+  pub held-told : placeHeld place ≡ true
+  held-told = sym h ∙ t
+
+  pub content-tells : (ps : List ResourceBinding) (r : Found) (w : ℕ) → w ≡ placeWord place → r ≡ placeFrom (placeOf (w % 0x800_0000)) ps 0 → r ≡ placeFrom place ps 0
+  content-tells ps r w e f =
+      let g : bits 26 23 (w % 0x800_0000) ≡ bits 26 23 w = omega arith in
+      let n : bits 22 0 (w % 0x800_0000) ≡ bits 22 0 w = omega arith in
+      let p : placeOf w ≡ place = ap placeOf e ∙ place-read place held-told in
+      f ∙ rw (g, n) (ap (λ q. placeFrom q ps 0) p)
 
 -- ---- a place among others
 

@@ -23,6 +23,12 @@ pub rest-passes : (b c : Bool) → pick b c false ≡ true → c ≡ true
 rest-passes true c h = h
 rest-passes false c h = absurd (false≢true h)
 
+-- ---- positions
+
+-- of records left, one and the others
+pub one-less : (width left : ℕ) → (left ≡ 0 → ⊥) → width * left ≡ width * (left - 1) + width
+one-less width left h = let m : left ≡ suc (left - 1) = omega arith in ap (λ k. width * k) m ∙ mul-suc width (left - 1)
+
 -- ---- a reader alone
 
 module _ {A : Type 0} (width : ℕ) (read : List ℕ → A) where

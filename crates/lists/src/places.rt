@@ -1,16 +1,17 @@
 // Places, each in the first word of a record of some width.
 ghost use mathlib.Core.Path.{_≡_};
 ghost use mathlib.Core.Bool.{true};
-ghost use Prim.Native.Nat.{_<_, _≤_, _^_};
-ghost use lib.ListN.{drop};
+ghost use Prim.Native.Nat.{_+_, _*_, _<_, _≤_, _^_};
+ghost use lib.ListN.{length, drop};
 ghost use Rattle.word.specs.Words.{wordAt};
-ghost use Rattle.resource.specs.Format.{placeOf};
+ghost use Rattle.resource.specs.Format.{placeOf, placeHeld};
 ghost use Rattle.lists.specs.Meaning.{samePlace, placeFrom, placeIn, distinctPlaces, foundBelow, every};
 ghost use Rattle.lists.specs.Marks.{slot, marked};
 ghost use Rattle.lists.specs.Format.{countOf, places};
 use crate::heads::count;
 use crate::types::Found;
 use resource::resource_words::place_of;
+use resource::resource_words::place_word;
 use resource::types::ResourceBinding;
 use word::word;
 
@@ -20,6 +21,13 @@ fn same_place(a: ResourceBinding, b: ResourceBinding) -> bool
     a.group == b.group && a.binding == b.binding
 }
 
+// Whether a place word can hold the place.
+fn place_held(place: ResourceBinding) -> bool
+    ensures { λ r. ⌜ r ≡ placeHeld place ⌝ }
+{
+    place.group < 16 && place.binding < 0x80_0000
+}
+
 // The place that stands at a position.
 pub fn place_at(l: &[u32], at: usize) -> ResourceBinding
     ensures { λ r. ⌜ r ≡ placeOf (wordAt (now (l .entry)) at) ⌝ }
@@ -27,8 +35,8 @@ pub fn place_at(l: &[u32], at: usize) -> ResourceBinding
     place_of(word(l, at))
 }
 
-// Which of the records from a position on has the place.
-pub fn find_place(l: &[u32], from: usize, n: usize, width: usize, place: ResourceBinding) -> Found
+// Which of the records from a position on has the place, wherever they lie.
+fn find_plain(l: &[u32], from: usize, n: usize, width: usize, place: ResourceBinding) -> Found
     requires { ⌜ (from < 2 ^ 32) × (n < 2 ^ 32) × (width ≤ 4) ⌝ }
     ensures { λ r. ⌜ r ≡ placeFrom place (places width n (drop from (now (l .entry)))) 0 ⌝ }
     ensures { λ r. ⌜ foundBelow n r ≡ true ⌝ }
@@ -43,6 +51,41 @@ pub fn find_place(l: &[u32], from: usize, n: usize, width: usize, place: Resourc
         i += 1;
     }
     Found::Nothing
+}
+
+// Which of the records has the place that a word's content tells, where all lie within the slice.
+fn find_within(l: &[u32], from: usize, n: usize, width: usize, content: u32) -> Found
+    requires { ⌜ (from < 2 ^ 32) × (n < 2 ^ 32) × (width ≤ 4) ⌝ }
+    requires { ⌜ (0 < width) × (from + width * n ≤ length (now l)) × (content < 2 ^ 27) ⌝ }
+    ensures { λ r. ⌜ r ≡ placeFrom (placeOf content) (places width n (drop from (now (l .entry)))) 0 ⌝ }
+    ensures { λ r. ⌜ foundBelow n r ≡ true ⌝ }
+{
+    let mut at = from;
+    let mut i: usize = 0;
+    while i < n {
+        if l[at] % 0x800_0000 == content {
+            return Found::At { index: i };
+        }
+        at += width;
+        i += 1;
+    }
+    Found::Nothing
+}
+
+// Which of the records from a position on has the place.
+pub fn find_place(l: &[u32], from: usize, n: usize, width: usize, place: ResourceBinding) -> Found
+    requires { ⌜ (from < 2 ^ 32) × (n < 2 ^ 32) × (width ≤ 4) ⌝ }
+    ensures { λ r. ⌜ r ≡ placeFrom place (places width n (drop from (now (l .entry)))) 0 ⌝ }
+    ensures { λ r. ⌜ foundBelow n r ≡ true ⌝ }
+{
+    if 0 < width {
+        if from + width * n <= l.len() {
+            if place_held(place) {
+                return find_within(l, from, n, width, place_word(place) % 0x800_0000);
+            }
+        }
+    }
+    find_plain(l, from, n, width, place)
 }
 
 fn has_place(l: &[u32], from: usize, n: usize, width: usize, place: ResourceBinding) -> bool

@@ -1,33 +1,17 @@
-use Prim.Native.Nat.{_+_, _-_, _*_, _<_, _≤_, _^_}
-use mathlib.Core.Path.{_≡_}
-use lib.ListN.{drop}
-use Rattle.lists.specs.Meaning.{placeFrom}
-use Rattle.lists.specs.Format.{places}
-use Rattle.lists.proofs.PlaceWays.{sought-begins, sought-found, sought-onward, sought-nowhere}
-use borrow.Author.Tests.{lt-ltb}
+use Rattle.lists.proofs.PlaceWays.{sought-fit, sought-end-fits, held-told, content-tells}
 use borrow.Author.Needs.{needs}
 use Rattle.lists.proofs.places.find_place.Statement.{statement}
 use Rattle.lists.proofs.places.find_place.Tie as tie
-
-abbrev Inv-loop : tie.InvT-loop
-Inv-loop l from n width place at₀ i₀ at i =
-    (i ≤ n) × (at + 4 * (n - i) < 2 ^ 40) × (placeFrom place (places width n (drop from l)) 0 ≡ placeFrom place (places width (n - i) (drop at l)) i)
-
-abbrev μ-loop : tie.MeasureT-loop
-μ-loop l from n width place at₀ i₀ at i = n - i
 
 pub find-place-spec : {M : Type 1} → statement M
 find-place-spec =
     tie.close
     (tie.spec
-    Inv-loop
-    μ-loop
-    (λ c. (search needs, search needs, search sought-begins))  -- loop-holds
-    (λ c κs. search needs)  -- place-at-requires
-    (λ c κs. search needs)  -- same-place-requires
-    (λ c. (search sought-found, search lt-ltb))  -- returns
-    (λ c. search needs)  -- add-at
-    (λ c. search needs)  -- add-i
-    (λ c. search needs)  -- loop-less
-    (λ c. (search needs, search needs, search sought-onward))  -- loop-again
-    (λ c. (search sought-nowhere, search needs)))  -- returns-2
+    (λ c. search (sought-fit, needs))  -- mul-if2
+    (λ c. search (sought-end-fits, needs))  -- add-if2
+    (λ c κs. search needs)  -- place-held-requires
+    (λ c κs. search (held-told, needs))  -- place-word-requires
+    (λ c κs. search needs)  -- find-within-requires
+    (λ c. (search content-tells, search needs))  -- returns
+    (λ c κs. search needs)  -- find-plain-requires
+    (λ c. search needs))  -- returns-2
