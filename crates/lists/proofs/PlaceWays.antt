@@ -5,7 +5,7 @@ use native.Mathlib.Nat.{mul-le-mul-right}
 use mathlib.Core.Path.{_≡_, refl, sym, ap, _∙_}
 use mathlib.Core.Bool.{Bool, true, false}
 use mathlib.Core.List.{List, [], _∷_}
-use lib.ListN.{length, drop}
+use lib.ListN.{drop}
 use borrow.Author.Tests.{eq-eqb}
 use Rattle.word.specs.Choice.{pick}
 use Rattle.word.specs.Words.{wordAt, bits}

@@ -1,5 +1,4 @@
 // Words and bytes from standard input.
-ghost use mathlib.Core.Path.{_≡_};
 ghost use Prim.Native.Nat.{_<_, _≤_};
 use libc::STDIN_FILENO;
 use word::word;
