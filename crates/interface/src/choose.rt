@@ -74,7 +74,7 @@ fn met_one(found: Chosen, here: bool, i: usize) -> Chosen
 }
 
 // A stage's one entry point.
-pub fn only_entry_point(pack: &[u32], stage: ShaderStage) -> Chosen
+pub(crate) fn only_entry_point(pack: &[u32], stage: ShaderStage) -> Chosen
     requires { ⌜ decodedNumber (decode (now pack)) ≡ 0 ⌝ }
     ensures { λ r. ⌜ r ≡ onlyEntryPoint stage (interfaceOf (decode (now (pack .entry))) .entries) ⌝ }
     ensures { λ r. ⌜ chosenIn r (length (interfaceOf (decode (now (pack .entry))) .entries)) ≡ true ⌝ }

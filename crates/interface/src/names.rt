@@ -58,7 +58,7 @@ fn same_bytes(pack: &[u32], from: usize, name: &[u8]) -> bool
 }
 
 // Whether the name of the entry point that begins at a position is these bytes.
-pub fn same_name(pack: &[u32], head: usize, name: &[u8]) -> bool
+pub(crate) fn same_name(pack: &[u32], head: usize, name: &[u8]) -> bool
     requires { ⌜ workgroupAt (now pack) head ≤ length (now pack) ⌝ }
     ensures { λ r. ⌜ r ≡ sameBytes (nameAt (now (pack .entry)) head) (now (name .entry)) ⌝ }
 {

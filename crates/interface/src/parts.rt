@@ -56,7 +56,7 @@ pub fn outputs_counted(counts: u32) -> usize
 }
 
 // The position behind as many varyings.
-pub fn varyings_end(pack: &[u32], from: usize, n: usize) -> usize
+pub(crate) fn varyings_end(pack: &[u32], from: usize, n: usize) -> usize
     requires { ⌜ from + 2 * n < 2 ^ 60 ⌝ }
     ensures { λ r. ⌜ r ≡ varyingsEnd (now (pack .entry)) n from ⌝ }
     ensures { λ r. ⌜ r ≤ from + 2 * n ⌝ }
@@ -71,7 +71,7 @@ pub fn varyings_end(pack: &[u32], from: usize, n: usize) -> usize
 }
 
 // The parts of the entry point that begins at a position.
-pub fn parts_at(pack: &[u32], head: usize) -> EntryParts
+pub(crate) fn parts_at(pack: &[u32], head: usize) -> EntryParts
     requires { ⌜ head < 2 ^ 50 ⌝ }
     ensures { λ r. ⌜ r ≡ partsAt (now (pack .entry)) head ⌝ }
     ensures { λ r. ⌜ r .outputs ≤ head + 300 ⌝ }
@@ -106,7 +106,7 @@ pub fn entry_end(pack: &[u32], head: usize) -> usize
 }
 
 // The position behind the resource that begins at a position.
-pub fn resource_end(pack: &[u32], at: usize) -> usize
+pub(crate) fn resource_end(pack: &[u32], at: usize) -> usize
     requires { ⌜ at < 2 ^ 60 ⌝ }
     ensures { λ r. ⌜ r ≡ resourceEnd (now (pack .entry)) at ⌝ }
     ensures { λ r. ⌜ r ≤ at + 3 ⌝ }
@@ -133,7 +133,7 @@ pub fn entries_at(pack: &[u32]) -> usize
 }
 
 // Where the entry point at a place among those of an accepted pack begins.
-pub fn head_at(pack: &[u32], position: usize) -> usize
+pub(crate) fn head_at(pack: &[u32], position: usize) -> usize
     requires { ⌜ (decodedNumber (decode (now pack)) ≡ 0) × (position ≤ 16) ⌝ }
     ensures { λ r. ⌜ r ≡ headAt (now (pack .entry)) position ⌝ }
     ensures { λ r. ⌜ r < 2 ^ 50 ⌝ }

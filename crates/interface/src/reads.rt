@@ -170,7 +170,7 @@ pub fn entry_count(pack: &[u32]) -> usize
 }
 
 // How many resources an accepted pack has.
-pub fn resource_count(pack: &[u32]) -> usize
+pub(crate) fn resource_count(pack: &[u32]) -> usize
     requires { ⌜ decodedNumber (decode (now pack)) ≡ 0 ⌝ }
     ensures { λ r. ⌜ r ≡ length (interfaceOf (decode (now (pack .entry))) .resources) ⌝ }
     ensures { λ r. ⌜ r ≡ resourceCount (now (pack .entry)) ⌝ }

@@ -22,7 +22,7 @@ pub fn primitive_word(primitive: PrimitiveIndex) -> u32
     }
 }
 
-pub fn payload_word(payload: Payload) -> u32
+pub(crate) fn payload_word(payload: Payload) -> u32
     requires { ⌜ payloadHeld payload ≡ true ⌝ }
     ensures { λ r. ⌜ r ≡ payloadWord payload ⌝ }
 {
@@ -42,7 +42,7 @@ fn per_primitive_bit(flag: bool) -> u32
     0
 }
 
-pub fn var_word(v: InterfaceVar) -> u32
+pub(crate) fn var_word(v: InterfaceVar) -> u32
     requires { ⌜ varHeld v ≡ true ⌝ }
     ensures { λ r. ⌜ r ≡ varWord v ⌝ }
 {

@@ -73,7 +73,13 @@ fn find_within(l: &[u32], from: usize, n: usize, width: usize, content: u32) -> 
 }
 
 // Which of the records from a position on has the place.
-pub fn find_place(l: &[u32], from: usize, n: usize, width: usize, place: ResourceBinding) -> Found
+pub(crate) fn find_place(
+    l: &[u32],
+    from: usize,
+    n: usize,
+    width: usize,
+    place: ResourceBinding,
+) -> Found
     requires { ⌜ (from < 2 ^ 32) × (n < 2 ^ 32) × (width ≤ 4) ⌝ }
     ensures { λ r. ⌜ r ≡ placeFrom place (places width n (drop from (now (l .entry)))) 0 ⌝ }
     ensures { λ r. ⌜ foundBelow n r ≡ true ⌝ }
@@ -168,7 +174,7 @@ fn distinct_marked(l: &[u32], width: usize) -> bool
 }
 
 // Whether no two records have one place. Marks pay where there are more than a few.
-pub fn distinct_places(l: &[u32], width: usize) -> bool
+pub(crate) fn distinct_places(l: &[u32], width: usize) -> bool
     requires { ⌜ width ≤ 4 ⌝ }
     ensures { λ r. ⌜ r ≡ distinctPlaces (places width (countOf (now (l .entry))) (drop 1 (now (l .entry)))) ⌝ }
 {

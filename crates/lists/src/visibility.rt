@@ -33,7 +33,7 @@ pub fn stage_bit(stage: u32) -> u32
 }
 
 // A stage's bit joined to a visibility.
-pub fn join_bit(visibility: u32, stage: u32) -> u32
+pub(crate) fn join_bit(visibility: u32, stage: u32) -> u32
     requires { ⌜ (visibility < 2 ^ 27) × (stage ≤ 4) ⌝ }
     ensures { λ r. ⌜ r ≡ joinBit stage visibility ⌝ }
     ensures { λ r. ⌜ r ≤ visibility + 16 ⌝ }

@@ -41,7 +41,7 @@ fn position(found: Found) {
 }
 
 // The groups, the position of a place, and the entry at a position.
-pub fn look(l: &[u32], place: u32, index: u32) {
+pub(crate) fn look(l: &[u32], place: u32, index: u32) {
     if !layout_filed(l) {
         return print::nothing();
     }
@@ -54,7 +54,7 @@ pub fn look(l: &[u32], place: u32, index: u32) {
 }
 
 // A stage joined to the entry at a place.
-pub fn join(l: &mut [u32], place: u32, stage: u32) {
+pub(crate) fn join(l: &mut [u32], place: u32, stage: u32) {
     if !layout_filed(l) {
         return print::nothing();
     }

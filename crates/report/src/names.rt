@@ -40,7 +40,7 @@ fn push_words(bytes: &mut [u8], pack: &[u32], from: usize, n: usize) -> usize
 }
 
 // Writes the name of the entry point that begins at a position, and answers how many bytes it has.
-pub fn name_at(pack: &[u32], head: usize, name: &mut [u8]) -> usize
+pub(crate) fn name_at(pack: &[u32], head: usize, name: &mut [u8]) -> usize
     requires { ⌜ (workgroupAt (now pack) head ≤ length (now pack)) × (128 ≤ length (now name)) ⌝ }
     ensures { λ r. ⌜ take r (now (name .exit)) ≡ nameAt (now (pack .entry)) head ⌝ }
     ensures { λ r. ⌜ (r < 128) × (r ≡ length (take r (now (name .exit)))) ⌝ }

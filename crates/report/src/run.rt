@@ -98,7 +98,12 @@ fn run_entry(
 }
 
 // Every entry point of an accepted pack, in order.
-pub fn run_entries(pack: &[u32], layout: &mut [u32], io: &mut [u32], text: &mut [u8]) -> usize
+pub(crate) fn run_entries(
+    pack: &[u32],
+    layout: &mut [u32],
+    io: &mut [u32],
+    text: &mut [u8],
+) -> usize
     requires { ⌜ (decodedNumber (decode (now pack)) ≡ 0) × (length (now io) ≡ 128) × (880 ≤ length (now text)) ⌝ }
     ensures { λ r. ⌜ ran (now (layout .exit)) (now (io .exit)) (take r (now (text .exit))) ≡ runEntries (now (pack .entry)) (interfaceOf (decode (now (pack .entry))) .entries) (ran (now (layout .entry)) (now (io .entry)) []) ⌝ }
     ensures { λ r. ⌜ drop r (now (text .exit)) ≡ drop r (now (text .entry)) ⌝ }

@@ -7,7 +7,7 @@ ghost use Rattle.report.specs.Text.{digits, decimal, hexDigit, hexHalf, 
 ghost use Rattle.report.specs.Written.{Wrote};
 use word::answer::Answer;
 
-pub fn push_byte(text: &mut [u8], at: usize, b: u8) -> usize
+pub(crate) fn push_byte(text: &mut [u8], at: usize, b: u8) -> usize
     requires { ⌜ at < length (now text) ⌝ }
     ensures { λ r. ⌜ Wrote (now (text .entry)) (now (text .exit)) at r (b ∷ []) ⌝ }
     ensures { λ r. ⌜ r ≡ at + 1 ⌝ }
@@ -55,7 +55,7 @@ fn push_answer(text: &mut [u8], at: usize, a: Answer) -> usize
 }
 
 // A stage's line: its code and its answer.
-pub fn push_line(text: &mut [u8], at: usize, stage: u32, a: Answer) -> usize
+pub(crate) fn push_line(text: &mut [u8], at: usize, stage: u32, a: Answer) -> usize
     requires { ⌜ at + 55 ≤ length (now text) ⌝ }
     ensures { λ r. ⌜ Wrote (now (text .entry)) (now (text .exit)) at r (line stage a) ⌝ }
     ensures { λ r. ⌜ r ≤ at + 55 ⌝ }
@@ -106,7 +106,7 @@ fn push_hex_line(text: &mut [u8], at: usize, w: u32) -> usize
 }
 
 // The lines of words.
-pub fn push_hex_lines(text: &mut [u8], at: usize, words: &[u32]) -> usize
+pub(crate) fn push_hex_lines(text: &mut [u8], at: usize, words: &[u32]) -> usize
     requires { ⌜ at + 9 * length (now words) ≤ length (now text) ⌝ }
     ensures { λ r. ⌜ Wrote (now (text .entry)) (now (text .exit)) at r (hexLines (now (words .entry))) ⌝ }
     ensures { λ r. ⌜ r ≡ at + 9 * length (now (words .entry)) ⌝ }

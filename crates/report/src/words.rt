@@ -23,7 +23,7 @@ fn word_at(bytes: &[u8], at: usize) -> u32
 }
 
 // Writes the words of the bytes, and answers how many there are.
-pub fn words_of(bytes: &[u8], words: &mut [u32]) -> usize
+pub(crate) fn words_of(bytes: &[u8], words: &mut [u32]) -> usize
     requires { ⌜ length (now bytes) / 4 ≤ length (now words) ⌝ }
     ensures { λ r. ⌜ Wrote (now (words .entry)) (now (words .exit)) 0 r (wordsOf (now (bytes .entry))) ⌝ }
     ensures { λ r. ⌜ r ≡ length (now (bytes .entry)) / 4 ⌝ }

@@ -8,7 +8,6 @@ use lib.Dec.{eqb}
 use lib.ListN.{drop}
 use borrow.Author.Tests.{eq-eqb, ne-eqb}
 use Rattle.word.specs.Choice.{pick}
-use Rattle.word.specs.Words.{wordAt, bits}
 use Rattle.word.specs.Answers.{answer, accepted}
 use Rattle.word.specs.declared.answer.Answer.{Answer}
 use Rattle.word.proofs.Tests.{yes-true, yes-false}
@@ -19,8 +18,7 @@ use Rattle.varying.specs.declared.Located.{Located}
 use Rattle.lists.specs.Meaning.{varyingAt}
 use Rattle.lists.specs.declared.types.Provided.{Provided}
 use Rattle.lists.specs.declared.types.Provided.the-variants as Pro
-use Rattle.interface.specs.Reads.{varying, varyingWidth, varyings, standing}
-use Rattle.interface.specs.declared.types.EntryParts.{EntryParts}
+use Rattle.interface.specs.Reads.{varying, varyingWidth, varyings}
 use Rattle.interface.specs.declared.types.ShaderStage.{ShaderStage}
 use Rattle.interface.specs.declared.types.BuiltIn.{BuiltIn}
 use Rattle.interface.specs.declared.types.BuiltIn.the-variants as In
@@ -131,9 +129,3 @@ module _ (stage : ShaderStage) (provided : List Located) (ws : List ℕ) (k at :
   pub inputs-ended : (a : Answer) → k ≡ 0 → a ≡ accepted → walked w a ≡ goal
   unfolding inputSteps
   inputs-ended a h e = sym (inv ∙ rw (varyings-none (drop at ws) k h, e))
-
-pub walk-stands : (ws : List ℕ) (p : EntryParts) (counts n : ℕ) (stage : ShaderStage) (provided : List Located) (w : InputWalk) (r : Walked)
-    → counts ≡ wordAt ws (p .counts) → n ≡ bits 11 6 counts → r ≡ inputSteps stage provided (varyings n (drop (p .inputs) ws)) w
-    → r ≡ inputSteps stage provided (standing ws p .inputs) w
-unfolding standing
-walk-stands ws p counts n stage provided w r hc hn h = rw (← hc, ← hn) h

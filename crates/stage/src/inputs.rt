@@ -6,22 +6,19 @@ ghost use lib.ListN.{drop};
 ghost use Rattle.word.specs.Choice.{pick};
 ghost use Rattle.resource.specs.Rules.{sameBool};
 ghost use Rattle.lists.specs.Format.{decodeStage};
-ghost use Rattle.interface.specs.Reads.{varyingWidth, varyings, standing};
+ghost use Rattle.interface.specs.Reads.{varyingWidth, varyings};
 ghost use Rattle.stage.specs.Interfaces.{vertexInput, fragmentInput, inputNumber, metLocal, metBuiltIn, startWalk, inputStep, inputSteps};
 use crate::types::InputWalk;
 use crate::types::Walked;
-use interface::parts::inputs_counted;
 use interface::reads::varying_at;
 use interface::reads::varying_width;
 use interface::types::BuiltIn;
-use interface::types::EntryParts;
 use interface::types::ShaderStage;
 use interface::types::Varying;
 use lists::types::Provided;
 use numeric::types::kind_code;
 use varying::InterfaceVar;
 use word::answer::Answer;
-use word::word;
 
 // A vertex input: the scalar kinds agree, and the shader's own is not per primitive.
 fn vertex_input(iv: InterfaceVar, provided: InterfaceVar) -> u32
@@ -169,7 +166,12 @@ fn input_value(stage: ShaderStage, inputs: &[u32], v: Varying, walk: InputWalk) 
 }
 
 // One input: its answer, with the walk altered in place.
-pub fn input_step(stage: ShaderStage, inputs: &[u32], v: Varying, walk: &mut InputWalk) -> Answer
+pub(crate) fn input_step(
+    stage: ShaderStage,
+    inputs: &[u32],
+    v: Varying,
+    walk: &mut InputWalk,
+) -> Answer
     requires { ⌜ now walk .locals < 2 ^ 31 ⌝ }
     ensures { λ r. ⌜ (r ≡ inputStep stage (decodeStage (now (inputs .entry)) .varyings) v (now (walk .entry)) .answer)
         × (now (walk .exit) ≡ inputStep stage (decodeStage (now (inputs .entry)) .varyings) v (now (walk .entry)) .walk) ⌝ }
@@ -188,7 +190,7 @@ fn past_input(pack: &[u32], at: usize) -> usize
 }
 
 // Each input in order, until one is refused.
-pub fn input_steps(
+pub(crate) fn input_steps(
     pack: &[u32],
     from: usize,
     n: usize,
@@ -220,14 +222,4 @@ pub fn input_steps(
         walk,
         answer: Answer::accepted(),
     }
-}
-
-// The inputs of the entry point whose parts stand at these positions.
-pub fn input_walk(pack: &[u32], parts: EntryParts, inputs: &[u32], stage: ShaderStage) -> Walked
-    requires { ⌜ parts .inputs < 2 ^ 40 ⌝ }
-    ensures { λ r. ⌜ r ≡ inputSteps stage (decodeStage (now (inputs .entry)) .varyings)
-        (standing (now (pack .entry)) parts .inputs) startWalk ⌝ }
-{
-    let n = inputs_counted(word(pack, parts.counts));
-    input_steps(pack, parts.inputs, n, inputs, stage)
 }

@@ -169,7 +169,7 @@ fn pair_step(
 }
 
 // All steps behind the resources: the walk over the inputs, and the answer.
-pub fn judge(
+pub(crate) fn judge(
     pack: &[u32],
     parts: EntryParts,
     offsets: &[u32],

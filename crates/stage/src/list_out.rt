@@ -78,7 +78,7 @@ fn hand_next(pack: &[u32], at: usize, out: &mut [u32]) -> usize
 }
 
 // The outputs from a position on, by rising location, behind a payload and a primitive index.
-pub fn write_out(
+pub(crate) fn write_out(
     pack: &[u32],
     from: usize,
     n: usize,
@@ -106,7 +106,7 @@ pub fn write_out(
 }
 
 // The list out of the entry point whose parts stand at these positions.
-pub fn list_out(
+pub(crate) fn list_out(
     pack: &[u32],
     parts: EntryParts,
     stage: ShaderStage,

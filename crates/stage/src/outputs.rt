@@ -102,7 +102,7 @@ fn joined(a: Summary, b: Summary) -> Summary
 }
 
 // What stands among the varyings from a position on, in one pass.
-pub fn summary(pack: &[u32], from: usize, n: usize) -> Summary
+pub(crate) fn summary(pack: &[u32], from: usize, n: usize) -> Summary
     requires { ⌜ (from < 2 ^ 40) × (n ≤ 63) ⌝ }
     ensures { λ r. ⌜ r ≡ summaryOf (varyings n (drop from (now (pack .entry)))) ⌝ }
     ensures { λ r. ⌜ (r .locals ≤ 63) × (r .«clip_places» ≤ 63 * 64) × (r .«built_in_places» ≤ 63 * 255) ⌝ }
@@ -120,7 +120,7 @@ pub fn summary(pack: &[u32], from: usize, n: usize) -> Summary
 }
 
 // What stands among the outputs of an entry point.
-pub fn output_summary(pack: &[u32], parts: EntryParts) -> Summary
+pub(crate) fn output_summary(pack: &[u32], parts: EntryParts) -> Summary
     requires { ⌜ Placed (now pack) parts ⌝ }
     ensures { λ r. ⌜ Summed (now (pack .entry)) parts r ⌝ }
 {
@@ -143,7 +143,7 @@ fn location_use(w: u32, number: u32, past: u32, limit: u32) -> Answer
 }
 
 // The first local variable at or past a location.
-pub fn location_uses(
+pub(crate) fn location_uses(
     pack: &[u32],
     from: usize,
     n: usize,
@@ -189,7 +189,7 @@ fn point_part(topology: u32) -> u32
 }
 
 // The outputs of a vertex stage against the places that a point list and clip distances leave.
-pub fn vertex_outputs(
+pub(crate) fn vertex_outputs(
     pack: &[u32],
     from: usize,
     n: usize,
@@ -217,7 +217,13 @@ pub fn vertex_outputs(
 }
 
 // The inputs of a fragment stage against the places that its built-in inputs leave.
-pub fn fragment_places(pack: &[u32], from: usize, n: usize, limit: u32, locals: u32) -> Answer
+pub(crate) fn fragment_places(
+    pack: &[u32],
+    from: usize,
+    n: usize,
+    limit: u32,
+    locals: u32,
+) -> Answer
     requires { ⌜ (from < 2 ^ 40) × (n ≤ 63) ⌝ }
     ensures { λ r. ⌜ r ≡ fragmentPlaces limit locals (varyings n (drop from (now (pack .entry)))) ⌝ }
 {
@@ -244,7 +250,7 @@ fn lacks(wanted: bool, given: bool) -> bool
 }
 
 // Dual source blending asks for a shader that has it, and fragment depth for a depth attachment.
-pub fn attachment_use(
+pub(crate) fn attachment_use(
     pack: &[u32],
     parts: EntryParts,
     outputs: Summary,
@@ -265,7 +271,7 @@ pub fn attachment_use(
 }
 
 // The inputs and outputs of a fragment stage.
-pub fn fragment_outputs(
+pub(crate) fn fragment_outputs(
     pack: &[u32],
     parts: EntryParts,
     limits: Limits,
@@ -296,7 +302,7 @@ pub fn fragment_outputs(
 }
 
 // What a stage puts out, or a fragment stage takes in, against the places that there are.
-pub fn places_step(
+pub(crate) fn places_step(
     pack: &[u32],
     parts: EntryParts,
     limits: Limits,

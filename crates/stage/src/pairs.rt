@@ -165,7 +165,13 @@ fn pair_use(layout: &[u32], pack: &[u32], offsets: &[u32], pair: SamplingPair) -
 }
 
 // Each pair of the entry point in pack order, up to the first that is refused.
-pub fn pair_uses(layout: &[u32], pack: &[u32], offsets: &[u32], from: usize, n: usize) -> Answer
+pub(crate) fn pair_uses(
+    layout: &[u32],
+    pack: &[u32],
+    offsets: &[u32],
+    from: usize,
+    n: usize,
+) -> Answer
     requires { ⌜ from + n ≤ length (now pack) ⌝ }
     requires { ⌜ pairsBelow (length (resourceTable (now pack) (now offsets))) (pairsOf (take n (drop from (now pack)))) ≡ true ⌝ }
     ensures { λ r. ⌜ r ≡ pairUses (decodeLayout (now (layout .entry))) (resourceTable (now (pack .entry)) (now (offsets .entry)))

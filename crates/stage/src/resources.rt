@@ -239,7 +239,7 @@ fn resource_step(
 }
 
 // Each resource of the entry point in list order, up to the first that is refused.
-pub fn resource_steps(
+pub(crate) fn resource_steps(
     pack: &[u32],
     offsets: &[u32],
     from: usize,
