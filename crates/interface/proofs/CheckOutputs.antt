@@ -4,11 +4,10 @@ use native.Mathlib.Omega.{arith}
 use native.Mathlib.Numerals.{one-add}
 use native.Mathlib.Nat.{zero-add}
 use mathlib.Core.Path.{_≡_, refl, sym, _∙_}
-use mathlib.Core.Bool.{Bool, true, false, _&&_}
+use mathlib.Core.Bool.{Bool, true, false, _&&_, and-false}
 use mathlib.Core.List.{List, [], _∷_}
 use lib.Dec.{eqb, leb, ltb, leb·suc-suc}
 use borrow.Author.Tests.{lt-ltb, le-ltb, lt-leb, ltb-true, ltb-false}
-use lib.ListN.{getD}
 use Rattle.word.specs.Choice.{pick}
 use Rattle.word.specs.Words.{kindOf, bits}
 use Rattle.word.specs.Parse.{Parsed, fault, got, next, one, several, nowhere, behind}
@@ -16,7 +15,7 @@ use Rattle.word.proofs.Parse.{Yields}
 use Rattle.varying.specs.Format.{locationFiled, varFiled}
 use Rattle.interface.specs.Format.{builtInFiled, builtInOf, readVarying, local, isClip, clips}
 use Rattle.interface.specs.Walks.{thence, varyingsBehind}
-use Rattle.interface.proofs.CheckVaryings.{Known, known, other-code, code-clip}
+use Rattle.interface.proofs.CheckVaryings.{Below, below, other-code, code-clip}
 use Rattle.interface.specs.declared.types.BuiltIn.{BuiltIn}
 use Rattle.interface.specs.declared.types.BuiltIn.the-variants as In
 use Rattle.interface.specs.declared.types.Varying.{Varying}
@@ -25,17 +24,17 @@ use Rattle.interface.proofs.CheckCases.{by-test, cons-behind, same-behi
 
 -- ---- inputs, where no clip distances stand
 
-input-step : (n w : ℕ) (p : Parsed Varying) → Yields (Known 4 w) p → ((l : List ℕ) → varyingsBehind n 4 l ≡ behind (several n (readVarying 4) l))
+input-step : (n : ℕ) (p : Parsed Varying) → Yields (Below 4) p → ((l : List ℕ) → varyingsBehind n 4 l ≡ behind (several n (readVarying 4) l))
     → thence p (λ v rest. varyingsBehind n (4 - isClip v) rest) ≡ behind (next p λ v rest. next (several n (readVarying 4) rest) λ others rest. got (v ∷ others) rest)
-input-step n w fault y more = refl
-input-step n w (got v rest) y more =
-    let x : isClip v ≡ 0 = omega (arith, y .below) in
+input-step n fault y more = refl
+input-step n (got v rest) y more =
+    let x : isClip v ≡ 0 = omega (arith, y) in
     rw x (more rest ∙ sym (cons-behind v (several n (readVarying 4) rest)))
 
 pub inputs-walk : (n : ℕ) (l : List ℕ) → varyingsBehind n 4 l ≡ behind (several n (readVarying 4) l)
 unfolding varyingsBehind several
 inputs-walk zero l = refl
-inputs-walk (suc n) l = input-step n (getD l 0 0) (readVarying 4 l) (known 4 l (omega arith) (omega arith)) (inputs-walk n)
+inputs-walk (suc n) l = input-step n (readVarying 4 l) (below 4 l (omega arith)) (inputs-walk n)
 
 -- ---- outputs, among which they stand at most once
 
@@ -46,10 +45,6 @@ clip-either P (Var.BuiltIn (In.PrimitiveIndex places)) z o = z
 clip-either P (Var.BuiltIn (In.DrawIndex places)) z o = z
 clip-either P (Var.BuiltIn (In.FragDepth places)) z o = z
 clip-either P (Var.BuiltIn (In.ClipDistances size)) z o = o
-
-and-false : (t : Bool) → t && false ≡ false
-and-false true = refl
-and-false false = refl
 
 abbrev unclipped : Parsed Varying → Parsed Varying
 unclipped p = next p λ v rest. pick (eqb (isClip v) 0) (got v rest) fault

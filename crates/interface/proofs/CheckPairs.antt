@@ -1,19 +1,17 @@
 -- Laws of the table of listed resources, and of pairs told by it.
-use Prim.Native.Nat.{ℕ, zero, suc, _+_, _-_, _<_, _≤_}
+use Prim.Native.Nat.{ℕ, zero, suc, _+_, _-_, _%_, _^_, _<_, _≤_}
 use native.Mathlib.Omega.{arith}
 use native.Mathlib.Numerals.{add-one}
 use mathlib.Core.Path.{_≡_, refl, sym, ap, subst, fun-ext, _∙_}
-use mathlib.Core.Bool.{Bool, true, false, not, _&&_}
+use mathlib.Core.Bool.{Bool, true, false, _&&_}
 use mathlib.Core.List.{List, [], _∷_, _++_}
 use lib.Dec.{eqb, ltb}
-use borrow.Author.Tests.{ltb-true, not-false}
+use borrow.Author.Tests.{eq-eqb, lt-ltb, le-ltb}
 use lib.ListN.{getD, length, take, drop, set, replicate, length-drop, length-set, List·getD-eq-default, List·getD-append}
 use lib.Seq.{take-suc, getD-drop, getD-set-same, getD-set-other, getD-append-add}
 use Rattle.word.specs.Choice.{pick}
-use Rattle.word.specs.Words.{wordAt, contentOf, bits}
+use Rattle.word.specs.Words.{wordAt, kindOf, contentOf, bits, ofKind}
 use Rattle.word.specs.Parse.{one, several, behind, restAt, Rest}
-use Rattle.word.proofs.Parse.{one-in}
-use Rattle.word.proofs.Truth.{second}
 use Rattle.interface.specs.Format.{ofWord, indexFiled, contents, member, isTexture, isSampler, ofType, pairFiled}
 use Rattle.interface.proofs.CheckSteps.{step-stop, steps}
 use Rattle.interface.specs.Walks.{marked, pairRole, pairRoles, roleTable, pairMarked, varyingListsBehind, listsBehind}
@@ -37,16 +35,22 @@ pub marks-begin : (roles l table : List ℕ) → table ≡ marked roles (content
 unfolding marked contents
 marks-begin roles l table = refl
 
-module _ (count w v : ℕ) (b : Bool) (f : b ≡ indexFiled count w) (t : not b ≡ false) (e : v ≡ contentOf w) where
-  pub index-in : count ≤ 128 → v < 128
-  index-in h = omega (arith, ltb-true (contentOf w) count (second (ofWord 5 w) (ltb (contentOf w) count) (sym f ∙ not-false b t)))
+-- a word less its kind, as an index
+module _ (count w v : ℕ) (e : (v + ofKind 5 0) % 2 ^ 64 ≡ w) (c : count ≤ 128) where
+  pub index-past : v < 2 ^ 64 → count ≤ v → indexFiled count w ≡ false
+  index-past h k = decided (kindOf w) 5 (λ t. t && ltb (contentOf w) count ≡ false) (λ x. le-ltb (contentOf w) count (omega arith)) (λ n. refl)
 
-  pub marks-go : (ws roles table start : List ℕ) (from at i : ℕ) → table ≡ marked roles (contents (take i (drop from ws))) start → at ≡ from + i → w ≡ wordAt ws at
-      → set table v (getD roles v 0) ≡ marked roles (contents (take (i + 1) (drop from ws))) start
-  marks-go ws roles table start from at i m a g =
-      let h : i < length (drop from ws) = omega (arith, length-drop from ws, one-in (indexFiled count) ws at w b g f (not-false b t) refl) in
-      let x : getD (drop from ws) i 0 ≡ w = getD-drop from ws i 0 ∙ rw (← a) (sym g) in
-      sym (rw (add-one i, take-suc (drop from ws) i 0 h, x, contents-append, marked-append, ← e, ← m))
+  module _ (h : v < count) where
+    pub index-told : indexFiled count w ≡ true
+    index-told = rw (eq-eqb (kindOf w) 5 (omega arith), lt-ltb (contentOf w) count (omega arith))
+
+    pub marks-go : (ws roles table start : List ℕ) (from at i n : ℕ) → table ≡ marked roles (contents (take i (drop from ws))) start → at ≡ from + i → i < n
+        → n ≤ length ws - from → w ≡ wordAt ws at → set table v (getD roles v 0) ≡ marked roles (contents (take (i + 1) (drop from ws))) start
+    marks-go ws roles table start from at i n m a k q g =
+        let y : i < length (drop from ws) = omega (arith, length-drop from ws) in
+        let x : getD (drop from ws) i 0 ≡ w = getD-drop from ws i 0 ∙ rw (← a) (sym g) in
+        let z : contentOf w ≡ v = omega arith in
+        sym (rw (add-one i, take-suc (drop from ws) i 0 y, x, contents-append, marked-append, z, ← m))
 
 pub marks-end : (ws roles table start : List ℕ) (from i n : ℕ) → table ≡ marked roles (contents (take i (drop from ws))) start → i ≤ n → n ≤ i
     → table ≡ marked roles (contents (take n (drop from ws))) start

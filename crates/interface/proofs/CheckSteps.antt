@@ -1,35 +1,49 @@
 -- The code's steps through the words of a pack.
-use Prim.Native.Nat.{ℕ, _+_, _<_, _≤_}
+use Prim.Native.Nat.{ℕ, zero, suc, _+_, _-_, _<_, _≤_}
 use native.Mathlib.Omega.{arith}
+use native.Mathlib.Numerals.{add-one}
 use mathlib.Core.Path.{_≡_, refl, sym, _∙_}
 use mathlib.Core.Bool.{Bool, true, false, not}
 use mathlib.Core.List.{List, [], _∷_}
-use borrow.Author.Tests.{ne-eqb, not-true, not-false}
-use lib.ListN.{getD, length, drop}
+use borrow.Author.Tests.{not-true, not-false}
+use lib.ListN.{getD, length, drop, length-drop}
+use lib.Seq.{drop-cons}
+use Rattle.word.specs.Choice.{pick}
 use Rattle.word.specs.Words.{wordAt}
-use Rattle.word.specs.Parse.{one, several, Rest, nowhere, from, behind, restAt}
-use Rattle.word.proofs.Parse.{rest-from, rest-past, first-of, others-of, one-fault, one-got, one-in, several-more, several-stops}
-use Rattle.interface.specs.Format.{ofWord}
+use Rattle.word.specs.Parse.{fault, got, next, one, several, Rest, nowhere, from, behind, restAt}
+use Rattle.word.proofs.Parse.{rest-from, rest-past, first-of, others-of, one-fault, one-in, several-more, several-stops}
 use Rattle.interface.specs.Walks.{onward, word}
 
 -- ---- a walk over words that pass a test
 
-module _ (test : ℕ → Bool) (ws l : List ℕ) (i at w : ℕ) (b : Bool) (e : restAt ws at ≡ behind (several i (one test) l)) (h : 1 ≤ at)
-    (f : w ≡ wordAt ws at) (g : b ≡ test w) where
-  pub words-stop : (n : ℕ) → not b ≡ true → i < n → restAt ws 0 ≡ behind (several n (one test) l)
-  words-stop n t k = several-stops (one test) ws l i at 0 e h (rw (one-fault test ws at w b f g (not-true b t))) n refl k
+few : (test : ℕ → Bool) (n : ℕ) (l : List ℕ) → length l < n → several n (one test) l ≡ fault
+unfolding several
+few test zero l h = absurd (omega arith)
+few test (suc n) [] h = refl
+few test (suc n) (w ∷ l) h = tested (test w) (few test n l (omega arith))
+  where
+    tested : (t : Bool) → several n (one test) l ≡ fault → next (pick t (got w l) fault) (λ a rest. next (several n (one test) rest) λ others rest. got (a ∷ others) rest) ≡ fault
+    tested true e = rw e
+    tested false e = refl
 
-  module _ (t : not b ≡ false) (z : test 0 ≡ false) where
-    pub words-go : restAt ws (at + 1) ≡ behind (several (i + 1) (one test) l)
-    words-go =
-        several-more (one test) ws l i at (at + 1) e h
-        (rw (one-got test ws at w b f g (not-false b t) z) (rest-from ws (at + 1) (omega arith))) (λ x. omega arith)
+pub words-lack : (test : ℕ → Bool) (ws : List ℕ) (start n : ℕ) → length ws - start < n → restAt ws 0 ≡ behind (several n (one test) (drop start ws))
+words-lack test ws start n h = rw (few test n (drop start ws) (omega (arith, length-drop start ws)))
 
-    pub words-in : at + 1 ≤ length ws
-    words-in = omega (arith, one-in test ws at w b f g (not-false b t) z)
+module _ (test : ℕ → Bool) (ws : List ℕ) (start i at n : ℕ) (e : restAt ws at ≡ behind (several i (one test) (drop start ws))) (h : 1 ≤ at) (k : i < n) where
+  pub words-stop : test (wordAt ws at) ≡ false → restAt ws 0 ≡ behind (several n (one test) (drop start ws))
+  words-stop f =
+      several-stops (one test) ws (drop start ws) i at 0 e h (rw (one-fault test ws at (wordAt ws at) (test (wordAt ws at)) refl refl f)) n refl k
 
-pub kind-zero : (kind : ℕ) → 1 ≤ kind → ofWord kind 0 ≡ false
-kind-zero kind h = ne-eqb 0 kind (λ e. omega arith)
+  pub words-go : at ≡ start + i → n ≤ length ws - start → test (wordAt ws at) ≡ true → restAt ws (at + 1) ≡ behind (several (i + 1) (one test) (drop start ws))
+  words-go a q t =
+      several-more (one test) ws (drop start ws) i at (at + 1) e h (rw (drop-cons ws at 0 (omega arith), t, ← add-one at) (rest-from ws (at + 1) (omega arith))) (λ x. omega arith)
+
+-- a test that is asked for by a call
+pub told-false : (b t : Bool) → b ≡ t → not b ≡ true → t ≡ false
+told-false b t e n = sym e ∙ not-true b n
+
+pub told-true : (b t : Bool) → b ≡ t → not b ≡ false → t ≡ true
+told-true b t e n = sym e ∙ not-false b n
 
 -- ---- a step from one record to the next
 

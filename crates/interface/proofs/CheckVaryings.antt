@@ -1,33 +1,37 @@
 -- Laws of varyings.
 use Prim.{tt}
-use Prim.Native.Nat.{ℕ, zero, suc, _+_, _-_, _/_, _^_, _<_, _≤_}
+use Prim.Native.Nat.{ℕ, zero, suc, _+_, _-_, _/_, _%_, _^_, _<_, _≤_}
 use native.Mathlib.Omega.{arith}
+use native.Mathlib.Nat.{sub-zero}
 use native.Mathlib.Numerals.{sub-one}
 use mathlib.Core.Path.{_≡_, refl, sym, _∙_}
-use mathlib.Core.Bool.{Bool, true, false, _&&_}
+use mathlib.Core.Bool.{Bool, true, false, not}
 use mathlib.Core.List.{List, [], _∷_}
 use lib.Dec.{eqb, ltb}
-use borrow.Author.Tests.{eq-eqb, ne-eqb, eqb-true, ltb-true}
-use lib.ListN.{getD, length, drop, length-drop}
+use borrow.Author.Tests.{ne-eqb, ltb-true, not-true, not-false}
+use lib.ListN.{getD, length, drop, length-drop, List·getD-eq-default}
 use Rattle.word.specs.Choice.{pick}
 use Rattle.word.specs.Words.{wordAt, kindOf, bits}
-use Rattle.word.specs.Parse.{fault, got, next, one, Rest, behind, restAt}
-use Rattle.word.proofs.Parse.{rest-from, first-of, others-of, one-fault, one-got, one-in, went, stopped, Yields, yields-next}
+use Rattle.word.specs.Parse.{fault, got, next, one, Rest, restAt}
+use Rattle.word.proofs.Parse.{rest-from, first-of, others-of, one-fault, one-got, one-in, Yields, yields-next, yields-pick}
 use Rattle.word.proofs.Truth.{first, second}
 use Rattle.varying.specs.Format.{locationFiled, varFiled}
 use Rattle.interface.specs.Format.{builtInFiled, builtInOf, readVarying, local, isClip}
-use Rattle.interface.specs.Walks.{thence, clipOf, varyingsBehind}
+use Rattle.interface.specs.Walks.{thence, varyingsBehind}
 use Rattle.interface.specs.declared.types.BuiltIn.{BuiltIn}
 use Rattle.interface.specs.declared.types.BuiltIn.the-variants as In
 use Rattle.interface.specs.declared.types.Varying.{Varying}
 use Rattle.interface.specs.declared.types.Varying.the-variants as Var
-use Rattle.interface.proofs.CheckCases.{by-test, decided}
+use Rattle.interface.proofs.CheckCases.{by-test, split-at}
 
 -- ---- one varying
 
 var-zero : varFiled 0 ≡ false
 unfolding varFiled
 var-zero = refl
+
+pub var-past : (ws : List ℕ) (at : ℕ) → length ws ≤ at → false ≡ varFiled (wordAt ws at)
+var-past ws at h = sym (rw (List·getD-eq-default ws 0 h) var-zero)
 
 -- by the first word: a location, a built-in, neither
 module _ (codes : ℕ) where
@@ -51,37 +55,6 @@ module _ (codes : ℕ) where
   held [] f = let x : false ≡ true = f in let y : _≡_ {A = ℕ} 0 1 = cc in omega arith
   held (w ∷ l) f = omega arith
 
--- the ways of the code
-module _ (ws : List ℕ) (at w codes : ℕ) (b d : Bool) (e : w ≡ wordAt ws at) (f : b ≡ locationFiled w) where
-  module _ (v : ℕ) (t : b ≡ true) (g : v ≡ wordAt ws (at + 1)) (h : d ≡ varFiled v) where
-    local-at : readVarying codes (drop at ws) ≡ next (one varFiled (drop (at + 1) ws)) λ var rest. got (local w var) rest
-    local-at = is-local codes (drop at ws) (rw (first-of ws at, ← e, ← f) t) ∙ rw (first-of ws at, ← e, others-of ws at)
-
-    pub varying-var : d ≡ true → restAt ws (at + 2) ≡ behind (readVarying codes (drop at ws))
-    varying-var y =
-        let x : at + 1 + 1 ≡ at + 2 = omega arith in
-        rest-from ws (at + 2) (omega arith) ∙ sym (rw (local-at, one-got varFiled ws (at + 1) v d g h y var-zero, x))
-
-    pub varying-in : d ≡ true → at + 2 ≤ length ws
-    varying-in y = omega (arith, one-in varFiled ws (at + 1) v d g h y var-zero)
-
-    pub varying-bare : d ≡ false → restAt ws 0 ≡ behind (readVarying codes (drop at ws))
-    varying-bare y = rw (local-at, one-fault varFiled ws (at + 1) v d g h y)
-
-  module _ (t : b ≡ false) (h : d ≡ builtInFiled codes w) where
-    pub built-in-here : d ≡ true → restAt ws (at + 1) ≡ behind (readVarying codes (drop at ws))
-    built-in-here y =
-        rest-from ws (at + 1) (omega arith)
-        ∙ sym (rw (is-built-in codes (drop at ws) (rw (first-of ws at, ← e, ← f) t) (rw (first-of ws at, ← e, ← h) y), others-of ws at))
-
-    pub built-in-in : d ≡ true → at + 1 ≤ length ws
-    built-in-in y = omega (arith, held codes (drop at ws) (rw (first-of ws at, ← e, ← h) y), length-drop at ws)
-
-    pub varying-unknown : d ≡ false → restAt ws 0 ≡ behind (readVarying codes (drop at ws))
-    varying-unknown y = rw (is-neither codes (drop at ws) (rw (first-of ws at, ← e, ← f) t) (rw (first-of ws at, ← e, ← h) y))
-
-pub ruleset varying-ways = (varying-var, varying-bare, built-in-here, varying-unknown)
-
 -- ---- clip distances
 
 -- by the built-in's code
@@ -102,64 +75,88 @@ code-clip w h =
       ne-eqb (bits 26 24 w) 3 (λ e. omega arith),
     )
 
--- what is known of a varying that is read: its first word tells whether it is clip distances, which want the code 4 below the number
-pub record Known (codes w : ℕ) (v : Varying) : Type 0 where
-  pub told : isClip v ≡ clipOf w
-  pub below : 4 + isClip v ≤ codes
+-- told by bit 26
+clip-bit : (w : ℕ) → bits 26 24 w < 5 → isClip (Var.BuiltIn (builtInOf w)) ≡ w / 2 ^ 26 % 2
+clip-bit w h =
+    split-at 4 (bits 26 24 w) (isClip (Var.BuiltIn (builtInOf w)) ≡ w / 2 ^ 26 % 2)
+    (λ k. let x : w / 2 ^ 26 % 2 ≡ 1 = omega arith in code-clip w k ∙ sym x)
+    (λ k. let x : w / 2 ^ 26 % 2 ≡ 0 = omega arith in other-code (bits 26 24 w) (bits 7 0 w) k ∙ sym x)
 
-known-built-in : (codes w : ℕ) → 4 ≤ codes → codes ≤ 5 → builtInFiled codes w ≡ true → Known codes w (Var.BuiltIn (builtInOf w))
-known-built-in codes w h k f =
-    let a : kindOf w ≡ 14 = eqb-true (kindOf w) 14 (first (eqb (kindOf w) 14) (ltb (bits 26 24 w) codes && eqb (bits 23 8 w) 0) f) in
-    let g : (ltb (bits 26 24 w) codes && eqb (bits 23 8 w) 0) ≡ true = second (eqb (kindOf w) 14) (ltb (bits 26 24 w) codes && eqb (bits 23 8 w) 0) f in
-    let b : bits 26 24 w < codes = ltb-true (bits 26 24 w) codes (first (ltb (bits 26 24 w) codes) (eqb (bits 23 8 w) 0) g) in
-    decided (bits 26 24 w) 4 (λ t. Known codes w (Var.BuiltIn (builtInOf w)))
-    (λ e. let x : isClip (Var.BuiltIn (builtInOf w)) ≡ 1 = code-clip w (omega arith) in
-    record { told = x ∙ sym (rw (eq-eqb (w / 2 ^ 24) 116 (omega arith))); below = omega arith })
-    (λ n. let x : isClip (Var.BuiltIn (builtInOf w)) ≡ 0 = other-code (bits 26 24 w) (bits 7 0 w) (omega arith) in
-    record { told = x ∙ sym (rw (ne-eqb (w / 2 ^ 24) 116 (λ e. n (omega arith)))); below = omega arith })
+code-below : (codes w : ℕ) → builtInFiled codes w ≡ true → bits 26 24 w < codes
+code-below codes w f = ltb-true (bits 26 24 w) codes (first (ltb (bits 26 24 w) codes) (eqb (bits 23 8 w) 0) (second (eqb (kindOf w) 14) _ f))
 
-known-local : (codes w var : ℕ) → 4 ≤ codes → locationFiled w ≡ true → Known codes w (local w var)
-known-local codes w var h f =
-    let a : kindOf w ≡ 12 = eqb-true (kindOf w) 12 f in
-    record { told = sym (rw (ne-eqb (w / 2 ^ 24) 116 (λ e. omega arith))); below = omega arith }
+-- clip distances want the code 4 below the number
+abbrev pub Below : ℕ → Varying → Type 0
+Below codes v = 4 + isClip v ≤ codes
 
-pub known : (codes : ℕ) (l : List ℕ) → 4 ≤ codes → codes ≤ 5 → Yields (Known codes (getD l 0 0)) (readVarying codes l)
+below-built-in : (codes w : ℕ) → 4 ≤ codes → builtInFiled codes w ≡ true → Below codes (Var.BuiltIn (builtInOf w))
+below-built-in codes w h f =
+    let c : bits 26 24 w < codes = code-below codes w f in
+    split-at 4 (bits 26 24 w) (Below codes (Var.BuiltIn (builtInOf w)))
+    (λ k. omega (arith, code-clip w k))
+    (λ k. omega (arith, other-code (bits 26 24 w) (bits 7 0 w) k))
+
+pub below : (codes : ℕ) (l : List ℕ) → 4 ≤ codes → Yields (Below codes) (readVarying codes l)
 unfolding readVarying
-known codes [] h k = tt
-known codes (w ∷ l) h k =
-    by-test (locationFiled w)
-    (λ t. Yields (Known codes w) (pick t (next (one varFiled l) λ var rest. got (local w var) rest) (pick (builtInFiled codes w) (got (Var.BuiltIn (builtInOf w)) l) fault)))
-    (λ e. yields-next (Known codes w) (one varFiled l) (λ var rest. got (local w var) rest) (λ var rest. known-local codes w var h e))
-    (λ e. by-test (builtInFiled codes w) (λ t. Yields (Known codes w) (pick t (got (Var.BuiltIn (builtInOf w)) l) fault))
-    (λ f. known-built-in codes w h k f) (λ f. tt))
+below codes [] h = tt
+below codes (w ∷ l) h =
+    yields-pick (Below codes) (locationFiled w) _ _
+    (yields-next (Below codes) (one varFiled l) (λ var rest. got (local w var) rest) (λ var rest. h))
+    (by-test (builtInFiled codes w) (λ t. Yields (Below codes) (pick t (got (Var.BuiltIn (builtInOf w)) l) fault)) (λ f. below-built-in codes w h f) (λ f. tt))
 
--- ---- the walk over varyings: one that is not filed, one that is, the end
+-- ---- the walk over varyings: a location with and without its variable, a built-in, neither, the end
 
 varyings-left : (k codes : ℕ) (l : List ℕ) → (k ≡ 0 → ⊥) → varyingsBehind k codes l ≡ thence (readVarying codes l) λ v rest. varyingsBehind (k - 1) (codes - isClip v) rest
 unfolding varyingsBehind
 varyings-left zero codes l h = absurd (h refl)
 varyings-left (suc k) codes l h = rw sub-one
 
-module _ (ws : List ℕ) (k codes at r : ℕ) (goal : Rest) (inv : goal ≡ varyingsBehind k codes (drop at ws)) (h : k ≡ 0 → ⊥)
-    (e : restAt ws r ≡ behind (readVarying codes (drop at ws))) where
-  pub varyings-stop : r ≡ 0 → restAt ws 0 ≡ goal
-  varyings-stop z = sym (inv ∙ rw (varyings-left k codes (drop at ws) h, stopped (readVarying codes (drop at ws)) ws r e z))
+module _ (ws : List ℕ) (at w : ℕ) (b d : Bool) (e : w ≡ wordAt ws at) (f : b ≡ locationFiled w) where
+  module _ (t : b ≡ true) (g : d ≡ varFiled (wordAt ws (at + 1))) where
+    pub local-in : not d ≡ false → at + 2 ≤ length ws
+    local-in y = omega (arith, one-in varFiled ws (at + 1) (wordAt ws (at + 1)) d refl g (not-false d y) var-zero)
 
-  module _ (w c : ℕ) (n : r ≡ 0 → ⊥) (f : w ≡ wordAt ws at) (g : c ≡ clipOf w) (low : 4 ≤ codes) (high : codes ≤ 5) where
-    known-here : Yields (Known codes w) (readVarying codes (drop at ws))
-    known-here = rw (f, ← first-of ws at) (known codes (drop at ws) low high)
+    module _ (k codes : ℕ) (goal : Rest) (inv : goal ≡ varyingsBehind k codes (drop at ws)) (h : k ≡ 0 → ⊥) where
+      local-at : readVarying codes (drop at ws) ≡ next (one varFiled (drop (at + 1) ws)) λ var rest. got (local w var) rest
+      local-at = is-local codes (drop at ws) (rw (first-of ws at, ← e, ← f) t) ∙ rw (first-of ws at, ← e, others-of ws at)
 
-    pub varyings-go : goal ≡ varyingsBehind (k - 1) (codes - c) (drop r ws)
-    varyings-go =
-        inv ∙ rw (varyings-left k codes (drop at ws) h)
-        (went (readVarying codes (drop at ws)) ws r e
-        (λ p. Yields (Known codes w) p → thence p (λ v rest. varyingsBehind (k - 1) (codes - isClip v) rest) ≡ varyingsBehind (k - 1) (codes - c) (drop r ws)) n
-        (λ v y. rw (y .told, ← g)) known-here)
+      pub local-stop : not d ≡ true → restAt ws 0 ≡ goal
+      local-stop y =
+          sym (inv ∙ rw (varyings-left k codes (drop at ws) h, local-at, one-fault varFiled ws (at + 1) (wordAt ws (at + 1)) d refl g (not-true d y)))
 
-    pub codes-stay : 4 ≤ codes - c
-    codes-stay =
-        went (readVarying codes (drop at ws)) ws r e (λ p. Yields (Known codes w) p → 4 ≤ codes - c) n
-        (λ v y. let x : isClip v ≡ c = y .told ∙ sym g in omega (arith, y .below)) known-here
+      pub local-go : not d ≡ false → goal ≡ varyingsBehind (k - 1) codes (drop (at + 2) ws)
+      local-go y =
+          let x : at + 1 + 1 ≡ at + 2 = omega arith in
+          inv ∙ rw (varyings-left k codes (drop at ws) h, local-at, one-got varFiled ws (at + 1) (wordAt ws (at + 1)) d refl g (not-false d y) var-zero, x, sub-zero)
+
+  module _ (codes : ℕ) (t : b ≡ false) (g : d ≡ builtInFiled codes w) where
+    filed-at : not d ≡ false → builtInFiled codes (getD (drop at ws) 0 0) ≡ true
+    filed-at y = rw (first-of ws at, ← e, ← g) (not-false d y)
+
+    pub built-in-in : not d ≡ false → at + 1 ≤ length ws
+    built-in-in y = omega (arith, held codes (drop at ws) (filed-at y), length-drop at ws)
+
+    code-at : not d ≡ false → bits 26 24 w < codes
+    code-at y = code-below codes w (sym g ∙ not-false d y)
+
+    pub codes-stay : not d ≡ false → 4 ≤ codes → codes ≤ 5 → 4 ≤ codes - w / 67108864 % 2
+    codes-stay y low high = omega (arith, code-at y)
+
+    module _ (k : ℕ) (goal : Rest) (inv : goal ≡ varyingsBehind k codes (drop at ws)) (h : k ≡ 0 → ⊥) where
+      pub built-in-stop : not d ≡ true → restAt ws 0 ≡ goal
+      built-in-stop y =
+          sym (inv ∙ rw (varyings-left k codes (drop at ws) h, is-neither codes (drop at ws) (rw (first-of ws at, ← e, ← f) t) (rw (first-of ws at, ← e, ← g) (not-true d y))))
+
+      pub built-in-go : not d ≡ false → codes ≤ 5 → goal ≡ varyingsBehind (k - 1) (codes - w / 67108864 % 2) (drop (at + 1) ws)
+      built-in-go y high =
+          inv ∙ rw (
+            varyings-left k codes (drop at ws) h,
+            is-built-in codes (drop at ws) (rw (first-of ws at, ← e, ← f) t) (filed-at y),
+            first-of ws at,
+            ← e,
+            clip-bit w (omega (arith, code-at y)),
+            others-of ws at,
+          )
 
 pub varyings-ended : (ws : List ℕ) (k codes at : ℕ) (goal : Rest) → goal ≡ varyingsBehind k codes (drop at ws) → k ≡ 0 → 1 ≤ at → restAt ws at ≡ goal
 unfolding varyingsBehind

@@ -1,13 +1,13 @@
--- Tests of a word that begin with its kind.
+-- Tests of a word by its kind and its bits.
 use Prim.Native.Nat.{ℕ, _<_, _≤_}
-use mathlib.Core.Path.{_≡_}
-use mathlib.Core.Bool.{Bool, false, _&&_}
+use mathlib.Core.Path.{_≡_, sym}
+use mathlib.Core.Bool.{Bool, false, _&&_, and-true, and-false}
 use mathlib.Core.List.{List}
-use lib.Dec.{eqb}
+use lib.Dec.{eqb, ltb}
 use lib.ListN.{getD}
-use borrow.Author.Tests.{eq-eqb, ne-eqb, lt-ltb, le-leb}
+use borrow.Author.Tests.{eq-eqb, ne-eqb, lt-ltb, le-ltb, le-leb}
 use Rattle.word.specs.Words.{kindOf, bits, bit}
-use Rattle.interface.specs.Format.{headFiled}
+use Rattle.interface.specs.Format.{builtInFiled, headFiled}
 use Rattle.interface.specs.Walks.{pairMarked}
 
 -- the kind is asked for by a call
@@ -22,6 +22,17 @@ pub head-last : (w x : ℕ) → x ≡ kindOf w → x ≡ 7 → bits 26 24 w < 5 
     → eqb (bits 15 2 w) 0 ≡ headFiled w
 head-last w x e k s z l h =
     rw (← e, eq-eqb x 7 k, lt-ltb (bits 26 24 w) 5 s, eq-eqb (bit 23 w) 0 z, le-leb 1 (bits 22 16 w) l, le-leb (bits 22 16 w) 64 h)
+
+-- the tests of a built-in, its kind the last
+module _ (codes w : ℕ) where
+  pub built-in-bits : (bits 23 8 w ≡ 0 → ⊥) → false ≡ builtInFiled codes w
+  built-in-bits n = sym (rw (ne-eqb (bits 23 8 w) 0 n, and-false (ltb (bits 26 24 w) codes)) (and-false (eqb (kindOf w) 14)))
+
+  pub built-in-code : codes ≤ bits 26 24 w → false ≡ builtInFiled codes w
+  built-in-code h = sym (rw (le-ltb (bits 26 24 w) codes h) (and-false (eqb (kindOf w) 14)))
+
+  pub built-in-kind : (x : ℕ) → x ≡ kindOf w → bits 23 8 w ≡ 0 → bits 26 24 w < codes → eqb x 14 ≡ builtInFiled codes w
+  built-in-kind x e z h = sym (rw (eq-eqb (bits 23 8 w) 0 z, lt-ltb (bits 26 24 w) codes h, ← e) (and-true (eqb x 14)))
 
 -- the tests of a pair against a table
 module _ (table : List ℕ) (w x : ℕ) (r : Bool) (e : x ≡ kindOf w) where

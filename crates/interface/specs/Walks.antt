@@ -1,5 +1,5 @@
 -- What the functions that check a pack carry along; only contracts of inner functions cite these.
-use Prim.Native.Nat.{ℕ, zero, suc, _+_, _-_, _/_, _^_, _<_}
+use Prim.Native.Nat.{ℕ, zero, suc, _+_, _-_, _<_}
 use mathlib.Core.Path.{_≡_}
 use mathlib.Core.Bool.{Bool, true, false, _&&_}
 use mathlib.Core.List.{List, [], _∷_, _++_}
@@ -38,10 +38,6 @@ word test (w ∷ ws) k = pick (test w) (k w ws) nowhere
 abbrev pub thence : {A : Type 0} → Parsed A → (A → List ℕ → Rest) → Rest
 thence fault k = nowhere
 thence (got a rest) k = k a rest
-
--- 1 for the word of clip distances
-abbrev pub clipOf : ℕ → ℕ
-clipOf w = pick (eqb (w / 2 ^ 24) 116) 1 0
 
 -- varyings with built-in codes below a number; after clip distances, the code 4 below 5, it is one less
 unfoldable pub varyingsBehind : ℕ → ℕ → List ℕ → Rest

@@ -1,7 +1,8 @@
 // An entry point: its words in order, each of its lists, and the sampling pairs among its resources.
 ghost use mathlib.Core.Path.{_≡_};
-ghost use Prim.Native.Nat.{_+_, _<_, _≤_};
-ghost use lib.ListN.{length, take, drop};
+ghost use Prim.Native.Nat.{_+_, _%_, _^_, _<_, _≤_};
+ghost use lib.ListN.{length, take, drop, getD};
+ghost use Rattle.word.specs.Words.{ofKind};
 ghost use Rattle.word.specs.Parse.{one, several, behind, restAt};
 ghost use Rattle.interface.specs.Format.{ofWord, headFiled, topologyFiled, countsFiled, indexFiled, readWorkgroup, readMesh, contents, readEntryPoint};
 ghost use Rattle.interface.specs.Walks.{marked, pairMarked, roleTable, packResources, varyingListsBehind, listsBehind, partsBehind};
@@ -55,16 +56,6 @@ fn counts_filed(w: u32) -> bool
     w / 0x100_0000 % 8 == 0
 }
 
-// Whether a word is the index of one of so many resources.
-fn index_filed(w: u32, count: u32) -> bool
-    ensures { λ r. ⌜ r ≡ indexFiled count w ⌝ }
-{
-    if word::kind(w) != 5 {
-        return false;
-    }
-    w % 0x800_0000 < count
-}
-
 // The position behind so many words of a kind, or 0.
 pub(crate) fn kinds_next(body: &[u32], from: usize, n: u32, kind: u32) -> usize
     requires { ⌜ (1 ≤ from) × (from ≤ length (now body)) × (1 ≤ kind) ⌝ }
@@ -72,10 +63,13 @@ pub(crate) fn kinds_next(body: &[u32], from: usize, n: u32, kind: u32) -> usize
     ensures { λ r. ⌜ r ≤ length (now (body .entry)) ⌝ }
     ensures { λ r. ⌜ ((r ≡ 0 → ⊥) → r ≡ from + n) ⌝ }
 {
+    if body.len() - from < n as usize {
+        return 0;
+    }
     let mut at = from;
     let mut i: u32 = 0;
     while i < n {
-        if !of_kind(word::word(body, at), kind) {
+        if !of_kind(body[at], kind) {
             return 0;
         }
         at += 1;
@@ -111,8 +105,15 @@ fn mesh_next(body: &[u32], at: usize, marked: bool) -> usize
     topology + 1
 }
 
+// The role at an index of a table, 0 past the end.
+fn role_at(table: &[u8], index: usize) -> u8
+    ensures { λ r. ⌜ r ≡ getD (now (table .entry)) index 0 ⌝ }
+{
+    if index < table.len() { table[index] } else { 0 }
+}
+
 // Whether a word is a pair of a listed texture and a listed sampler.
-fn pair_filed(w: u32, table: &[u32; 128]) -> bool
+fn pair_filed(w: u32, table: &[u8; 128]) -> bool
     ensures { λ r. ⌜ r ≡ pairMarked (now (table .entry)) w ⌝ }
 {
     if word::kind(w) != 5 {
@@ -121,22 +122,25 @@ fn pair_filed(w: u32, table: &[u32; 128]) -> bool
     if w / 0x1_0000 % 0x800 != 0 {
         return false;
     }
-    if word::word(table, (w / 0x100 % 0x100) as usize) != 2 {
+    if role_at(table, (w / 0x100 % 0x100) as usize) != 2 {
         return false;
     }
-    word::word(table, (w % 0x100) as usize) == 1
+    role_at(table, (w % 0x100) as usize) == 1
 }
 
 // The position behind so many pairs, or 0.
-fn pairs_next(body: &[u32], from: usize, n: u32, table: &[u32; 128]) -> usize
+fn pairs_next(body: &[u32], from: usize, n: u32, table: &[u8; 128]) -> usize
     requires { ⌜ (1 ≤ from) × (from ≤ length (now body)) ⌝ }
     ensures { λ r. ⌜ restAt (now (body .entry)) r ≡ behind (several n (one (pairMarked (now (table .entry)))) (drop from (now (body .entry)))) ⌝ }
     ensures { λ r. ⌜ r ≤ length (now (body .entry)) ⌝ }
 {
+    if body.len() - from < n as usize {
+        return 0;
+    }
     let mut at = from;
     let mut i: u32 = 0;
     while i < n {
-        if !pair_filed(word::word(body, at), table) {
+        if !pair_filed(body[at], table) {
             return 0;
         }
         at += 1;
@@ -145,28 +149,37 @@ fn pairs_next(body: &[u32], from: usize, n: u32, table: &[u32; 128]) -> usize
     at
 }
 
+// The index that a word of kind 5 holds; a word of another kind gives a number past all indexes.
+fn index_of(w: u32) -> usize
+    ensures { λ r. ⌜ (r + ofKind 5 0) % 2 ^ 64 ≡ w ⌝ }
+{
+    std::num::wrapping_sub_usize(w as usize, 0x2800_0000)
+}
+
 // The position behind so many indexes of resources, or 0. Those that are listed get their role into a table.
 fn indexes_next(
     body: &[u32],
     from: usize,
     n: u32,
     count: u32,
-    roles: &[u32; 128],
-    table: &mut [u32; 128],
+    roles: &[u8; 128],
+    table: &mut [u8; 128],
 ) -> usize
     requires { ⌜ (1 ≤ from) × (from ≤ length (now body)) × (count ≤ 128) ⌝ }
     ensures { λ r. ⌜ restAt (now (body .entry)) r ≡ behind (several n (one (indexFiled count)) (drop from (now (body .entry)))) ⌝ }
     ensures { λ r. ⌜ r ≤ length (now (body .entry)) ⌝ }
     ensures { λ r. ⌜ ((r ≡ 0 → ⊥) → now (table .exit) ≡ marked (now (roles .entry)) (contents (take n (drop from (now (body .entry))))) (now (table .entry))) ⌝ }
 {
+    if body.len() - from < n as usize {
+        return 0;
+    }
     let mut at = from;
     let mut i: u32 = 0;
     while i < n {
-        let w = word::word(body, at);
-        if !index_filed(w, count) {
+        let index = index_of(body[at]);
+        if index >= count as usize {
             return 0;
         }
-        let index = word::content(w) as usize;
         table[index] = roles[index];
         at += 1;
         i += 1;
@@ -188,13 +201,13 @@ fn varying_lists_next(body: &[u32], at: usize, counts: u32) -> usize
 }
 
 // The position behind the four lists of an entry point, or 0. The table has the role of each resource in a pair.
-fn lists_next(body: &[u32], at: usize, counts: u32, count: u32, roles: &[u32; 128]) -> usize
+fn lists_next(body: &[u32], at: usize, counts: u32, count: u32, roles: &[u8; 128]) -> usize
     requires { ⌜ (1 ≤ at) × (at ≤ length (now body)) × (count ≤ 128) ⌝ }
     requires { ⌜ (length (packResources count (now body)) ≡ count) × (now roles ≡ roleTable (packResources count (now body))) ⌝ }
     ensures { λ r. ⌜ restAt (now (body .entry)) r ≡ listsBehind (packResources count (now (body .entry))) counts (drop at (now (body .entry))) ⌝ }
     ensures { λ r. ⌜ r ≤ length (now (body .entry)) ⌝ }
 {
-    let mut table: [u32; 128] = [0; 128];
+    let mut table: [u8; 128] = [0; 128];
     let pairs = indexes_next(body, at, counts / 0x4_0000 % 0x40, count, roles, &mut table);
     if pairs == 0 {
         return 0;
@@ -207,7 +220,7 @@ fn lists_next(body: &[u32], at: usize, counts: u32, count: u32, roles: &[u32; 12
 }
 
 // The position behind an entry point whose payload stands at a position, or 0.
-fn parts_next(body: &[u32], at: usize, head: u32, count: u32, roles: &[u32; 128]) -> usize
+fn parts_next(body: &[u32], at: usize, head: u32, count: u32, roles: &[u8; 128]) -> usize
     requires { ⌜ (1 ≤ at) × (at ≤ length (now body)) × (count ≤ 128) ⌝ }
     requires { ⌜ (length (packResources count (now body)) ≡ count) × (now roles ≡ roleTable (packResources count (now body))) ⌝ }
     ensures { λ r. ⌜ restAt (now (body .entry)) r ≡ partsBehind (packResources count (now (body .entry))) head (drop at (now (body .entry))) ⌝ }
@@ -228,7 +241,7 @@ fn parts_next(body: &[u32], at: usize, head: u32, count: u32, roles: &[u32; 128]
 }
 
 // The position behind an entry point, or 0 where it is not well filed.
-pub(crate) fn entry_point_next(body: &[u32], at: usize, count: u32, roles: &[u32; 128]) -> usize
+pub(crate) fn entry_point_next(body: &[u32], at: usize, count: u32, roles: &[u8; 128]) -> usize
     requires { ⌜ (1 ≤ at) × (at ≤ length (now body)) × (count ≤ 128) ⌝ }
     requires { ⌜ (length (packResources count (now body)) ≡ count) × (now roles ≡ roleTable (packResources count (now body))) ⌝ }
     ensures { λ r. ⌜ restAt (now (body .entry)) r ≡ behind (readEntryPoint (packResources count (now (body .entry))) (drop at (now (body .entry)))) ⌝ }

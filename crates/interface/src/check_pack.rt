@@ -13,7 +13,7 @@ use crate::check_entry::kinds_next;
 use crate::check_names::names_distinct;
 
 // What a resource can be in a sampling pair, by its type word: 2 for a texture that is sampled, 1 for a sampler, else 0.
-fn role(w: u32) -> u32
+fn role(w: u32) -> u8
     ensures { λ r. ⌜ r ≡ roleOf w ⌝ }
 {
     let code = w / 0x80_0000 % 16;
@@ -33,7 +33,7 @@ fn role(w: u32) -> u32
 }
 
 // The position behind so many resources, or 0. The table gets the role of each.
-fn resources_next(body: &[u32], from: usize, n: usize, roles: &mut [u32; 128]) -> usize
+fn resources_next(body: &[u32], from: usize, n: usize, roles: &mut [u8; 128]) -> usize
     requires { ⌜ (1 ≤ from) × (from ≤ length (now body)) × (n ≤ 128) × (length (now roles) ≡ 128) ⌝ }
     ensures { λ r. ⌜ restAt (now (body .entry)) r ≡ behind (several n readResource (drop from (now (body .entry)))) ⌝ }
     ensures { λ r. ⌜ r ≤ length (now (body .entry)) ⌝ }
@@ -59,7 +59,7 @@ fn entry_points_next(
     from: usize,
     n: usize,
     count: u32,
-    roles: &[u32; 128],
+    roles: &[u8; 128],
     heads: &mut [u32; 16],
 ) -> usize
     requires { ⌜ (1 ≤ from) × (from ≤ length (now body)) × (length (now body) ≤ 4096) × (n ≤ 16) × (length (now heads) ≡ 16) ⌝ }
@@ -85,7 +85,7 @@ fn entry_points_next(
 }
 
 // The position behind entry points whose stages and names differ, or 0.
-fn entries_next(body: &[u32], at: usize, n: usize, count: u32, roles: &[u32; 128]) -> usize
+fn entries_next(body: &[u32], at: usize, n: usize, count: u32, roles: &[u8; 128]) -> usize
     requires { ⌜ (1 ≤ at) × (at ≤ length (now body)) × (length (now body) ≤ 4096) × (n ≤ 16) ⌝ }
     requires { ⌜ (count ≤ 128) × (length (packResources count (now body)) ≡ count) × (now roles ≡ roleTable (packResources count (now body))) ⌝ }
     ensures { λ r. ⌜ restAt (now (body .entry)) r ≡ entriesBehind (packResources count (now (body .entry))) n (drop at (now (body .entry))) ⌝ }
@@ -131,7 +131,7 @@ fn records_next(body: &[u32], totals: u32) -> usize
     ensures { λ r. ⌜ r ≤ length (now (body .entry)) ⌝ }
 {
     let count = totals / 0x1_0000 % 0x800;
-    let mut roles: [u32; 128] = [0; 128];
+    let mut roles: [u8; 128] = [0; 128];
     let entries = resources_next(body, 15, count as usize, &mut roles);
     if entries == 0 {
         return 0;

@@ -1,49 +1,34 @@
 // Varyings: a location and a variable, or a built-in.
 ghost use mathlib.Core.Path.{_≡_};
-ghost use Prim.Native.Nat.{_+_, _≤_};
+ghost use Prim.Native.Nat.{_≤_};
 ghost use lib.ListN.{length, drop};
-ghost use Rattle.word.specs.Parse.{behind, restAt};
-ghost use Rattle.interface.specs.Format.{builtInFiled, readVarying};
-ghost use Rattle.interface.specs.Walks.{clipOf, varyingsBehind};
+ghost use Rattle.word.specs.Words.{wordAt};
+ghost use Rattle.word.specs.Parse.{restAt};
+ghost use Rattle.varying.specs.Format.{varFiled};
+ghost use Rattle.interface.specs.Format.{builtInFiled};
+ghost use Rattle.interface.specs.Walks.{varyingsBehind};
 
 // Whether a word is a built-in with a code below a number.
 fn built_in_filed(w: u32, codes: u32) -> bool
     ensures { λ r. ⌜ r ≡ builtInFiled codes w ⌝ }
 {
-    if word::kind(w) != 14 {
+    if w / 0x100 % 0x1_0000 != 0 {
         return false;
     }
     if w / 0x100_0000 % 8 >= codes {
         return false;
     }
-    w / 0x100 % 0x1_0000 == 0
+    word::kind(w) == 14
 }
 
-// 1 for clip distances, a built-in of code 4, else 0.
-fn clip(w: u32) -> u32
-    ensures { λ r. ⌜ r ≡ clipOf w ⌝ }
-    ensures { λ r. ⌜ r ≤ 1 ⌝ }
+// Whether a variable stands at a position.
+fn var_at(body: &[u32], at: usize) -> bool
+    ensures { λ r. ⌜ r ≡ varFiled (wordAt (now (body .entry)) at) ⌝ }
 {
-    if w / 0x100_0000 == 0x74 { 1 } else { 0 }
-}
-
-// The position behind a varying, or 0 where it is not well filed.
-fn varying_next(body: &[u32], at: usize, codes: u32) -> usize
-    requires { ⌜ at ≤ length (now body) ⌝ }
-    ensures { λ r. ⌜ restAt (now (body .entry)) r ≡ behind (readVarying codes (drop at (now (body .entry)))) ⌝ }
-    ensures { λ r. ⌜ r ≤ length (now (body .entry)) ⌝ }
-{
-    let w = word::word(body, at);
-    if varying::location_filed(w) {
-        if varying::var_filed(word::word(body, at + 1)) {
-            return at + 2;
-        }
-        return 0;
+    if at >= body.len() {
+        return false;
     }
-    if built_in_filed(w, codes) {
-        return at + 1;
-    }
-    0
+    varying::var_filed(body[at])
 }
 
 // The position behind so many varyings, or 0. Where the codes are below 5, one of them may be clip distances; where below 4, none.
@@ -56,13 +41,22 @@ pub(crate) fn varyings_next(body: &[u32], from: usize, n: u32, codes: u32) -> us
     let mut left = n;
     let mut below = codes;
     while left != 0 {
-        let next = varying_next(body, at, below);
-        if next == 0 {
-            return 0;
+        let w = word::word(body, at);
+        if varying::location_filed(w) {
+            if !var_at(body, at + 1) {
+                return 0;
+            }
+            at += 2;
+            left -= 1;
+        } else {
+            if !built_in_filed(w, below) {
+                return 0;
+            }
+            // Bit 26 is set in code 4 alone.
+            below -= w / 0x400_0000 % 2;
+            at += 1;
+            left -= 1;
         }
-        below -= clip(word::word(body, at));
-        at = next;
-        left -= 1;
     }
     at
 }

@@ -11,9 +11,9 @@ pair-filed-spec =
     (λ c κs. search needs)  -- kind-requires
     (λ c. search (pair-kind, tests))  -- returns
     (λ c. search (pair-kind, tests))  -- returns-2
-    (λ c. search needs)  -- cast-word
-    (λ c κs. search needs)  -- word-requires
+    (λ c. search needs)  -- cast-role-at
+    (λ c κs. search needs)  -- role-at-requires
     (λ c. search pair-other)  -- returns-3
-    (λ c. search needs)  -- cast-word-2
-    (λ c κs. search needs)  -- word-requires-2
+    (λ c. search needs)  -- cast-role-at-2
+    (λ c κs. search needs)  -- role-at-requires-2
     (λ c. search pair-last))  -- returns-4

@@ -1,17 +1,17 @@
-use Prim.Native.Nat.{_-_, _≤_}
+use Prim.Native.Nat.{_+_, _-_, _≤_}
 use mathlib.Core.Path.{_≡_}
-use lib.ListN.{length, drop}
+use lib.ListN.{drop}
 use borrow.Author.Needs.{needs}
 use Rattle.word.specs.Parse.{one, several, behind, restAt}
 use Rattle.word.proofs.Parse.{several-begins, several-ended}
 use Rattle.interface.specs.Walks.{pairMarked}
-use Rattle.interface.proofs.CheckSteps.{words-stop, words-go, words-in}
+use Rattle.interface.proofs.CheckSteps.{words-lack, words-stop, words-go, told-false, told-true}
 use Rattle.interface.proofs.check_entry.pairs_next.Statement.{statement}
 use Rattle.interface.proofs.check_entry.pairs_next.Tie as tie
 
 abbrev Inv-loop : tie.InvT-loop
 Inv-loop body from n table at₀ i₀ at i =
-    (1 ≤ at) × (at ≤ length body) × (i ≤ n) × (restAt body at ≡ behind (several i (one (pairMarked table)) (drop from body)))
+    (1 ≤ at) × (i ≤ n) × (at ≡ from + i) × (restAt body at ≡ behind (several i (one (pairMarked table)) (drop from body)))
 
 abbrev μ-loop : tie.MeasureT-loop
 μ-loop body from n table at₀ i₀ at i = n - i
@@ -22,12 +22,15 @@ pairs-next-spec =
     (tie.spec
     Inv-loop
     μ-loop
+    (λ c. search needs)  -- sub-if1
+    (λ c. (search words-lack, search needs))  -- returns
     (λ c. (search needs, search needs, search needs, search several-begins))  -- loop-holds
-    (λ c κs. search needs)  -- word-requires
+    (λ c. search needs)  -- mul-pair-filed
+    (λ c. search needs)  -- shared-slice-read-pair-filed
     (λ c κs. search needs)  -- pair-filed-requires
-    (λ c. (search words-stop, search needs))  -- returns
+    (λ c. (search (words-stop, told-false), search needs))  -- returns-2
     (λ c. search needs)  -- add-at
     (λ c. search needs)  -- add-i
     (λ c. search needs)  -- loop-less
-    (λ c. (search needs, search words-in, search needs, search words-go))  -- loop-again
-    (λ c. (search several-ended, search needs)))  -- returns-2
+    (λ c. (search needs, search needs, search needs, search (words-go, told-true)))  -- loop-again
+    (λ c. (search several-ended, search needs)))  -- returns-3

@@ -31,7 +31,6 @@ resources-next-spec =
     (λ c. search needs)  -- add-word
     (λ c κs. search needs)  -- word-requires
     (λ c κs. search needs)  -- role-requires
-    (λ c. search needs)  -- mul-roles
     (λ c. search needs)  -- element-write-roles
     (λ c. search needs)  -- add-i
     (λ c. search needs)  -- loop-less

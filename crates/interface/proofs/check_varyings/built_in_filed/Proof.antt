@@ -1,6 +1,5 @@
-use Rattle.interface.proofs.CheckWords.{kind-first}
-use Rattle.word.proofs.Tests.{tests}
 use borrow.Author.Needs.{needs}
+use Rattle.interface.proofs.CheckWords.{built-in-bits, built-in-code, built-in-kind}
 use Rattle.interface.proofs.check_varyings.built_in_filed.Statement.{statement}
 use Rattle.interface.proofs.check_varyings.built_in_filed.Tie as tie
 
@@ -8,7 +7,7 @@ pub built-in-filed-spec : {M : Type 1} → statement M
 built-in-filed-spec =
     tie.close
     (tie.spec
+    (λ c. search built-in-bits)  -- returns
+    (λ c. search built-in-code)  -- returns-2
     (λ c κs. search needs)  -- kind-requires
-    (λ c. search (kind-first, tests))  -- returns
-    (λ c. search (kind-first, tests))  -- returns-2
-    (λ c. search (kind-first, tests)))  -- returns-3
+    (λ c. search built-in-kind))  -- returns-3

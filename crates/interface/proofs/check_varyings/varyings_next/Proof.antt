@@ -3,7 +3,7 @@ use mathlib.Core.Path.{_≡_}
 use lib.ListN.{length, drop}
 use borrow.Author.Needs.{needs}
 use Rattle.interface.specs.Walks.{varyingsBehind}
-use Rattle.interface.proofs.CheckVaryings.{varyings-stop, varyings-go, codes-stay, varyings-ended}
+use Rattle.interface.proofs.CheckVaryings.{local-stop, local-in, local-go, built-in-stop, built-in-in, built-in-go, codes-stay, varyings-ended}
 use Rattle.interface.proofs.check_varyings.varyings_next.Statement.{statement}
 use Rattle.interface.proofs.check_varyings.varyings_next.Tie as tie
 
@@ -21,12 +21,20 @@ varyings-next-spec =
     Inv-loop
     μ-loop
     (λ c. search needs)  -- loop-holds
-    (λ c κs. search needs)  -- varying-next-requires
-    (λ c. (search varyings-stop, search needs))  -- returns
     (λ c κs. search needs)  -- word-requires
-    (λ c κs. search needs)  -- clip-requires
-    (λ c. search needs)  -- sub-below
+    (λ c κs. search needs)  -- location-filed-requires
+    (λ c. search needs)  -- add-var-at
+    (λ c κs. search needs)  -- var-at-requires
+    (λ c. (search local-stop, search needs))  -- returns
+    (λ c. search needs)  -- add-at
     (λ c. search needs)  -- sub-left
     (λ c. search needs)  -- loop-less
-    (λ c. (search needs, search needs, search codes-stay, search needs, search varyings-go))  -- loop-again
-    (λ c. (search varyings-ended, search needs)))  -- returns-2
+    (λ c. (search needs, search local-in, search needs, search needs, search local-go))  -- loop-again
+    (λ c κs. search needs)  -- built-in-filed-requires
+    (λ c. (search built-in-stop, search needs))  -- returns-2
+    (λ c. search needs)  -- sub-below
+    (λ c. search needs)  -- add-at-2
+    (λ c. search needs)  -- sub-left-2
+    (λ c. search needs)  -- loop-less-2
+    (λ c. (search needs, search built-in-in, search codes-stay, search needs, search built-in-go))  -- loop-again-2
+    (λ c. (search varyings-ended, search needs)))  -- returns-3
