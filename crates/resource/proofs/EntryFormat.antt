@@ -73,7 +73,7 @@ view-read View.Cube = refl
 view-read View.CubeArray = refl
 view-read View.D3 = refl
 
-view-back : (c : ℕ) → c < 6 → viewCode (viewAt c) ≡ c
+pub view-back : (c : ℕ) → c < 6 → viewCode (viewAt c) ≡ c
 view-back = codes-back 6 (λ c. viewCode (viewAt c)) refl
 
 sample-read : (s : TextureSampleType) → sampleAt (sampleCode s) ≡ s
@@ -220,7 +220,7 @@ least-filed (Bind.StorageTexture access format view) = or-right (isBuffer (ofKin
 least-filed Bind.ExternalTexture = refl
 least-filed (Bind.AccelerationStructure returns) = or-right (isBuffer (ofKind 18 (bindingCode (Bind.AccelerationStructure returns)))) true refl
 
-least-back : (w least : ℕ) → isBuffer w || eqb least 0 ≡ true → leastSize (bindingTypeOf w least) ≡ least
+pub least-back : (w least : ℕ) → isBuffer w || eqb least 0 ≡ true → leastSize (bindingTypeOf w least) ≡ least
 unfolding bindingTypeOf
 least-back w least h =
     by-test (eqb (typeCode w) 0) (λ t. rw t) λ n0.

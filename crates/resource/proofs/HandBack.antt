@@ -59,7 +59,7 @@ derived-held r named ty h d = rw d at (held-type r named h)
 
 -- ---- what is derived serves
 
-same-bool : (b : Bool) → sameBool b b ≡ true
+pub same-bool : (b : Bool) → sameBool b b ≡ true
 unfolding yes
 same-bool true = refl
 same-bool false = refl

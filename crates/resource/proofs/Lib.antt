@@ -10,3 +10,5 @@ pub mod ResourceFormat
 pub mod SameBinding
 pub mod AnswerLaws
 pub mod Examples
+pub mod WordLaws
+pub mod WordUses

@@ -43,6 +43,11 @@ checkWords resource entry =
     onlyEntry entry λ e.
     bindingAnswer (useNumber (checkBindingUse (r .ty) (e .ty))) (r .bind)
 
+-- the type word of a derivation, 0 where there is none
+abbrev pub derivedWord : Derived → ℕ
+derivedWord (Der.Binding ty) = ofKind 18 (bindingCode ty)
+derivedWord Der.WrongBufferAddressSpace = 0
+
 -- the type word and the least-size word that a resource derives, as the first two details, or 24
 abbrev pub derivedAnswer : Derived → ResourceBinding → Answer
 derivedAnswer (Der.Binding ty) bind = answer 0 (ofKind 18 (bindingCode ty)) (ofKind 6 (leastSize ty)) 0

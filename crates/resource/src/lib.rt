@@ -7,3 +7,4 @@ pub mod resource_words;
 pub mod texture_uses;
 pub mod types;
 pub mod uses;
+pub mod word_rules;

@@ -221,7 +221,7 @@ fn size_next(body: &[u32], at: usize, w: u32) -> usize
     if body.len() <= at {
         return 0;
     }
-    if !size_filed(word(body, at)) {
+    if !size_filed(body[at]) {
         return 0;
     }
     at + 1
@@ -239,10 +239,10 @@ pub fn resource_next(body: &[u32], at: usize) -> usize
     if body.len() - at < 2 {
         return 0;
     }
-    if !place_filed(word(body, at)) {
+    if !place_filed(body[at]) {
         return 0;
     }
-    let w = word(body, at + 1);
+    let w = body[at + 1];
     if !resource_word_filed(w) {
         return 0;
     }

@@ -10,11 +10,13 @@ resource-next-spec =
     (λ c. (search next-none, (search needs, search needs)))  -- returns
     (λ c. search needs)  -- sub-if2
     (λ c. (search next-one, (search needs, search needs)))  -- returns-2
-    (λ c κs. search needs)  -- word-requires
+    (λ c. search needs)  -- mul-place-filed
+    (λ c. search needs)  -- shared-slice-read-place-filed
     (λ c κs. search needs)  -- place-filed-requires
     (λ c. (search next-no-place, (search needs, search needs)))  -- returns-3
-    (λ c. search needs)  -- add-word
-    (λ c κs. search needs)  -- word-requires-2
+    (λ c. search needs)  -- add-w
+    (λ c. search needs)  -- mul-w
+    (λ c. search needs)  -- shared-slice-read-w
     (λ c κs. search needs)  -- resource-word-filed-requires
     (λ c. (search next-no-type, (search needs, search needs)))  -- returns-4
     (λ c. search needs)  -- add-size-next

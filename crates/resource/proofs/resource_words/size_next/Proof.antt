@@ -10,7 +10,8 @@ size-next-spec =
     (λ c κs. search needs)  -- is-buffer-requires
     (λ c. (search size-none, (search needs, search needs)))  -- returns
     (λ c. (search size-past, (search needs, search needs)))  -- returns-2
-    (λ c κs. search needs)  -- word-requires
+    (λ c. search needs)  -- mul-size-filed
+    (λ c. search needs)  -- shared-slice-read-size-filed
     (λ c κs. search needs)  -- size-filed-requires
     (λ c. (search size-bad, (search needs, search needs)))  -- returns-3
     (λ c. search needs)  -- add-result
