@@ -1,5 +1,5 @@
 -- The code's ways through a stage list.
-use Prim.Native.Nat.{ℕ, zero, suc, _+_, _-_, _*_, _<_, _≤_}
+use Prim.Native.Nat.{ℕ, zero, suc, _+_, _-_, _*_, _%_, _<_, _≤_}
 use native.Mathlib.Omega.{arith}
 use mathlib.Core.Path.{_≡_, refl, sym, _∙_}
 use mathlib.Core.Bool.{Bool, true, false, _&&_}
@@ -13,7 +13,9 @@ use Rattle.varying.specs.Format.{locationFiled, varFiled, varOf, payloadFiled, 
 use Rattle.varying.specs.declared.InterfaceVar.{InterfaceVar}
 use Rattle.varying.specs.declared.Payload.{Payload}
 use Rattle.lists.specs.Meaning.{rising, varyingAt}
-use Rattle.lists.specs.Format.{records, countOf, primitiveAt, readLocated, locatedGood, readVaryings, stageHead, decodeStage}
+use Rattle.lists.specs.Format.{records, countOf, primitiveAt, readLocated, locatedGood, readVaryings, variableFound, stageHead, decodeStage}
+use Rattle.lists.specs.declared.types.Found.{Found}
+use Rattle.lists.specs.declared.types.Found.the-variants.{At, Nothing}
 use Rattle.lists.specs.declared.types.PrimitiveIndex.{PrimitiveIndex}
 use Rattle.lists.specs.declared.types.Provided.{Provided}
 use Rattle.lists.specs.declared.types.Provided.the-variants as Pro
@@ -80,22 +82,34 @@ module _ (l : List ℕ) (k at : ℕ) (goal : Bool) (inv : goal ≡ rising (readV
 
 -- ---- the variable at a location
 
-pub varying-begins : (l : List ℕ) (n location : ℕ) → n ≡ countOf l
-    → varyingAt location (decodeStage l .varyings) ≡ varyingAt location (readVaryings n (drop 2 l))
-unfolding decodeStage
-varying-begins l n location e = rw e
-
 module _ (l : List ℕ) (k at location : ℕ) (goal : Provided) (inv : goal ≡ varyingAt location (readVaryings k (drop at l))) where
   module _ (c : ℕ) (h : k ≡ 0 → ⊥) (ec : c ≡ contentOf (wordAt l at)) where
-    pub varying-hit : (y : ℕ) (v : InterfaceVar) → c ≡ location → y ≡ wordAt l (at + 1) → v ≡ varOf y → Pro.Var v ≡ goal
+    pub varying-hit : c ≡ location → variableFound l (At (at + 1)) ≡ goal
     unfolding varyingAt
-    varying-hit y v q ey ev =
-        sym (inv ∙ rw (left-cons 2 readLocated l k at h, here l at, there l at 1, ← ec, ← ey, ← ev, eq-eqb c location q))
+    varying-hit q = sym (inv ∙ rw (left-cons 2 readLocated l k at h, here l at, there l at 1, ← ec, eq-eqb c location q))
 
     pub varying-miss : (c ≡ location → ⊥) → goal ≡ varyingAt location (readVaryings (k - 1) (drop (at + 2) l))
     unfolding varyingAt
     varying-miss q = inv ∙ rw (left-cons 2 readLocated l k at h, here l at, ← ec, ne-eqb c location q)
 
+  pub within-hit : (k ≡ 0 → ⊥) → wordAt l at % 0x800_0000 ≡ location → variableFound l (At (at + 1)) ≡ goal
+  within-hit h q = varying-hit (wordAt l at % 0x800_0000) h refl q
+
+  pub within-miss : (k ≡ 0 → ⊥) → (wordAt l at % 0x800_0000 ≡ location → ⊥) → goal ≡ varyingAt location (readVaryings (k - 1) (drop (at + 2) l))
+  within-miss h q = varying-miss (wordAt l at % 0x800_0000) h refl q
+
   pub varying-ended : k ≡ 0 → Pro.Missing ≡ goal
   unfolding varyingAt
   varying-ended h = sym (inv ∙ rw (left-none 2 readLocated k (drop at l) h))
+
+pub location-found : (l : List ℕ) (n location : ℕ) (f : Found) → n ≡ countOf l → variableFound l f ≡ varyingAt location (readVaryings n (drop 2 l))
+    → variableFound l f ≡ varyingAt location (decodeStage l .varyings)
+unfolding decodeStage
+location-found l n location f e h = rw (← e) h
+
+module _ (l : List ℕ) (f : Found) (goal : Provided) (e : variableFound l f ≡ goal) where
+  pub variable-found : (i y : ℕ) (v : InterfaceVar) → f ≡ At i → y ≡ wordAt l i → v ≡ varOf y → Pro.Var v ≡ goal
+  variable-found i y v n g h = rw (h, g) (rw n at e)
+
+  pub variable-missing : f ≡ Nothing → Pro.Missing ≡ goal
+  variable-missing n = rw n at e

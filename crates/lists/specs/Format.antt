@@ -9,12 +9,16 @@ use Rattle.word.specs.Words.{wordAt, kindOf, contentOf, bits, ofKind}
 use Rattle.resource.specs.Format.{placeOf, placeFiled, placeWord, placeHeld, sizeFiled, entryFiledAt, entryAt, entryWords, entryHeld}
 use Rattle.resource.specs.declared.types.ResourceBinding.{ResourceBinding}
 use Rattle.resource.specs.declared.types.BindGroupLayoutEntry.{BindGroupLayoutEntry}
-use Rattle.varying.specs.Format.{locationFiled, varFiled, locatedOf, locatedWords, locatedHeld, payloadFiled, payloadOf, payloadWord, payloadHeld}
+use Rattle.varying.specs.Format.{locationFiled, varFiled, varOf, locatedOf, locatedWords, locatedHeld, payloadFiled, payloadOf, payloadWord, payloadHeld}
 use Rattle.varying.specs.declared.Located.{Located}
 use Rattle.lists.specs.Meaning.{Layout, Sizes, StageIo, every, distinctEntries, distinctSizes, rising}
+use Rattle.lists.specs.declared.types.Found.{Found}
+use Rattle.lists.specs.declared.types.Found.the-variants.{At, Nothing}
 use Rattle.lists.specs.declared.types.SizeRecord.{SizeRecord}
 use Rattle.lists.specs.declared.types.PrimitiveIndex.{PrimitiveIndex}
 use Rattle.lists.specs.declared.types.PrimitiveIndex.the-variants as Index
+use Rattle.lists.specs.declared.types.Provided.{Provided}
+use Rattle.lists.specs.declared.types.Provided.the-variants as Pro
 
 -- 'Lists have at most 1,024 words', free room included
 abbrev pub shortEnough : List ℕ → Bool
@@ -148,6 +152,11 @@ locatedGood ws = locationFiled (wordAt ws 0) && varFiled (wordAt ws 1)
 
 abbrev pub readVaryings : ℕ → List ℕ → List Located
 readVaryings n ws = records 2 readLocated n ws
+
+-- the variable whose word was found at a position
+abbrev pub variableFound : List ℕ → Found → Provided
+variableFound ws (At i) = Pro.Var (varOf (wordAt ws i))
+variableFound ws Nothing = Pro.Missing
 
 -- the head: its kind, a code of the primitive index, its unnamed bits, 'at most 63', the payload, and as many variables within the words
 unfoldable pub stageHead : List ℕ → Bool

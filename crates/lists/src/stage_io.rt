@@ -1,11 +1,12 @@
 // What the stage before provides: its variables by rising location, its payload and its primitive index.
 ghost use mathlib.Core.Path.{_≡_};
-ghost use Prim.Native.Nat.{_<_, _+_, _*_, _^_};
-ghost use lib.ListN.{drop};
+ghost use Prim.Native.Nat.{_<_, _≤_, _+_, _*_, _^_};
+ghost use lib.ListN.{length, drop};
 ghost use Rattle.word.specs.Words.{wordAt, contentOf};
 ghost use Rattle.lists.specs.Meaning.{rising, varyingAt};
-ghost use Rattle.lists.specs.Format.{countOf, each, locatedGood, readVaryings, stageHead, outFiled, stageFiled, decodeStage};
+ghost use Rattle.lists.specs.Format.{countOf, each, locatedGood, readVaryings, variableFound, stageHead, outFiled, stageFiled, decodeStage};
 use crate::heads::count;
+use crate::types::Found;
 use crate::types::PrimitiveIndex;
 use crate::types::Provided;
 use varying::Payload;
@@ -109,22 +110,62 @@ pub fn stage_filed(l: &[u32]) -> bool
     out_filed(l)
 }
 
-// The variable provided at a location.
-pub fn varying_at(l: &[u32], location: u32) -> Provided
-    ensures { λ r. ⌜ r ≡ varyingAt location (decodeStage (now (l .entry)) .varyings) ⌝ }
+// Where the word of the variable at a location stands, wherever the variables lie.
+fn find_plain(l: &[u32], n: usize, location: u32) -> Found
+    requires { ⌜ n < 0x1_0000 ⌝ }
+    ensures { λ r. ⌜ variableFound (now (l .entry)) r ≡ varyingAt location (readVaryings n (drop 2 (now (l .entry)))) ⌝ }
 {
     let mut at: usize = 2;
-    let mut left = count(l);
+    let mut left = n;
     while left != 0 {
         if location_at(l, at) == location {
-            return Provided::Var {
-                var: varying::var_of(word(l, at + 1)),
-            };
+            return Found::At { index: at + 1 };
         }
         at += 2;
         left -= 1;
     }
-    Provided::Missing
+    Found::Nothing
+}
+
+// The same where all variables lie within the slice.
+fn find_within(l: &[u32], n: usize, location: u32) -> Found
+    requires { ⌜ n < 0x1_0000 ⌝ }
+    requires { ⌜ 2 + 2 * n ≤ length (now l) ⌝ }
+    ensures { λ r. ⌜ variableFound (now (l .entry)) r ≡ varyingAt location (readVaryings n (drop 2 (now (l .entry)))) ⌝ }
+{
+    let mut at: usize = 2;
+    let mut left = n;
+    while left != 0 {
+        if l[at] % 0x800_0000 == location {
+            return Found::At { index: at + 1 };
+        }
+        at += 2;
+        left -= 1;
+    }
+    Found::Nothing
+}
+
+// Where the word of the variable at a location stands.
+pub fn find_location(l: &[u32], location: u32) -> Found
+    ensures { λ r. ⌜ variableFound (now (l .entry)) r ≡ varyingAt location (decodeStage (now (l .entry)) .varyings) ⌝ }
+{
+    let n = count(l);
+    if 2 + 2 * n <= l.len() {
+        return find_within(l, n, location);
+    }
+    find_plain(l, n, location)
+}
+
+// The variable provided at a location.
+pub fn varying_at(l: &[u32], location: u32) -> Provided
+    ensures { λ r. ⌜ r ≡ varyingAt location (decodeStage (now (l .entry)) .varyings) ⌝ }
+{
+    match find_location(l, location) {
+        Found::At { index } => Provided::Var {
+            var: varying::var_of(word(l, index)),
+        },
+        Found::Nothing => Provided::Missing,
+    }
 }
 
 pub fn primitive_index(l: &[u32]) -> PrimitiveIndex

@@ -1,14 +1,17 @@
 -- The subtype fact, for types of any width, and what each reason says.
 use Prim.Native.Nat.{_<_, _≤_}
+use native.Mathlib.Omega.{arith}
 use mathlib.Core.Path.{_≡_, refl, sym, ap, _∙_}
 use mathlib.Core.Bool.{Bool, true, false}
 use mathlib.Core.Logic.{_↔_}
 use lib.Dec.{eqb, ltb}
-use borrow.Author.Tests.{eqb-true, eqb-false, ltb-true, ltb-false}
+use borrow.Author.Tests.{eqb-true, eqb-false, ltb-true, ltb-false, eq-eqb, le-leb}
 use Rattle.word.specs.Choice.{pick}
-use Rattle.numeric.specs.Rules.{kindCode, shapeFits, subtypeOf}
+use Rattle.numeric.specs.Rules.{kindCode, sizeCode, shapeFits, subtypeOf, isFit, fits}
 use Rattle.numeric.specs.Format.{kindAt}
 use Rattle.numeric.specs.declared.types.ScalarKind.{ScalarKind}
+use Rattle.numeric.specs.declared.types.NumericDimension.{NumericDimension}
+use Rattle.numeric.specs.declared.types.NumericDimension.the-variants as D
 use Rattle.numeric.specs.declared.types.NumericType.{NumericType}
 use Rattle.numeric.specs.declared.types.Fit.{Fit}
 use Rattle.numeric.specs.declared.types.Fit.the-variants.{Fits, TooWide, OtherKind, OtherShape}
@@ -51,3 +54,13 @@ module _ (a b : NumericType) where
   pub subtype-fact : (subtypeOf a b ≡ Fits)
       ↔ ((a .scalar .width ≤ b .scalar .width) × (a .scalar .kind ≡ b .scalar .kind) × (shapeFits (a .dim) (b .dim) ≡ true))
   subtype-fact = subtype-reason Fits
+
+-- a type fits itself
+shape-itself : (d : NumericDimension) → shapeFits d d ≡ true
+unfolding shapeFits
+shape-itself D.Scalar = refl
+shape-itself (D.Vector n) = le-leb (sizeCode n) (sizeCode n) (omega arith)
+shape-itself (D.Matrix c r) = rw (eq-eqb (sizeCode c) (sizeCode c) refl, eq-eqb (sizeCode r) (sizeCode r) refl)
+
+pub fits-itself : (a : NumericType) → fits a a ≡ true
+fits-itself a = ap isFit (said a a Fits (omega arith, refl, shape-itself (a .dim)))

@@ -43,7 +43,7 @@ pub enum Fit {
 }
 
 // The number of a scalar kind.
-pub fn kind_code(kind: ScalarKind) -> u32
+pub(crate) fn kind_code(kind: ScalarKind) -> u32
     ensures { λ r. ⌜ r ≡ kindCode kind ⌝ }
     ensures { λ r. ⌜ r ≤ 3 ⌝ }
 {

@@ -1,23 +1,32 @@
 -- The ways through the inputs of an entry point.
-use Prim.Native.Nat.{ℕ, _+_, _-_, _≤_}
+use Prim.Native.Nat.{ℕ, _+_, _-_, _/_, _%_, _≤_}
 use native.Mathlib.Omega.{arith}
 use mathlib.Core.Path.{_≡_, refl, sym, _∙_}
 use mathlib.Core.Bool.{Bool, true, false, _||_}
-use mathlib.Core.List.{List}
+use mathlib.Core.List.{List, [], _∷_}
 use lib.Dec.{eqb}
 use lib.ListN.{drop}
 use borrow.Author.Tests.{eq-eqb, ne-eqb}
-use Rattle.word.specs.Choice.{pick}
+use Rattle.word.specs.Choice.{pick, yes}
+use Rattle.word.specs.Words.{wordAt, contentOf, bits, bit}
 use Rattle.word.specs.Answers.{answer, accepted}
 use Rattle.word.specs.declared.answer.Answer.{Answer}
-use Rattle.word.proofs.Tests.{yes-true, yes-false}
-use Rattle.numeric.specs.Rules.{kindCode, fits}
+use Rattle.numeric.specs.Rules.{fits}
+use Rattle.numeric.specs.Format.{typeOf}
+use Rattle.numeric.proofs.Subtype.{fits-itself}
 use Rattle.resource.specs.Rules.{sameBool}
+use Rattle.resource.proofs.HandBack.{same-bool}
+use Rattle.varying.specs.Format.{locationFiled, varOf}
 use Rattle.varying.specs.declared.InterfaceVar.{InterfaceVar}
 use Rattle.varying.specs.declared.Located.{Located}
+use Rattle.varying.proofs.Joined.{kind-back}
 use Rattle.lists.specs.Meaning.{varyingAt}
+use Rattle.lists.specs.Format.{variableFound}
+use Rattle.lists.specs.declared.types.Found.{Found}
+use Rattle.lists.specs.declared.types.Found.the-variants.{At, Nothing}
 use Rattle.lists.specs.declared.types.Provided.{Provided}
 use Rattle.lists.specs.declared.types.Provided.the-variants as Pro
+use Rattle.interface.specs.Format.{builtInOf}
 use Rattle.interface.specs.Reads.{varying, varyingWidth, varyings}
 use Rattle.interface.specs.declared.types.ShaderStage.{ShaderStage}
 use Rattle.interface.specs.declared.types.BuiltIn.{BuiltIn}
@@ -31,18 +40,20 @@ use Rattle.stage.proofs.VaryingLaws.{varyings-left, varyings-none}
 
 -- ---- one local input
 
-module _ (iv p : InterfaceVar) (x y : ℕ) (hx : x ≡ kindCode (iv .ty .scalar .kind)) (hy : y ≡ kindCode (p .ty .scalar .kind)) where
-  pub vertex-kind : (x ≡ y → ⊥) → 51 ≡ vertexInput iv p
-  unfolding vertexInput
-  vertex-kind n = rw (← hx, ← hy, ne-eqb x y n)
+module _ (w p : ℕ) where
+  pub vertex-kind : (w / 16 % 4 ≡ p / 16 % 4 → ⊥) → 51 ≡ vertexInput (varOf w) (varOf p)
+  unfolding vertexInput varOf typeOf
+  vertex-kind n = rw (kind-back (bits 5 4 w) (omega arith), kind-back (bits 5 4 p) (omega arith), ne-eqb (bits 5 4 w) (bits 5 4 p) n)
 
-  pub vertex-primitive : x ≡ y → iv .«per_primitive» ≡ true → 54 ≡ vertexInput iv p
-  unfolding vertexInput
-  vertex-primitive e t = rw (← hx, ← hy, eq-eqb x y e, yes-true (iv .«per_primitive») t)
+  pub vertex-primitive : w / 16 % 4 ≡ p / 16 % 4 → w / 0x4_0000 % 2 ≡ 1 → 54 ≡ vertexInput (varOf w) (varOf p)
+  unfolding vertexInput varOf typeOf yes
+  vertex-primitive e t =
+      rw (kind-back (bits 5 4 w) (omega arith), kind-back (bits 5 4 p) (omega arith), eq-eqb (bits 5 4 w) (bits 5 4 p) e, eq-eqb (bit 18 w) 1 t)
 
-  pub vertex-good : x ≡ y → iv .«per_primitive» ≡ false → 0 ≡ vertexInput iv p
-  unfolding vertexInput
-  vertex-good e t = rw (← hx, ← hy, eq-eqb x y e, yes-false (iv .«per_primitive») t)
+  pub vertex-good : w / 16 % 4 ≡ p / 16 % 4 → (w / 0x4_0000 % 2 ≡ 1 → ⊥) → 0 ≡ vertexInput (varOf w) (varOf p)
+  unfolding vertexInput varOf typeOf yes
+  vertex-good e n =
+      rw (kind-back (bits 5 4 w) (omega arith), kind-back (bits 5 4 p) (omega arith), eq-eqb (bits 5 4 w) (bits 5 4 p) e, ne-eqb (bit 18 w) 1 n)
 
 pub primitive-agree : (a b x y : Bool) (r : ℕ) → a ≡ x → b ≡ y → r ≡ pick (sameBool x y) 0 54 → r ≡ pick (sameBool a b) 0 54
 primitive-agree a b x y r p q h = rw (p, q) h
@@ -56,38 +67,58 @@ module _ (iv p : InterfaceVar) (hi : iv .interpolation ≡ p .interpolation) (hs
   unfolding fragmentInput
   fragment-type t = rw (eq-eqb (iv .interpolation) (p .interpolation) hi, eq-eqb (iv .sampling) (p .sampling) hs, ← e, t)
 
-module _ (stage : ShaderStage) (iv : InterfaceVar) (p : Provided) where
-  pub number-missing : p ≡ Pro.Missing → 50 ≡ inputNumber stage iv p
-  unfolding inputNumber
-  number-missing e = rw e
+fragment-itself : (v : InterfaceVar) → 0 ≡ fragmentInput v v
+unfolding fragmentInput
+fragment-itself v =
+    rw (
+      eq-eqb (v .interpolation) (v .interpolation) refl,
+      eq-eqb (v .sampling) (v .sampling) refl,
+      fits-itself (v .ty),
+      same-bool (v .«per_primitive»),
+    )
 
-  pub number-at : (s : ShaderStage) (q : Provided) (r : ℕ) → stage ≡ s → p ≡ q → r ≡ inputNumber s iv q → r ≡ inputNumber stage iv p
-  number-at s q r d e h = rw (d, e) h
+pub fragment-same : (w p : ℕ) → w ≡ p → 0 ≡ fragmentInput (varOf w) (varOf p)
+fragment-same w p e = rw e (fragment-itself (varOf p))
+
+pub fragment-read : (w p r : ℕ) (x y : InterfaceVar) → x ≡ varOf w → y ≡ varOf p → r ≡ fragmentInput x y → r ≡ fragmentInput (varOf w) (varOf p)
+fragment-read w p r x y d e h = rw (← d, ← e) h
+
+pub number-at : (stage s : ShaderStage) (iv : InterfaceVar) (p : Provided) (r : ℕ) → stage ≡ s → r ≡ inputNumber s iv p → r ≡ inputNumber stage iv p
+number-at stage s iv p r d h = rw d h
+
+module _ (stage : ShaderStage) (iv : InterfaceVar) (l : List ℕ) (f : Found) (p : Provided) (e : variableFound l f ≡ p) where
+  pub number-found : (i y r : ℕ) → f ≡ At i → y ≡ wordAt l i → r ≡ inputNumber stage iv (Pro.Var (varOf y)) → r ≡ inputNumber stage iv p
+  number-found i y r n g h = let q : Pro.Var (varOf (wordAt l i)) ≡ p = rw n at e in h ∙ rw (g, q)
+
+  pub number-missing : f ≡ Nothing → 50 ≡ inputNumber stage iv p
+  unfolding inputNumber
+  number-missing n = let q : Pro.Missing ≡ p = rw n at e in rw (← q)
 
 -- ---- the walk
 
-pub met-local : (iv : InterfaceVar) (w : InputWalk) (b : Bool) → b ≡ (w .«per_vertex» || eqb (iv .interpolation) 4)
+pub met-local : (w : ℕ) (walk : InputWalk) (b : Bool) → b ≡ (walk .«per_vertex» || eqb (w / 0x1000 % 8) 4)
     → _≡_ {A = InputWalk}
-    (record { «primitive_index» = w .«primitive_index»; «draw_index» = w .«draw_index»; «per_vertex» = b; locals = w .locals + 1 }) (metLocal iv w)
-met-local iv w b e = rw e
+    (record { «primitive_index» = walk .«primitive_index»; «draw_index» = walk .«draw_index»; «per_vertex» = b; locals = walk .locals + 1 }) (metLocal (varOf w) walk)
+unfolding varOf
+met-local w walk b e = rw e
 
 pub met-at : (b k : BuiltIn) (w r : InputWalk) → b ≡ k → r ≡ metBuiltIn k w → r ≡ metBuiltIn b w
 met-at b k w r e h = rw e h
 
-module _ (stage : ShaderStage) (provided : List Located) (v : Varying) (w : InputWalk) (a : Answer) where
-  module _ (location number : ℕ) (iv : InterfaceVar) (p : Provided) (hv : v ≡ Var.Local location iv) (hp : p ≡ varyingAt location provided)
-      (hn : number ≡ inputNumber stage iv p) where
-    pub local-refused : (number ≡ 0 → ⊥) → a ≡ answer number location 0 0 → walked w a ≡ inputStep stage provided v w
+module _ (stage : ShaderStage) (provided : List Located) (x y : ℕ) (w : InputWalk) (a : Answer) (t : Bool) (ht : t ≡ locationFiled x) where
+  module _ (location number : ℕ) (is : t ≡ true) (hl : location ≡ contentOf x) (hn : number ≡ inputNumber stage (varOf y) (varyingAt location provided)) where
+    pub local-refused : (number ≡ 0 → ⊥) → a ≡ answer number location 0 0 → walked w a ≡ inputStep stage provided (varying (x ∷ y ∷ [])) w
     unfolding inputStep
-    local-refused n h = rw (hv, ← hp, ← hn, ne-eqb number 0 n, h)
+    local-refused n h = rw (← ht, is, ← hl, ← hn, ne-eqb number 0 n, h)
 
-    pub local-met : (m : InputWalk) → number ≡ 0 → m ≡ metLocal iv w → a ≡ accepted → walked m a ≡ inputStep stage provided v w
+    pub local-met : (m : InputWalk) → number ≡ 0 → m ≡ metLocal (varOf y) w → a ≡ accepted → walked m a ≡ inputStep stage provided (varying (x ∷ y ∷ [])) w
     unfolding inputStep
-    local-met m n e h = rw (hv, ← hp, ← hn, eq-eqb number 0 n, e, h)
+    local-met m n e h = rw (← ht, is, ← hl, ← hn, eq-eqb number 0 n, e, h)
 
-  pub built-in-met : (b : BuiltIn) (m : InputWalk) → v ≡ Var.BuiltIn b → m ≡ metBuiltIn b w → a ≡ accepted → walked m a ≡ inputStep stage provided v w
+  pub built-in-met : (b : BuiltIn) (m : InputWalk) → t ≡ false → b ≡ builtInOf x → m ≡ metBuiltIn b w → a ≡ accepted
+      → walked m a ≡ inputStep stage provided (varying (x ∷ y ∷ [])) w
   unfolding inputStep
-  built-in-met b m hv e h = rw (hv, e, h)
+  built-in-met b m is hb e h = rw (← ht, is, ← hb, e, h)
 
 -- a step meets at most one local input
 chosen-locals : (b : Bool) (iv : InterfaceVar) (w : InputWalk) (x y : Answer) → pick b (walked (metLocal iv w) x) (walked w y) .walk .locals ≤ w .locals + 1

@@ -20,19 +20,13 @@ use denote.Struct.Laws as LL
 use Rattle.interface.specs.declared.types.ShaderStage.{ShaderStage}
 use Rattle.interface.proofs.types.ShaderStage as G
 use Rattle.interface.proofs.types.ShaderStage.Laws as G′
-use Rattle.interface.specs.declared.types.Varying.{Varying}
-use Rattle.interface.proofs.types.Varying as Y
-use Rattle.interface.proofs.types.Varying.Laws as Y′
 use Rattle.stage.specs.declared.types.InputWalk.{InputWalk}
 use Rattle.stage.proofs.types.InputWalk as T
 use Rattle.stage.proofs.types.InputWalk.Laws as T′
 
--- the machine values of a stage, a varying and a walk
+-- the machine values of a stage and a walk
 abbrev pub stage-vals : ShaderStage → List Val
 stage-vals = EL.vals G.the-type G′.the-laws
-
-abbrev pub varying-vals : Varying → List Val
-varying-vals = EL.vals Y.the-type Y′.the-laws
 
 abbrev pub val : InputWalk → Val
 val = LL.val T.the-type T′.the-laws

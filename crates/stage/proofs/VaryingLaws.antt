@@ -5,6 +5,8 @@ use mathlib.Core.Path.{_≡_, refl}
 use mathlib.Core.List.{List, [], _∷_}
 use lib.ListN.{drop}
 use lib.Seq.{drop-drop}
+use Rattle.word.specs.Words.{wordAt}
+use Rattle.lists.proofs.Words.{here, there}
 use Rattle.interface.specs.Reads.{varying, varyingWidth, varyings}
 
 pub varyings-left : (ws : List ℕ) (k at : ℕ) → (k ≡ 0 → ⊥)
@@ -16,3 +18,6 @@ varyings-left ws (suc k) at h = rw (sub-one, drop-drop (varyingWidth (drop at ws
 pub varyings-none : (ws : List ℕ) (k : ℕ) → k ≡ 0 → varyings k ws ≡ []
 unfolding varyings
 varyings-none ws k h = rw h
+
+pub varying-words : (ws : List ℕ) (at x y : ℕ) → x ≡ wordAt ws at → y ≡ wordAt ws (at + 1) → varying (x ∷ y ∷ []) ≡ varying (drop at ws)
+varying-words ws at x y e f = rw (here ws at, there ws at 1, ← e, ← f)

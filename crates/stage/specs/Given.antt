@@ -5,8 +5,9 @@ use mathlib.Core.Bool.{Bool, true, _&&_}
 use mathlib.Core.List.{List}
 use lib.Dec.{ltb}
 use lib.ListN.{length, take}
-use Rattle.resource.specs.Format.{resourceHeld}
+use Rattle.resource.specs.Format.{resourceHeld, bindingTypeOf}
 use Rattle.resource.specs.declared.types.Resource.{Resource}
+use Rattle.resource.specs.declared.types.BindingType.{BindingType}
 use Rattle.lists.specs.Meaning.{every}
 use Rattle.interface.specs.Meaning.{EntryPoint, Interface}
 use Rattle.interface.specs.Reads.{resourcesAt, standing}
@@ -53,3 +54,7 @@ pub record Summed (ws : List ℕ) (p : EntryParts) (s : Summary) : Type 0 where
   pub outputs : s ≡ summaryOf (standing ws p .outputs)
   pub locals : s .locals ≤ 63
   pub clip : s .«clip_places» ≤ 63 * 64
+
+-- a type is the one that a word means, with whatever least size
+abbrev pub wordMeans : ℕ → BindingType → Type 0
+wordMeans w ty = (least : ℕ) × (ty ≡ bindingTypeOf w least)

@@ -1,40 +1,41 @@
 // The inputs of an entry point against what the stage before provides.
 ghost use mathlib.Core.Path.{_≡_};
 ghost use mathlib.Core.Bool.{_||_};
+ghost use mathlib.Core.List.{[], _∷_};
 ghost use Prim.Native.Nat.{_+_, _<_, _≤_, _^_};
 ghost use lib.ListN.{drop};
 ghost use Rattle.word.specs.Choice.{pick};
 ghost use Rattle.resource.specs.Rules.{sameBool};
+ghost use Rattle.varying.specs.Format.{varOf};
+ghost use Rattle.lists.specs.Meaning.{varyingAt};
 ghost use Rattle.lists.specs.Format.{decodeStage};
-ghost use Rattle.interface.specs.Reads.{varyingWidth, varyings};
+ghost use Rattle.lists.specs.declared.types.Provided.the-variants.{Var};
+ghost use Rattle.interface.specs.Reads.{varying, varyingWidth, varyings};
 ghost use Rattle.stage.specs.Interfaces.{vertexInput, fragmentInput, inputNumber, metLocal, metBuiltIn, startWalk, inputStep, inputSteps};
 use crate::types::InputWalk;
 use crate::types::Walked;
-use interface::reads::varying_at;
+use interface::reads::built_in_of;
 use interface::reads::varying_width;
 use interface::types::BuiltIn;
 use interface::types::ShaderStage;
-use interface::types::Varying;
-use lists::types::Provided;
-use numeric::types::kind_code;
+use lists::stage_io::find_location;
+use lists::types::Found;
 use varying::InterfaceVar;
+use varying::location_filed;
+use varying::var_of;
 use word::answer::Answer;
+use word::content;
+use word::word;
 
-// A vertex input: the scalar kinds agree, and the shader's own is not per primitive.
-fn vertex_input(iv: InterfaceVar, provided: InterfaceVar) -> u32
-    ensures { λ r. ⌜ r ≡ vertexInput iv provided ⌝ }
+// A vertex input by its word and the provided one's: the scalar kinds agree, and the shader's own is not per primitive.
+fn vertex_input(w: u32, provided: u32) -> u32
+    ensures { λ r. ⌜ r ≡ vertexInput (varOf w) (varOf provided) ⌝ }
     ensures { λ r. ⌜ r ≤ 54 ⌝ }
 {
-    let ty = iv.ty;
-    let scalar = ty.scalar;
-    let kind = scalar.kind;
-    let provided_ty = provided.ty;
-    let provided_scalar = provided_ty.scalar;
-    let provided_kind = provided_scalar.kind;
-    if kind_code(kind) != kind_code(provided_kind) {
+    if w / 16 % 4 != provided / 16 % 4 {
         return 51;
     }
-    if iv.per_primitive {
+    if w / 0x4_0000 % 2 == 1 {
         return 54;
     }
     0
@@ -57,8 +58,8 @@ fn per_primitive_use(shader: bool, provided: bool) -> u32
     0
 }
 
-// A fragment input: interpolation, sampling, type and the per-primitive bit, in this order.
-fn fragment_input(iv: InterfaceVar, provided: InterfaceVar) -> u32
+// A fragment input by value: interpolation, sampling, type and the per-primitive bit, in this order.
+fn fragment_values(iv: InterfaceVar, provided: InterfaceVar) -> u32
     ensures { λ r. ⌜ r ≡ fragmentInput iv provided ⌝ }
     ensures { λ r. ⌜ r ≤ 54 ⌝ }
 {
@@ -76,20 +77,39 @@ fn fragment_input(iv: InterfaceVar, provided: InterfaceVar) -> u32
     51
 }
 
-// The refusal of a local input, 0 for none. Compute, task and mesh stages have no local inputs.
-pub fn input_number(stage: ShaderStage, iv: InterfaceVar, provided: Provided) -> u32
-    ensures { λ r. ⌜ r ≡ inputNumber stage iv provided ⌝ }
+// A fragment input by its word and the provided one's, which may be the same.
+fn fragment_input(w: u32, provided: u32) -> u32
+    ensures { λ r. ⌜ r ≡ fragmentInput (varOf w) (varOf provided) ⌝ }
     ensures { λ r. ⌜ r ≤ 54 ⌝ }
 {
-    match provided {
-        Provided::Missing => 50,
-        Provided::Var { var } => match stage {
-            ShaderStage::Vertex => vertex_input(iv, var),
-            ShaderStage::Fragment => fragment_input(iv, var),
-            ShaderStage::Compute => 51,
-            ShaderStage::Task => 51,
-            ShaderStage::Mesh => 51,
-        },
+    if w == provided {
+        return 0;
+    }
+    fragment_values(var_of(w), var_of(provided))
+}
+
+// The refusal of a local input by its word and the provided one's, 0 for none. Compute, task and mesh stages have no local inputs.
+fn provided_number(stage: ShaderStage, w: u32, provided: u32) -> u32
+    ensures { λ r. ⌜ r ≡ inputNumber stage (varOf w) (Var (varOf provided)) ⌝ }
+    ensures { λ r. ⌜ r ≤ 54 ⌝ }
+{
+    match stage {
+        ShaderStage::Vertex => vertex_input(w, provided),
+        ShaderStage::Fragment => fragment_input(w, provided),
+        ShaderStage::Compute => 51,
+        ShaderStage::Task => 51,
+        ShaderStage::Mesh => 51,
+    }
+}
+
+// The refusal of a local input at a location, 0 for none.
+fn input_number(stage: ShaderStage, inputs: &[u32], location: u32, w: u32) -> u32
+    ensures { λ r. ⌜ r ≡ inputNumber stage (varOf w) (varyingAt location (decodeStage (now (inputs .entry)) .varyings)) ⌝ }
+    ensures { λ r. ⌜ r ≤ 54 ⌝ }
+{
+    match find_location(inputs, location) {
+        Found::At { index } => provided_number(stage, w, word(inputs, index)),
+        Found::Nothing => 50,
     }
 }
 
@@ -103,14 +123,14 @@ pub fn either(a: bool, b: bool) -> bool
 }
 
 // The walk past a local input; interpolation 4 is per vertex.
-fn met_local(iv: InterfaceVar, walk: InputWalk) -> InputWalk
+fn met_local(w: u32, walk: InputWalk) -> InputWalk
     requires { ⌜ walk .locals < 2 ^ 31 ⌝ }
-    ensures { λ r. ⌜ r ≡ metLocal iv walk ⌝ }
+    ensures { λ r. ⌜ r ≡ metLocal (varOf w) walk ⌝ }
 {
     InputWalk {
         primitive_index: walk.primitive_index,
         draw_index: walk.draw_index,
-        per_vertex: either(walk.per_vertex, iv.interpolation == 4),
+        per_vertex: either(walk.per_vertex, w / 0x1000 % 8 == 4),
         locals: walk.locals + 1,
     }
 }
@@ -138,30 +158,34 @@ fn met_built_in(built_in: BuiltIn, walk: InputWalk) -> InputWalk
     }
 }
 
-// One input by value: a local one is judged, a built-in one is noted.
-fn input_value(stage: ShaderStage, inputs: &[u32], v: Varying, walk: InputWalk) -> Walked
+// One input by its words: a local one is judged, a built-in one is noted.
+fn input_value(
+    stage: ShaderStage,
+    inputs: &[u32],
+    first: u32,
+    second: u32,
+    walk: InputWalk,
+) -> Walked
     requires { ⌜ walk .locals < 2 ^ 31 ⌝ }
-    ensures { λ r. ⌜ r ≡ inputStep stage (decodeStage (now (inputs .entry)) .varyings) v walk ⌝ }
+    ensures { λ r. ⌜ r ≡ inputStep stage (decodeStage (now (inputs .entry)) .varyings) (varying (first ∷ second ∷ [])) walk ⌝ }
 {
-    match v {
-        Varying::Local { location, iv } => {
-            let provided = lists::stage_io::varying_at(inputs, location);
-            let number = input_number(stage, iv, provided);
-            if number != 0 {
-                return Walked {
-                    walk,
-                    answer: Answer::new(number, location, 0, 0),
-                };
-            }
-            Walked {
-                walk: met_local(iv, walk),
-                answer: Answer::accepted(),
-            }
+    if location_filed(first) {
+        let location = content(first);
+        let number = input_number(stage, inputs, location, second);
+        if number != 0 {
+            return Walked {
+                walk,
+                answer: Answer::new(number, location, 0, 0),
+            };
         }
-        Varying::BuiltIn { built_in } => Walked {
-            walk: met_built_in(built_in, walk),
+        return Walked {
+            walk: met_local(second, walk),
             answer: Answer::accepted(),
-        },
+        };
+    }
+    Walked {
+        walk: met_built_in(built_in_of(first), walk),
+        answer: Answer::accepted(),
     }
 }
 
@@ -169,14 +193,15 @@ fn input_value(stage: ShaderStage, inputs: &[u32], v: Varying, walk: InputWalk) 
 pub(crate) fn input_step(
     stage: ShaderStage,
     inputs: &[u32],
-    v: Varying,
+    first: u32,
+    second: u32,
     walk: &mut InputWalk,
 ) -> Answer
     requires { ⌜ now walk .locals < 2 ^ 31 ⌝ }
-    ensures { λ r. ⌜ (r ≡ inputStep stage (decodeStage (now (inputs .entry)) .varyings) v (now (walk .entry)) .answer)
-        × (now (walk .exit) ≡ inputStep stage (decodeStage (now (inputs .entry)) .varyings) v (now (walk .entry)) .walk) ⌝ }
+    ensures { λ r. ⌜ (r ≡ inputStep stage (decodeStage (now (inputs .entry)) .varyings) (varying (first ∷ second ∷ [])) (now (walk .entry)) .answer)
+        × (now (walk .exit) ≡ inputStep stage (decodeStage (now (inputs .entry)) .varyings) (varying (first ∷ second ∷ [])) (now (walk .entry)) .walk) ⌝ }
 {
-    let step = input_value(stage, inputs, v, *walk);
+    let step = input_value(stage, inputs, first, second, *walk);
     *walk = step.walk;
     step.answer
 }
@@ -210,8 +235,9 @@ pub(crate) fn input_steps(
     let mut at = from;
     let mut left = n;
     while left != 0 {
-        let v = varying_at(pack, at);
-        let answer = input_step(stage, inputs, v, &mut walk);
+        let first = word(pack, at);
+        let second = word(pack, at + 1);
+        let answer = input_step(stage, inputs, first, second, &mut walk);
         if answer.number != 0 {
             return Walked { walk, answer };
         }

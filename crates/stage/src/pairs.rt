@@ -3,123 +3,68 @@ ghost use mathlib.Core.Path.{_≡_};
 ghost use mathlib.Core.Bool.{true};
 ghost use Prim.Native.Nat.{_+_, _<_, _≤_};
 ghost use lib.ListN.{length, take, drop};
-ghost use Rattle.resource.specs.Format.{placeHeld};
-ghost use Rattle.resource.specs.declared.types.BindingType.the-variants as Bind;
+ghost use Rattle.word.specs.Words.{bits};
+ghost use Rattle.resource.specs.Format.{placeHeld, sampleAt, bindingTypeOf};
 ghost use Rattle.lists.specs.Format.{decodeLayout};
 ghost use Rattle.interface.specs.Format.{pairsOf};
-ghost use Rattle.stage.specs.Given.{resourceTable, pairBelow, pairsBelow};
+ghost use Rattle.stage.specs.Given.{resourceTable, pairBelow, pairsBelow, wordMeans};
 ghost use Rattle.stage.specs.Resources.{resourceNth, filtering, sampleNumber, pairNumber, typeAt, pairAnswer, pairUse, pairUses};
 use interface::reads::pair_at;
 use interface::types::SamplingPair;
-use lists::layout::entry;
 use lists::layout::find_entry;
 use lists::types::Found;
+use resource::resource_words::place_of;
 use resource::resource_words::place_word;
-use resource::resource_words::resource_at;
-use resource::types::BindingType;
 use resource::types::ResourceBinding;
-use resource::types::SamplerBindingType;
-use resource::types::TextureSampleType;
 use word::answer::Answer;
 use word::index;
+use word::word;
 
-fn filtering_sampler(ty: SamplerBindingType) -> bool
-    ensures { λ r. ⌜ r ≡ filtering (Bind.Sampler ty) ⌝ }
+// Whether a type word is a filtering sampler's.
+fn filtering(sampler: u32) -> bool
+    ensures { λ r. ⌜ r ≡ filtering (bindingTypeOf sampler 0) ⌝ }
 {
-    match ty {
-        SamplerBindingType::Filtering => true,
-        SamplerBindingType::NonFiltering => false,
-        SamplerBindingType::Comparison => false,
-    }
+    sampler % 0x800_0000 == 0x80_0000
 }
 
-// Whether an entry is a filtering sampler.
-fn filtering(ty: BindingType) -> bool
-    ensures { λ r. ⌜ r ≡ filtering ty ⌝ }
+// What filtering asks of a texture's type word: 32 for a float that is not filterable, 33 for an integer.
+fn sample_number(texture: u32) -> u32
+    ensures { λ r. ⌜ r ≡ sampleNumber (sampleAt (bits 6 4 texture)) ⌝ }
 {
-    match ty {
-        BindingType::Sampler { ty: sampler_type } => filtering_sampler(sampler_type),
-        BindingType::Buffer {
-            ty: _,
-            has_dynamic_offset: _,
-            min_binding_size: _,
-        } => false,
-        BindingType::Texture {
-            sample_type: _,
-            view_dimension: _,
-            multisampled: _,
-        } => false,
-        BindingType::StorageTexture {
-            access: _,
-            format: _,
-            view_dimension: _,
-        } => false,
-        BindingType::ExternalTexture => false,
-        BindingType::AccelerationStructure { vertex_return: _ } => false,
+    let code = texture / 16 % 8;
+    if code == 1 {
+        return 32;
     }
+    if code < 3 {
+        return 0;
+    }
+    33
 }
 
-// What filtering asks of a texture: 32 for a float that is not filterable, 33 for an integer.
-fn sample_number(sample_type: TextureSampleType) -> u32
-    ensures { λ r. ⌜ r ≡ sampleNumber «sample_type» ⌝ }
+// The type words of a texture's entry and of a sampler's entry: 34 where the first is no texture.
+fn pair_number(texture: u32, sampler: u32) -> u32
+    ensures { λ r. ⌜ r ≡ pairNumber (bindingTypeOf texture 0) (bindingTypeOf sampler 0) ⌝ }
 {
-    match sample_type {
-        TextureSampleType::Float { filterable } => {
-            if filterable {
-                return 0;
-            }
-            32
+    let code = texture / 0x80_0000 % 16;
+    if code == 2 {
+        if filtering(sampler) {
+            return sample_number(texture);
         }
-        TextureSampleType::Depth => 0,
-        TextureSampleType::Sint => 33,
-        TextureSampleType::Uint => 33,
+        return 0;
     }
+    if code == 5 {
+        return 0;
+    }
+    34
 }
 
-// A texture's entry with a sampler's entry: 34 where the first is no texture.
-fn pair_number(texture: BindingType, sampler: BindingType) -> u32
-    ensures { λ r. ⌜ r ≡ pairNumber texture sampler ⌝ }
+// The type word of the entry at a place; where there is none, one that is no texture and no sampler.
+fn type_word_at(layout: &[u32], bind: ResourceBinding) -> u32
+    ensures { λ r. ⌜ wordMeans r (typeAt (decodeLayout (now (layout .entry))) bind) ⌝ }
 {
-    match texture {
-        BindingType::Texture {
-            sample_type,
-            view_dimension: _,
-            multisampled: _,
-        } => {
-            if filtering(sampler) {
-                return sample_number(sample_type);
-            }
-            0
-        }
-        BindingType::ExternalTexture => 0,
-        BindingType::Buffer {
-            ty: _,
-            has_dynamic_offset: _,
-            min_binding_size: _,
-        } => 34,
-        BindingType::Sampler { ty: _ } => 34,
-        BindingType::StorageTexture {
-            access: _,
-            format: _,
-            view_dimension: _,
-        } => 34,
-        BindingType::AccelerationStructure { vertex_return: _ } => 34,
-    }
-}
-
-// The type of the entry at a place; where there is none, one that is no texture and no sampler.
-fn type_at(layout: &[u32], bind: ResourceBinding) -> BindingType
-    ensures { λ r. ⌜ r ≡ typeAt (decodeLayout (now (layout .entry))) bind ⌝ }
-{
-    let found = find_entry(layout, bind);
-    match found {
-        Found::At { index } => {
-            let e = entry(layout, index);
-            e.ty
-        }
-        Found::Nothing => BindingType::AccelerationStructure {
-            vertex_return: false,
-        },
+    match find_entry(layout, bind) {
+        Found::At { index } => word(layout, 4 * index + 2),
+        Found::Nothing => 0x9300_0000,
     }
 }
 
@@ -140,8 +85,7 @@ fn place_at(pack: &[u32], offsets: &[u32], i: u32) -> ResourceBinding
     ensures { λ r. ⌜ r ≡ resourceNth (resourceTable (now (pack .entry)) (now (offsets .entry))) i .bind ⌝ }
     ensures { λ r. ⌜ placeHeld r ≡ true ⌝ }
 {
-    let r = resource_at(pack, index(offsets, i as usize));
-    r.bind
+    place_of(word(pack, index(offsets, i as usize)))
 }
 
 // The entries at a texture's and a sampler's place.
@@ -150,7 +94,7 @@ fn places_use(layout: &[u32], texture: ResourceBinding, sampler: ResourceBinding
     ensures { λ r. ⌜ r ≡ pairAnswer (pairNumber (typeAt (decodeLayout (now (layout .entry))) texture) (typeAt (decodeLayout (now (layout .entry))) sampler))
         texture sampler ⌝ }
 {
-    let number = pair_number(type_at(layout, texture), type_at(layout, sampler));
+    let number = pair_number(type_word_at(layout, texture), type_word_at(layout, sampler));
     pair_answer(number, texture, sampler)
 }
 

@@ -27,7 +27,7 @@ use Rattle.word.proofs.Truth.{first, second, either, below-all}
 shape-back : (code : ℕ) → code < 13 → shapeCode (dimensionAt code) ≡ code
 shape-back code h = eqb-true (shapeCode (dimensionAt code)) code (below-all 13 (λ c. eqb (shapeCode (dimensionAt c)) c) refl code h)
 
-kind-back : (code : ℕ) → code < 4 → kindCode (kindAt code) ≡ code
+pub kind-back : (code : ℕ) → code < 4 → kindCode (kindAt code) ≡ code
 kind-back code h = eqb-true (kindCode (kindAt code)) code (below-all 4 (λ c. eqb (kindCode (kindAt c)) c) refl code h)
 
 shape-again : (d : NumericDimension) → dimensionAt (shapeCode d) ≡ d

@@ -1,18 +1,14 @@
-use Rattle.stage.specs.Interfaces.{fragmentInput}
-use Rattle.stage.proofs.InputLaws.{fragment-fits, fragment-type}
-use Rattle.word.proofs.Tests.{tests}
+use Rattle.stage.proofs.InputLaws.{fragment-same, fragment-read}
 use borrow.Author.Needs.{needs}
 use Rattle.stage.proofs.inputs.fragment_input.Statement.{statement}
 use Rattle.stage.proofs.inputs.fragment_input.Tie as tie
 
 pub fragment-input-spec : {M : Type 1} → statement M
-unfolding fragmentInput
 fragment-input-spec =
     tie.close
     (tie.spec
-    (λ c. (search tests, search needs))  -- returns
-    (λ c. (search tests, search needs))  -- returns-2
-    (λ c κs. search needs)  -- fits-requires
-    (λ c κs. search needs)  -- per-primitive-use-requires
-    (λ c. (search fragment-fits, search needs))  -- returns-3
-    (λ c. (search fragment-type, search needs)))  -- returns-4
+    (λ c. (search fragment-same, search needs))  -- returns
+    (λ c κs. search needs)  -- var-of-requires
+    (λ c κs. search needs)  -- var-of-requires-2
+    (λ c κs. search needs)  -- fragment-values-requires
+    (λ c. (search fragment-read, search needs)))  -- returns-2

@@ -52,6 +52,7 @@ use denote.Triple.Table.{entered, cited}
 use denote.Triple.Walked.{says, needs, Stays, stay-none, stay-none-slice, walkOf, goes-none, goes-none-slice, Walks, ends-at, walked, walk-meets}
 use denote.Exit.{yes}
 use borrow.Author.Tests.{eqb-true, eqb-false, eq-eqb, ne-eqb}
+use Rattle.word.specs.Words.{wordAt}
 use Rattle.word.specs.Answers.{accepted}
 use Rattle.word.specs.declared.answer.Answer.{Answer}
 use Rattle.word.proofs.answer.Answer as R
@@ -62,9 +63,6 @@ use Rattle.interface.specs.Reads.{varying, varyingWidth, varyings}
 use Rattle.interface.specs.declared.types.ShaderStage.{ShaderStage}
 use Rattle.interface.proofs.types.ShaderStage as G
 use Rattle.interface.proofs.types.ShaderStage.Laws as G′
-use Rattle.interface.specs.declared.types.Varying.{Varying}
-use Rattle.interface.proofs.types.Varying as Y
-use Rattle.interface.proofs.types.Varying.Laws as Y′
 use Rattle.stage.specs.Interfaces.{startWalk, inputStep, inputSteps}
 use Rattle.stage.specs.declared.types.InputWalk.{InputWalk}
 use Rattle.stage.proofs.types.InputWalk as T
@@ -72,12 +70,13 @@ use Rattle.stage.proofs.types.InputWalk.Laws as T′
 use Rattle.stage.specs.declared.types.Walked.{Walked}
 use Rattle.stage.proofs.types.Walked as S
 use Rattle.stage.proofs.types.Walked.Laws as S′
-use Rattle.stage.proofs.LendLaws.{stage-vals, varying-vals, val, mach, lies, taken}
+use Rattle.stage.proofs.LendLaws.{stage-vals, val, mach, lies, taken}
+use Rattle.stage.proofs.VaryingLaws.{varying-words}
 use Rattle.stage.proofs.InputLaws.{inputs-refused, inputs-onward, inputs-ended, locals-left}
-use Rattle.interface.proofs.reads.varying_at as reads
-use Rattle.interface.proofs.reads.varying_at.Symbol as reads-def
-use Rattle.interface.proofs.reads.varying_at.Symbol.{name as #reads}
-use Rattle.interface.proofs.reads.varying_at.Met as reads-thm
+use Rattle.word.proofs.word as reads
+use Rattle.word.proofs.word.Symbol as reads-def
+use Rattle.word.proofs.word.Symbol.{name as #reads}
+use Rattle.word.proofs.word.Met as reads-thm
 use Rattle.stage.proofs.inputs.input_step as step
 use Rattle.stage.proofs.inputs.input_step.Symbol as step-def
 use Rattle.stage.proofs.inputs.input_step.Symbol.{name as #step}
@@ -128,7 +127,7 @@ more = seq (call #past (copy (place 1 []) ∷ copy (place 7 []) ∷ []) (place 7
 abbrev made : InputWalk → Answer → Walked
 made w a = record { walk = w; answer = a }
 
--- the facts of a record, of a varying and of a result, from those that a call gives of its machine value
+-- the facts of a record and of a result, from those that a call gives of its machine value
 made-is : (w : InputWalk) (a : Answer) (u : List Val) → Is T.the-row w (mach w) → Is R.the-row a u → Is S.the-row (made w a) (LL.vals S.the-type S′.the-laws (made w a))
 made-is w a u is-w is-a = LL.owes S.the-type S′.the-laws (made w a) (is-w, (LL.owes R.the-type R′.the-laws a (LL.owed R.the-type R′.the-laws a u is-a), tt))
 
@@ -183,21 +182,21 @@ module _ {M : Type 1} (𝓤 : URA M) (H : Heap 𝓤) (A : Atoms 𝓤) (W : Given
       nothing ! $ owned ! G.the-row (Is G.the-row) (EL.makes G.the-type G′.the-plain 𝓤 H A) g _ is-g $ fjoin ! $ move ! (2 ∷ 0 ∷ []) $ fjoin ! $ owned ! usize (Is usize) (uint-makes 𝓤 H A W w64) n _ (refl, fits-n) $ fjoin ! $ owned ! usize (Is usize) (uint-makes 𝓤 H A W w64) start _ (refl, fits-start) $ fjoin ! $ move ! (1 ∷ 0 ∷ []) $ fjoin ! $
       owned ! S.the-row (Is S.the-row) (LL.makes S.the-type S′.the-plain 𝓤 H A) r _ is $ move ! (1 ∷ 0 ∷ []) $ done !
 
-  -- ---- the call of `varying_at`, at the position i
+  -- ---- the call of `word`, at the position i
   module _ (i : ℕ) where
     abbrev to-reads : Reads 𝓤 H A at-mem run .Ghost
     to-reads = (((κ, tt), (q, tt), tt, (s, (i, tt)), (slice-vals s, (vint w64 i ∷ [], tt))), tt)
 
-    asked-reads : i < 2 ^ 60 → ent 𝓤 (⋆ 𝓤 H A ((‵ (flft κ q) ⊛ ‵ ftrue) ∷ ‵ Own ∷ [])) (Reads 𝓤 H A at-mem run .pre to-reads)
+    asked-reads : i < 2 ^ 64 → ent 𝓤 (⋆ 𝓤 H A ((‵ (flft κ q) ⊛ ‵ ftrue) ∷ ‵ Own ∷ [])) (Reads 𝓤 H A at-mem run .pre to-reads)
     asked-reads low =
-        qed W ((‵ (flft κ q) ⊛ ‵ ftrue) ∷ ‵ Own ∷ []) ∵ says ! low $ frame ! $ nothing ! $ owned ! usize (Is usize) (uint-makes 𝓤 H A W w64) i _ (refl, (omega (arith, low))) $ fjoin ! $ move ! (1 ∷ 0 ∷ []) $ fjoin ! $ done !
+        qed W ((‵ (flft κ q) ⊛ ‵ ftrue) ∷ ‵ Own ∷ []) ∵ nothing ! $ owned ! usize (Is usize) (uint-makes 𝓤 H A W w64) i _ (refl, low) $ fjoin ! $ move ! (2 ∷ 0 ∷ []) $ fjoin ! $ move ! (1 ∷ 0 ∷ []) $ join ! $ frame ! $ done !
 
-    goes-reads : i < 2 ^ 60 → ent 𝓤 (⋆ 𝓤 H A (‵ (flft κ q) ∷ ‵ Own ∷ [])) (sep 𝓤 (Reads 𝓤 H A at-mem run .pre to-reads) (sem 𝓤 H A Own))
+    goes-reads : i < 2 ^ 64 → ent 𝓤 (⋆ 𝓤 H A (‵ (flft κ q) ∷ ‵ Own ∷ [])) (sep 𝓤 (Reads 𝓤 H A at-mem run .pre to-reads) (sem 𝓤 H A Own))
     goes-reads low =
         qed W (‵ (flft κ q) ∷ ‵ Own ∷ []) ∵ move ! (1 ∷ []) $ use1 W (‵ Own ⊛ ‵ Own) (shr-slice-copy 𝓤 H A W (named 0) κ u32 .twice s (slice-vals s)) $ split ! $ nothing ! $ move ! (3 ∷ 0 ∷ []) $ join ! $ use2 W (raw (Reads 𝓤 H A at-mem run .pre to-reads)) (asked-reads low) $ frame ! $ done !
 
-    said-reads : (r : Varying) → ent 𝓤 (ensured 𝓤 H A reads.ended (reads.clauses 𝓤 H A at-mem run) (κ, tt) (s, (i, tt)) tt r) (fact 𝓤 (r ≡ varying (drop-list i (now s))))
-    said-reads r = exE 𝓤 _ (λ ws. snd∗ 𝓤 (sem 𝓤 H A (lasts reads.ended (κ, tt) (s, (i, tt)) ws)) (fact 𝓤 (r ≡ varying (drop-list i (now s)))))
+    said-reads : (r : ℕ) → ent 𝓤 (ensured 𝓤 H A reads.ended (reads.clauses 𝓤 H A at-mem run) (κ, tt) (s, (i, tt)) tt r) (fact 𝓤 (r ≡ wordAt (now s) i))
+    said-reads r = exE 𝓤 _ (λ ws. snd∗ 𝓤 (sem 𝓤 H A (lasts reads.ended (κ, tt) (s, (i, tt)) ws)) (fact 𝓤 (r ≡ wordAt (now s) i)))
 
   -- ---- the call of `past_input`, at the position i
   module _ (i : ℕ) where
@@ -225,22 +224,22 @@ module _ {M : Type 1} (𝓤 : URA M) (H : Heap 𝓤) (A : Atoms 𝓤) (W : Given
   said-good : (r : Answer) → ent 𝓤 (ensured 𝓤 H A good.ended (good.clauses 𝓤 H A at-mem run) tt tt tt r) (fact 𝓤 (r ≡ accepted))
   said-good r = exE 𝓤 _ (λ ws. snd∗ 𝓤 (sem 𝓤 H A (lasts good.ended tt tt ws)) (fact 𝓤 (r ≡ accepted)))
 
-  -- ---- the call of `input_step` on the input v, with the record h in the block l lent for the lifetime α under the name δ
-  module _ (l : ℕ) (h : InputWalk) (v : Varying) where
+  -- ---- the call of `input_step` on the input of the words y and z, with the record h in the block l lent for the lifetime α under the name δ
+  module _ (l : ℕ) (h : InputWalk) (y z : ℕ) where
     abbrev Lent : ℕ → GName → Fml
     Lent α δ = MutRef (named 1) (α ∷ []) T.the-row .own (record { ptr = (l, 0); name = δ; now = h }) (vptr l 0 ∷ [])
 
-    abbrev sent : GName → ShaderStage × (RefT (List ℕ) × (Varying × (RefT InputWalk × Unit {0})))
-    sent δ = (g, (s′, (v, (record { ptr = (l, 0); name = δ; now = h }, tt))))
+    abbrev sent : GName → ShaderStage × (RefT (List ℕ) × (ℕ × (ℕ × (RefT InputWalk × Unit {0}))))
+    sent δ = (g, (s′, (y, (z, (record { ptr = (l, 0); name = δ; now = h }, tt)))))
 
     abbrev to-step : ℕ → GName → Step 𝓤 H A at-mem run .Ghost
-    to-step α δ = (((κ′, (α ∷ [], tt)), (q′, (fullShare, tt)), tt, sent δ, (stage-vals g, (slice-vals s′, (varying-vals v, (vptr l 0 ∷ [], tt))))), tt)
+    to-step α δ = (((κ′, (α ∷ [], tt)), (q′, (fullShare, tt)), tt, sent δ, (stage-vals g, (slice-vals s′, (vint w32 y ∷ [], (vint w32 z ∷ [], (vptr l 0 ∷ [], tt)))))), tt)
 
-    module _ (is-v : Is Y.the-row v (varying-vals v)) (few : h .locals < 2 ^ 31) where
+    module _ (fits-y : y < 2 ^ 32) (fits-z : z < 2 ^ 32) (few : h .locals < 2 ^ 31) where
       asked-step : (α : ℕ) (δ : GName) → ent 𝓤 (⋆ 𝓤 H A ((‵ (flft κ′ q′) ⊛ ‵ (flft (α ∷ []) fullShare) ⊛ ‵ ftrue) ∷ ‵ (Lent α δ) ∷ ‵ Own′ ∷ [])) (Step 𝓤 H A at-mem run .pre (to-step α δ))
       asked-step α δ =
           qed W ((‵ (flft κ′ q′) ⊛ ‵ (flft (α ∷ []) fullShare) ⊛ ‵ ftrue) ∷ ‵ (Lent α δ) ∷ ‵ Own′ ∷ []) ∵ says ! few $ frame ! $ nothing ! $ move ! (1 ∷ 0 ∷ []) $ fjoin ! $
-          owned ! Y.the-row (Is Y.the-row) (EL.makes Y.the-type Y′.the-plain 𝓤 H A) v _ is-v $ fjoin ! $ move ! (1 ∷ 0 ∷ []) $ fjoin ! $ owned ! G.the-row (Is G.the-row) (EL.makes G.the-type G′.the-plain 𝓤 H A) g _ is-g $ fjoin ! $ done !
+          owned ! u32 (Is u32) (uint-makes 𝓤 H A W w32) z _ (refl, fits-z) $ fjoin ! $ owned ! u32 (Is u32) (uint-makes 𝓤 H A W w32) y _ (refl, fits-y) $ fjoin ! $ move ! (1 ∷ 0 ∷ []) $ fjoin ! $ owned ! G.the-row (Is G.the-row) (EL.makes G.the-type G′.the-plain 𝓤 H A) g _ is-g $ fjoin ! $ done !
 
       goes-step : (α : ℕ) (δ : GName) → ent 𝓤 (⋆ 𝓤 H A (‵ (flft κ′ q′) ∷ ‵ Own′ ∷ (‵ (flft (α ∷ []) fullShare) ⊛ ‵ (Lent α δ)) ∷ [])) (sep 𝓤 (Step 𝓤 H A at-mem run .pre (to-step α δ)) (sem 𝓤 H A Own′))
       goes-step α δ =
@@ -248,7 +247,7 @@ module _ {M : Type 1} (𝓤 : URA M) (H : Heap 𝓤) (A : Atoms 𝓤) (W : Given
           move ! (3 ∷ []) $ split ! $ nothing ! $ move ! (1 ∷ 0 ∷ []) $ join ! $ move ! (4 ∷ 0 ∷ []) $ join ! $ use3 W (raw (Step 𝓤 H A at-mem run .pre (to-step α δ))) (asked-step α δ) $ frame ! $ done !
 
     abbrev Ensured : Answer → InputWalk → Type 0
-    Ensured r w = (r ≡ inputStep g provided v h .answer) × (w ≡ inputStep g provided v h .walk)
+    Ensured r w = (r ≡ inputStep g provided (varying (y ∷ z ∷ [])) h .answer) × (w ≡ inputStep g provided (varying (y ∷ z ∷ [])) h .walk)
 
   -- ---- the loop
   -- what a turn begins with
@@ -267,7 +266,7 @@ module _ {M : Type 1} (𝓤 : URA M) (H : Heap 𝓤) (A : Atoms 𝓤) (W : Given
   Nearer-wf : WellFounded Nearer
   Nearer-wf = InvImage·wf (λ (a : State). a .0) (Nat·lt-wfRel .wf)
 
-  module _ (𝓣 : Tables 𝓤 H) (known-reads : Triple 𝓤 (𝓣 .C #reads) (Reads 𝓤 H A at-mem run)) (known-step : Triple 𝓤 (𝓣 .C #step) (Step 𝓤 H A at-mem run)) (known-past : Triple 𝓤 (𝓣 .C #past) (Past 𝓤 H A at-mem run)) (known-good : Triple 𝓤 (𝓣 .C #good) (Good 𝓤 H A at-mem run)) (l₀ l₁ l₂ l₃ l₄ l₅ l₆ l₇ l₈ l₉ l₁₀ l₁₁ l₁₂ l₁₃ l₁₄ l₁₅ : ℕ) where
+  module _ (𝓣 : Tables 𝓤 H) (known-reads : Triple 𝓤 (𝓣 .C #reads) (Reads 𝓤 H A at-mem run)) (known-step : Triple 𝓤 (𝓣 .C #step) (Step 𝓤 H A at-mem run)) (known-past : Triple 𝓤 (𝓣 .C #past) (Past 𝓤 H A at-mem run)) (known-good : Triple 𝓤 (𝓣 .C #good) (Good 𝓤 H A at-mem run)) (l₀ l₁ l₂ l₃ l₄ l₅ l₆ l₇ l₈ l₉ l₁₀ l₁₁ l₁₂ l₁₃ l₁₄ l₁₅ l₁₆ l₁₇ : ℕ) where
     abbrev C : Calls 𝓤 H
     C = 𝓣 .C
 
@@ -275,11 +274,11 @@ module _ {M : Type 1} (𝓤 : URA M) (H : Heap 𝓤) (A : Atoms 𝓤) (W : Given
     Λ = 𝓣 .Λ
 
     abbrev En : Env 𝓤 H
-    En = (S′.mir, l₀) ∷ (slice 0, l₁) ∷ (word, l₂) ∷ (word, l₃) ∷ (slice 1, l₄) ∷ (G′.mir, l₅) ∷ (T′.mir, l₆) ∷ (word, l₇) ∷ (word, l₈) ∷ (Y′.mir, l₉) ∷ (R′.mir, l₁₀) ∷ (tyBool, l₁₁) ∷ (ref, l₁₂) ∷ (T′.mir, l₁₃) ∷ (T′.mir, l₁₄) ∷ (R′.mir, l₁₅) ∷ []
+    En = (S′.mir, l₀) ∷ (slice 0, l₁) ∷ (word, l₂) ∷ (word, l₃) ∷ (slice 1, l₄) ∷ (G′.mir, l₅) ∷ (T′.mir, l₆) ∷ (word, l₇) ∷ (word, l₈) ∷ (tyInt w32, l₉) ∷ (tyInt w32, l₁₀) ∷ (R′.mir, l₁₁) ∷ (tyBool, l₁₂) ∷ (word, l₁₃) ∷ (ref, l₁₄) ∷ (T′.mir, l₁₅) ∷ (T′.mir, l₁₆) ∷ (R′.mir, l₁₇) ∷ []
 
     abbrev At : State → List (Item 𝓤)
     At st =
-        ‵ (froom R′.mir l₁₅ 0) ∷ ‵ (fdies R′.mir l₁₅) ∷ ‵ (froom T′.mir l₁₄ 0) ∷ ‵ (fdies T′.mir l₁₄) ∷ ‵ (froom T′.mir l₁₃ 0) ∷ ‵ (fdies T′.mir l₁₃) ∷ ‵ (froom ref l₁₂ 0) ∷ ‵ (fdies ref l₁₂) ∷ ‵ (froom tyBool l₁₁ 0) ∷ ‵ (fdies tyBool l₁₁) ∷ ‵ (froom R′.mir l₁₀ 0) ∷ ‵ (fdies R′.mir l₁₀) ∷ ‵ (froom Y′.mir l₉ 0) ∷ ‵ (fdies Y′.mir l₉) ∷ ‵ (fat fullShare word l₈ 0 (vint w64 (st .0))) ∷ ‵ (fdies word l₈) ∷ ‵ (fat fullShare word l₇ 0 (vint w64 (st .1 .0))) ∷ ‵ (fdies word l₇) ∷ ‵ (fat fullShare T′.mir l₆ 0 (val (st .1 .1 .0))) ∷ ‵ (fdies T′.mir l₆) ∷ ‵ (fat fullShare G′.mir l₅ 0 (EL.val G.the-type G′.the-laws g)) ∷ ‵ (fdies G′.mir l₅) ∷ ‵ (fat fullShare (slice 1) l₄ 0 (sliceVal (s′ .ptr) (length (s′ .now)))) ∷ ‵ (fdies (slice 1) l₄) ∷ ‵ (fat fullShare word l₃ 0 (vint w64 n)) ∷ ‵ (fdies word l₃) ∷ ‵ (fat fullShare word l₂ 0 (vint w64 start)) ∷ ‵ (fdies word l₂) ∷ ‵ (fat fullShare (slice 0) l₁ 0 (sliceVal (s .ptr) (length (s .now)))) ∷ ‵ (fdies (slice 0) l₁) ∷ ‵ (froom S′.mir l₀ 0) ∷ ‵ (fdies S′.mir l₀) ∷ ‵ Own ∷ ‵ Own′ ∷ ‵ (flft κ q) ∷ ‵ (flft κ′ q′) ∷ []
+        ‵ (froom R′.mir l₁₇ 0) ∷ ‵ (fdies R′.mir l₁₇) ∷ ‵ (froom T′.mir l₁₆ 0) ∷ ‵ (fdies T′.mir l₁₆) ∷ ‵ (froom T′.mir l₁₅ 0) ∷ ‵ (fdies T′.mir l₁₅) ∷ ‵ (froom ref l₁₄ 0) ∷ ‵ (fdies ref l₁₄) ∷ ‵ (froom word l₁₃ 0) ∷ ‵ (fdies word l₁₃) ∷ ‵ (froom tyBool l₁₂ 0) ∷ ‵ (fdies tyBool l₁₂) ∷ ‵ (froom R′.mir l₁₁ 0) ∷ ‵ (fdies R′.mir l₁₁) ∷ ‵ (froom (tyInt w32) l₁₀ 0) ∷ ‵ (fdies (tyInt w32) l₁₀) ∷ ‵ (froom (tyInt w32) l₉ 0) ∷ ‵ (fdies (tyInt w32) l₉) ∷ ‵ (fat fullShare word l₈ 0 (vint w64 (st .0))) ∷ ‵ (fdies word l₈) ∷ ‵ (fat fullShare word l₇ 0 (vint w64 (st .1 .0))) ∷ ‵ (fdies word l₇) ∷ ‵ (fat fullShare T′.mir l₆ 0 (val (st .1 .1 .0))) ∷ ‵ (fdies T′.mir l₆) ∷ ‵ (fat fullShare G′.mir l₅ 0 (EL.val G.the-type G′.the-laws g)) ∷ ‵ (fdies G′.mir l₅) ∷ ‵ (fat fullShare (slice 1) l₄ 0 (sliceVal (s′ .ptr) (length (s′ .now)))) ∷ ‵ (fdies (slice 1) l₄) ∷ ‵ (fat fullShare word l₃ 0 (vint w64 n)) ∷ ‵ (fdies word l₃) ∷ ‵ (fat fullShare word l₂ 0 (vint w64 start)) ∷ ‵ (fdies word l₂) ∷ ‵ (fat fullShare (slice 0) l₁ 0 (sliceVal (s .ptr) (length (s .now)))) ∷ ‵ (fdies (slice 0) l₁) ∷ ‵ (froom S′.mir l₀ 0) ∷ ‵ (fdies S′.mir l₀) ∷ ‵ Own ∷ ‵ Own′ ∷ ‵ (flft κ q) ∷ ‵ (flft κ′ q′) ∷ []
 
     -- a turn's postcondition: it ends with fewer inputs left, or the loop is left and the rest of the body runs
     abbrev Turned : State → Out → SProp 𝓤
@@ -289,67 +288,74 @@ module _ {M : Type 1} (𝓤 : URA M) (H : Heap 𝓤) (A : Atoms 𝓤) (W : Given
     leaves : (st : State) → st .0 ≡ 0 → Sq W (At st) (runs C Λ En pieces.turn-1 (anyQ (Turned st)))
     unfolding afterTurn
     leaves st none =
-        assigns ! (bin ! (load ! (from ! (stop !)) (look ! 14 refl)) (lit ! tt) tt) (from ! (stop !)) (init ! 8 refl (tt, tt)) $
-        rewrite ! 8 (λ (t : Bool). ‵ (fat fullShare tyBool l₁₁ 0 (vbool t))) (ap not (eq-eqb (st .0) 0 none)) refl $ leaves-loop ! (load ! (from ! (stop !)) (look ! 8 refl)) $ exec ! C Λ En pieces.t-5 (atRet En Post) $
-        assigns ! (of-opd ! (load ! (from ! (stop !)) (look ! 18 refl))) (from ! (stop !)) (init ! 2 refl (LL.lawful T.the-type T′.the-laws 𝓤 H A W .typed (st .1 .1 .0) _ (st .1 .1 .1 .1 .1 .0) .0)) $
+        assigns ! (bin ! (load ! (from ! (stop !)) (look ! 18 refl)) (lit ! tt) tt) (from ! (stop !)) (init ! 10 refl (tt, tt)) $
+        rewrite ! 10 (λ (t : Bool). ‵ (fat fullShare tyBool l₁₂ 0 (vbool t))) (ap not (eq-eqb (st .0) 0 none)) refl $ leaves-loop ! (load ! (from ! (stop !)) (look ! 10 refl)) $ exec ! C Λ En pieces.t-5 (atRet En Post) $
+        assigns ! (of-opd ! (load ! (from ! (stop !)) (look ! 22 refl))) (from ! (stop !)) (init ! 2 refl (LL.lawful T.the-type T′.the-laws 𝓤 H A W .typed (st .1 .1 .0) _ (st .1 .1 .1 .1 .1 .0) .0)) $
         use0 W (raw (Good 𝓤 H A at-mem run .pre to-good)) goes-good $ calls-at ! (fmOf 𝓤 H (W .laws) 𝓣) (Good 𝓤 H A at-mem run) known-good to-good (no-more !) (λ m.
         use1 W (later (some (λ (r : Answer). (‵ ftrue ⊛ ‵ (R.the-row .own r (m ∷ []))) ⊛ raw (ensured 𝓤 H A good.ended (good.clauses 𝓤 H A at-mem run) tt tt tt r)))) (id⊢ 𝓤 _) $ await ! tt $ pick ! (λ r.
         split ! $ move ! (1 ∷ []) $ use1 W (raw (fact 𝓤 (r ≡ accepted))) (said-good r) $ heard ! (r ≡ accepted) (λ e. split ! $ drop ! $ peeks ! R.the-row (Is R.the-row) (shows 𝓤 H A R.the-row) r (m ∷ []) (λ is. drop ! $
-        land ! (from ! (stop !)) (init ! 0 refl (LL.lawful R.the-type R′.the-laws 𝓤 H A W .typed r _ is .0)) $ rewrite ! 0 (λ (w : Val). ‵ (fat fullShare R′.mir l₁₅ 0 w)) (ap only (LL.tells R.the-type R′.the-laws r _ is)) refl $
-        assigns ! (agg ! (and-then ! (load ! (from ! (stop !)) (look ! 2 refl)) (and-then ! (load ! (from ! (stop !)) (look ! 0 refl)) (no-more !)))) (from ! (stop !)) (init ! 30 refl (LL.lawful S.the-type S′.the-laws 𝓤 H A W .typed (made (st .1 .1 .0) r) _ (made-is (st .1 .1 .0) r (m ∷ []) (st .1 .1 .1 .1 .1 .0) is) .0)) $
-        returns ! (look ! 30 refl) $ forget ! 0 refl $ forget ! 2 refl $ forget ! 8 refl $ forget ! 14 refl $ forget ! 16 refl $ forget ! 18 refl $ forget ! 20 refl $ forget ! 22 refl $ forget ! 24 refl $ forget ! 26 refl $ forget ! 28 refl $ forget ! 30 refl $
-        move ! (30 ∷ 31 ∷ []) $ free1 ! $ move ! (28 ∷ 29 ∷ []) $ free1 ! $ move ! (26 ∷ 27 ∷ []) $ free1 ! $ move ! (24 ∷ 25 ∷ []) $ free1 ! $ move ! (22 ∷ 23 ∷ []) $ free1 ! $ move ! (20 ∷ 21 ∷ []) $ free1 ! $ move ! (18 ∷ 19 ∷ []) $ free1 ! $ move ! (16 ∷ 17 ∷ []) $ free1 ! $ move ! (14 ∷ 15 ∷ []) $ free1 ! $ move ! (12 ∷ 13 ∷ []) $ free1 ! $ move ! (10 ∷ 11 ∷ []) $ free1 ! $ move ! (8 ∷ 9 ∷ []) $ free1 ! $ move ! (6 ∷ 7 ∷ []) $ free1 ! $ move ! (4 ∷ 5 ∷ []) $ free1 ! $ move ! (2 ∷ 3 ∷ []) $ free1 ! $ move ! (0 ∷ 1 ∷ []) $ free1 ! $ free0 ! $
+        land ! (from ! (stop !)) (init ! 0 refl (LL.lawful R.the-type R′.the-laws 𝓤 H A W .typed r _ is .0)) $ rewrite ! 0 (λ (w : Val). ‵ (fat fullShare R′.mir l₁₇ 0 w)) (ap only (LL.tells R.the-type R′.the-laws r _ is)) refl $
+        assigns ! (agg ! (and-then ! (load ! (from ! (stop !)) (look ! 2 refl)) (and-then ! (load ! (from ! (stop !)) (look ! 0 refl)) (no-more !)))) (from ! (stop !)) (init ! 34 refl (LL.lawful S.the-type S′.the-laws 𝓤 H A W .typed (made (st .1 .1 .0) r) _ (made-is (st .1 .1 .0) r (m ∷ []) (st .1 .1 .1 .1 .1 .0) is) .0)) $
+        returns ! (look ! 34 refl) $ forget ! 0 refl $ forget ! 2 refl $ forget ! 10 refl $ forget ! 18 refl $ forget ! 20 refl $ forget ! 22 refl $ forget ! 24 refl $ forget ! 26 refl $ forget ! 28 refl $ forget ! 30 refl $ forget ! 32 refl $ forget ! 34 refl $
+        move ! (34 ∷ 35 ∷ []) $ free1 ! $ move ! (32 ∷ 33 ∷ []) $ free1 ! $ move ! (30 ∷ 31 ∷ []) $ free1 ! $ move ! (28 ∷ 29 ∷ []) $ free1 ! $ move ! (26 ∷ 27 ∷ []) $ free1 ! $ move ! (24 ∷ 25 ∷ []) $ free1 ! $ move ! (22 ∷ 23 ∷ []) $ free1 ! $ move ! (20 ∷ 21 ∷ []) $ free1 ! $ move ! (18 ∷ 19 ∷ []) $ free1 ! $ move ! (16 ∷ 17 ∷ []) $ free1 ! $ move ! (14 ∷ 15 ∷ []) $ free1 ! $ move ! (12 ∷ 13 ∷ []) $ free1 ! $ move ! (10 ∷ 11 ∷ []) $ free1 ! $ move ! (8 ∷ 9 ∷ []) $ free1 ! $ move ! (6 ∷ 7 ∷ []) $ free1 ! $ move ! (4 ∷ 5 ∷ []) $ free1 ! $ move ! (2 ∷ 3 ∷ []) $ free1 ! $ move ! (0 ∷ 1 ∷ []) $ free1 ! $ free0 ! $
         keep ! (2 ∷ 3 ∷ 0 ∷ 1 ∷ []) $ by ! (exits (made (st .1 .1 .0) r) _ (made-is (st .1 .1 .0) r (m ∷ []) (st .1 .1 .1 .1 .1 .0) is) (inputs-ended g provided (now s) (st .0) (st .1 .0) (st .1 .1 .0) goal (st .1 .1 .1 .1 .1 .1) r none e))))))
 
     -- a turn that steps
     goes-on : (st : State) → (st .0 ≡ 0 → ⊥) → Sq W (At st) (runs C Λ En pieces.turn-1 (anyQ (Turned st)))
     unfolding afterTurn
     goes-on st more-left =
-        assigns ! (bin ! (load ! (from ! (stop !)) (look ! 14 refl)) (lit ! tt) tt) (from ! (stop !)) (init ! 8 refl (tt, tt)) $
-        rewrite ! 8 (λ (t : Bool). ‵ (fat fullShare tyBool l₁₁ 0 (vbool t))) (ap not (ne-eqb k 0 more-left)) refl $ stays ! (load ! (from ! (stop !)) (look ! 8 refl)) $
+        assigns ! (bin ! (load ! (from ! (stop !)) (look ! 18 refl)) (lit ! tt) tt) (from ! (stop !)) (init ! 10 refl (tt, tt)) $
+        rewrite ! 10 (λ (t : Bool). ‵ (fat fullShare tyBool l₁₂ 0 (vbool t))) (ap not (ne-eqb k 0 more-left)) refl $ stays ! (load ! (from ! (stop !)) (look ! 10 refl)) $
         -- [the locals; what the pack owns; what the inputs own; the pack's token; the inputs' token]
-        -- the next input is read
-        move ! (34 ∷ 32 ∷ []) $ use2 W (raw (Reads 𝓤 H A at-mem run .pre (to-reads i)) ⊛ ‵ Own) (goes-reads i low) $ split ! $
-        calls-at ! (fmOf 𝓤 H (W .laws) 𝓣) (Reads 𝓤 H A at-mem run) known-reads (to-reads i) (and-then ! (load ! (from ! (stop !)) (look ! 30 refl)) (and-then ! (load ! (from ! (stop !)) (look ! 18 refl)) (no-more !))) (λ m.
-        use1 W (later (some (λ (r : Varying). ((‵ (flft κ q) ⊛ ‵ ftrue) ⊛ ‵ (Y.the-row .own r (m ∷ []))) ⊛ raw (ensured 𝓤 H A reads.ended (reads.clauses 𝓤 H A at-mem run) (κ, tt) (s, (i, tt)) tt r)))) (id⊢ 𝓤 _) $ await ! tt $ pick ! (λ v.
-        split ! $ move ! (1 ∷ []) $ use1 W (raw (fact 𝓤 (v ≡ varying (drop-list i (now s))))) (said-reads i v) $ heard ! (v ≡ varying (drop-list i (now s))) (λ ev. split ! $ move ! (1 ∷ []) $ peeks ! Y.the-row (Is Y.the-row) (shows 𝓤 H A Y.the-row) v (m ∷ []) (λ is. drop ! $ split ! $ move ! (1 ∷ []) $ drop ! $
+        -- the next input's two words are read
+        move ! (38 ∷ 36 ∷ []) $ use2 W (raw (Reads 𝓤 H A at-mem run .pre (to-reads i)) ⊛ ‵ Own) (goes-reads i (omega (arith, low))) $ split ! $
+        calls-at ! (fmOf 𝓤 H (W .laws) 𝓣) (Reads 𝓤 H A at-mem run) known-reads (to-reads i) (and-then ! (load ! (from ! (stop !)) (look ! 34 refl)) (and-then ! (load ! (from ! (stop !)) (look ! 22 refl)) (no-more !))) (λ m₁.
+        use1 W (later (some (λ (r : ℕ). ((‵ (flft κ q) ⊛ ‵ ftrue) ⊛ ‵ (u32 .own r (m₁ ∷ []))) ⊛ raw (ensured 𝓤 H A reads.ended (reads.clauses 𝓤 H A at-mem run) (κ, tt) (s, (i, tt)) tt r)))) (id⊢ 𝓤 _) $ await ! tt $ pick ! (λ y.
+        split ! $ move ! (1 ∷ []) $ use1 W (raw (fact 𝓤 (y ≡ wordAt (now s) i))) (said-reads i y) $ heard ! (y ≡ wordAt (now s) i) (λ ey. split ! $ move ! (1 ∷ []) $ peeks ! u32 (Is u32) (shows 𝓤 H A u32) y (m₁ ∷ []) (λ is-y. drop ! $ split ! $ move ! (1 ∷ []) $ drop ! $
         -- [the pack's token; what the pack owns; the locals; what the inputs own; the inputs' token]
-        land ! (from ! (stop !)) (init ! 14 refl (EL.lawful Y.the-type Y′.the-laws 𝓤 H A W tt .typed v _ is .0)) $ rewrite ! 14 (λ (w : Val). ‵ (fat fullShare Y′.mir l₉ 0 w)) (ap only (EL.tells Y.the-type Y′.the-laws v _ is)) refl $
+        land ! (from ! (stop !)) (init ! 18 refl (uint-lawful 𝓤 H A W w32 .typed y _ is-y .0)) $ rewrite ! 18 (λ (w : Val). ‵ (fat fullShare (tyInt w32) l₉ 0 w)) (ap only (is-y .0)) refl $
+        assigns ! (bin ! (load ! (from ! (stop !)) (look ! 22 refl)) (lit ! tt) (record { fits = omega (arith, low) })) (from ! (stop !)) (init ! 10 refl (tt, record { fits = omega (arith, low) })) $
+        move ! (0 ∷ 1 ∷ []) $ use2 W (raw (Reads 𝓤 H A at-mem run .pre (to-reads (i + 1))) ⊛ ‵ Own) (goes-reads (i + 1) (omega (arith, low))) $ split ! $
+        calls-at ! (fmOf 𝓤 H (W .laws) 𝓣) (Reads 𝓤 H A at-mem run) known-reads (to-reads (i + 1)) (and-then ! (load ! (from ! (stop !)) (look ! 34 refl)) (and-then ! (load ! (from ! (stop !)) (look ! 10 refl)) (no-more !))) (λ m₂.
+        use1 W (later (some (λ (r : ℕ). ((‵ (flft κ q) ⊛ ‵ ftrue) ⊛ ‵ (u32 .own r (m₂ ∷ []))) ⊛ raw (ensured 𝓤 H A reads.ended (reads.clauses 𝓤 H A at-mem run) (κ, tt) (s, ((i + 1), tt)) tt r)))) (id⊢ 𝓤 _) $ await ! tt $ pick ! (λ z.
+        split ! $ move ! (1 ∷ []) $ use1 W (raw (fact 𝓤 (z ≡ wordAt (now s) (i + 1)))) (said-reads (i + 1) z) $ heard ! (z ≡ wordAt (now s) (i + 1)) (λ ez. split ! $ move ! (1 ∷ []) $ peeks ! u32 (Is u32) (shows 𝓤 H A u32) z (m₂ ∷ []) (λ is-z. drop ! $ split ! $ move ! (1 ∷ []) $ drop ! $
+        -- [the pack's token; what the pack owns; the locals; what the inputs own; the inputs' token]
+        land ! (from ! (stop !)) (init ! 16 refl (uint-lawful 𝓤 H A W w32 .typed z _ is-z .0)) $ rewrite ! 16 (λ (w : Val). ‵ (fat fullShare (tyInt w32) l₁₀ 0 w)) (ap only (is-z .0)) refl $
         assigns ! (addr ! (from ! (stop !))) (from ! (stop !)) (init ! 8 refl (tt, tt)) $
         -- the record is lent for a new lifetime
-        move ! (20 ∷ []) $ use1 W (‵ (partAt T.the-row fullShare h l₆ 0)) (lies 𝓤 H A W h l₆ is-h) $ lft-new ! tt (λ α. move ! (1 ∷ []) $
-        use1 W (later (some (λ (δ : GName). ‵ (Lent l₆ h v α δ) ⊛ ‵ (flent (α ∷ []) (Held (mem T.the-row) l₆ 0 δ))))) (lends-ref 𝓤 H A W T.the-row (named 1) (α ∷ []) h l₆ 0) $ await ! tt $ pick ! (λ δ. split ! $
-        move ! (2 ∷ 0 ∷ []) $ join ! $ move ! (36 ∷ 35 ∷ 0 ∷ []) $ use3 W (raw (Step 𝓤 H A at-mem run .pre (to-step l₆ h v α δ)) ⊛ ‵ Own′) (goes-step l₆ h v (varying-is v m is) few α δ) $ split ! $
+        move ! (24 ∷ []) $ use1 W (‵ (partAt T.the-row fullShare h l₆ 0)) (lies 𝓤 H A W h l₆ is-h) $ lft-new ! tt (λ α. move ! (1 ∷ []) $
+        use1 W (later (some (λ (δ : GName). ‵ (Lent l₆ h y z α δ) ⊛ ‵ (flent (α ∷ []) (Held (mem T.the-row) l₆ 0 δ))))) (lends-ref 𝓤 H A W T.the-row (named 1) (α ∷ []) h l₆ 0) $ await ! tt $ pick ! (λ δ. split ! $
+        move ! (2 ∷ 0 ∷ []) $ join ! $ move ! (40 ∷ 39 ∷ 0 ∷ []) $ use3 W (raw (Step 𝓤 H A at-mem run .pre (to-step l₆ h y z α δ)) ⊛ ‵ Own′) (goes-step l₆ h y z (is-y .1) (is-z .1) few α δ) $ split ! $
         -- [what the callee asks; what the inputs own; the lender's part; the pack's token; what the pack owns; the locals without _6]
-        calls-at ! (fmOf 𝓤 H (W .laws) 𝓣) (Step 𝓤 H A at-mem run) known-step (to-step l₆ h v α δ) (and-then ! (load ! (from ! (stop !)) (look ! 24 refl)) (and-then ! (load ! (from ! (stop !)) (look ! 26 refl)) (and-then ! (load ! (from ! (stop !)) (look ! 17 refl)) (and-then ! (load ! (from ! (stop !)) (look ! 11 refl)) (no-more !))))) (λ m′.
-        use1 W (later (some (λ (r : Answer). ((‵ (flft κ′ q′) ⊛ ‵ (flft (α ∷ []) fullShare) ⊛ ‵ ftrue) ⊛ ‵ (R.the-row .own r (m′ ∷ []))) ⊛ raw (ensured 𝓤 H A step.ended (step.clauses 𝓤 H A at-mem run) (κ′, (α ∷ [], tt)) (sent l₆ h v δ) tt r)))) (id⊢ 𝓤 _) $ await ! tt $ pick ! (λ r.
-        split ! $ move ! (1 ∷ []) $ use1 W (some (λ (ws : Unit {0} × (Unit {0} × (Unit {0} × (InputWalk × Unit {0})))). ‵ (lasts step.ended (κ′, (α ∷ [], tt)) (sent l₆ h v δ) ws) ⊛ raw (fact 𝓤 (Ensured l₆ h v r (ws .1 .1 .1 .0))))) (id⊢ 𝓤 _) $ pick ! (λ ws.
-        split ! $ move ! (1 ∷ []) $ heard ! (Ensured l₆ h v r (ws .1 .1 .1 .0)) (λ e. fsplit ! $ drop ! $ fsplit ! $ drop ! $ fsplit ! $ drop ! $ fsplit ! $ move ! (1 ∷ []) $ drop ! $ move ! (1 ∷ []) $ split ! $ move ! (1 ∷ []) $ peeks ! R.the-row (Is R.the-row) (shows 𝓤 H A R.the-row) r (m′ ∷ []) (λ is-r. drop ! $
+        calls-at ! (fmOf 𝓤 H (W .laws) 𝓣) (Step 𝓤 H A at-mem run) known-step (to-step l₆ h y z α δ) (and-then ! (load ! (from ! (stop !)) (look ! 28 refl)) (and-then ! (load ! (from ! (stop !)) (look ! 30 refl)) (and-then ! (load ! (from ! (stop !)) (look ! 21 refl)) (and-then ! (load ! (from ! (stop !)) (look ! 19 refl)) (and-then ! (load ! (from ! (stop !)) (look ! 11 refl)) (no-more !)))))) (λ m′.
+        use1 W (later (some (λ (r : Answer). ((‵ (flft κ′ q′) ⊛ ‵ (flft (α ∷ []) fullShare) ⊛ ‵ ftrue) ⊛ ‵ (R.the-row .own r (m′ ∷ []))) ⊛ raw (ensured 𝓤 H A step.ended (step.clauses 𝓤 H A at-mem run) (κ′, (α ∷ [], tt)) (sent l₆ h y z δ) tt r)))) (id⊢ 𝓤 _) $ await ! tt $ pick ! (λ r.
+        split ! $ move ! (1 ∷ []) $ use1 W (some (λ (ws : Unit {0} × (Unit {0} × (Unit {0} × (Unit {0} × (InputWalk × Unit {0}))))). ‵ (lasts step.ended (κ′, (α ∷ [], tt)) (sent l₆ h y z δ) ws) ⊛ raw (fact 𝓤 (Ensured l₆ h y z r (ws .1 .1 .1 .1 .0))))) (id⊢ 𝓤 _) $ pick ! (λ ws.
+        split ! $ move ! (1 ∷ []) $ heard ! (Ensured l₆ h y z r (ws .1 .1 .1 .1 .0)) (λ e. fsplit ! $ drop ! $ fsplit ! $ drop ! $ fsplit ! $ drop ! $ fsplit ! $ drop ! $ fsplit ! $ move ! (1 ∷ []) $ drop ! $ move ! (1 ∷ []) $ split ! $ move ! (1 ∷ []) $ peeks ! R.the-row (Is R.the-row) (shows 𝓤 H A R.the-row) r (m′ ∷ []) (λ is-r. drop ! $
         -- [the two tokens; the last record; what the inputs own; the lender's part; the pack's token; what the pack owns; the locals without _6]
-        land ! (from ! (stop !)) (init ! 16 refl (LL.lawful R.the-type R′.the-laws 𝓤 H A W .typed r _ is-r .0)) $ rewrite ! 16 (λ (w : Val). ‵ (fat fullShare R′.mir l₁₀ 0 w)) (ap only (LL.tells R.the-type R′.the-laws r _ is-r)) refl $
+        land ! (from ! (stop !)) (init ! 18 refl (LL.lawful R.the-type R′.the-laws 𝓤 H A W .typed r _ is-r .0)) $ rewrite ! 18 (λ (w : Val). ‵ (fat fullShare R′.mir l₁₁ 0 w)) (ap only (LL.tells R.the-type R′.the-laws r _ is-r)) refl $
         -- the lifetime is ended, and the record is had back at its last value
-        split ! $ move ! (1 ∷ []) $ split ! $ lft-end ! tt $ move ! (0 ∷ 5 ∷ 3 ∷ []) $ use3 W (later (‵ (partAt T.the-row fullShare (ws .1 .1 .1 .0) l₆ 0))) (ref-back 𝓤 H A W T.the-row (α ∷ []) δ (ws .1 .1 .1 .0) l₆ 0) $ await ! tt $
-        use1 W (‵ (fat fullShare T′.mir l₆ 0 (val (ws .1 .1 .1 .0))) ⊛ ‵ (T.the-row .own (ws .1 .1 .1 .0) (mach (ws .1 .1 .1 .0)))) (taken 𝓤 H A W (ws .1 .1 .1 .0) l₆) $ split ! $ move ! (1 ∷ []) $ peeks ! T.the-row (Is T.the-row) (shows 𝓤 H A T.the-row) (ws .1 .1 .1 .0) (mach (ws .1 .1 .1 .0)) (λ is-back. drop ! $ move ! (1 ∷ []) $ drop ! $
+        split ! $ move ! (1 ∷ []) $ split ! $ lft-end ! tt $ move ! (0 ∷ 5 ∷ 3 ∷ []) $ use3 W (later (‵ (partAt T.the-row fullShare (ws .1 .1 .1 .1 .0) l₆ 0))) (ref-back 𝓤 H A W T.the-row (α ∷ []) δ (ws .1 .1 .1 .1 .0) l₆ 0) $ await ! tt $
+        use1 W (‵ (fat fullShare T′.mir l₆ 0 (val (ws .1 .1 .1 .1 .0))) ⊛ ‵ (T.the-row .own (ws .1 .1 .1 .1 .0) (mach (ws .1 .1 .1 .1 .0)))) (taken 𝓤 H A W (ws .1 .1 .1 .1 .0) l₆) $ split ! $ move ! (1 ∷ []) $ peeks ! T.the-row (Is T.the-row) (shows 𝓤 H A T.the-row) (ws .1 .1 .1 .1 .0) (mach (ws .1 .1 .1 .1 .0)) (λ is-back. drop ! $ move ! (1 ∷ []) $ drop ! $
         -- [_6; the inputs' token; what the inputs own; the pack's token; what the pack owns; the locals without _6]
-        assigns ! (bin ! (load ! (from ! (fld ! refl (stop !))) (look-in ! 15 (sub ! 0 refl (whole !)))) (lit ! tt) tt) (from ! (stop !)) (store ! 13 refl (tt, tt)) $
-        first ! $ branches ! (load ! (from ! (stop !)) (look ! 13 refl))
+        assigns ! (bin ! (load ! (from ! (fld ! refl (stop !))) (look-in ! 17 (sub ! 0 refl (whole !)))) (lit ! tt) tt) (from ! (stop !)) (store ! 15 refl (tt, tt)) $
+        first ! $ branches ! (load ! (from ! (stop !)) (look ! 15 refl))
         -- the answer is a refusal: it is returned from within the loop
-        (λ yes′. assigns ! (of-opd ! (load ! (from ! (stop !)) (look ! 0 refl))) (from ! (stop !)) (init ! 9 refl (LL.lawful T.the-type T′.the-laws 𝓤 H A W .typed (ws .1 .1 .1 .0) _ is-back .0)) $
-        assigns ! (agg ! (and-then ! (load ! (from ! (stop !)) (look ! 9 refl)) (and-then ! (load ! (from ! (stop !)) (look ! 15 refl)) (no-more !)))) (from ! (stop !)) (init ! 34 refl (LL.lawful S.the-type S′.the-laws 𝓤 H A W .typed (made (ws .1 .1 .1 .0) r) _ (made-is (ws .1 .1 .1 .0) r (m′ ∷ []) is-back is-r) .0)) $
-        returns-within ! Post refl (look ! 34 refl) $ forget ! 9 refl $ forget ! 11 refl $ forget ! 13 refl $ forget ! 15 refl $ forget ! 17 refl $ forget ! 19 refl $ forget ! 21 refl $ forget ! 0 refl $ forget ! 24 refl $ forget ! 26 refl $ forget ! 28 refl $ forget ! 30 refl $ forget ! 32 refl $ forget ! 34 refl $
-        move ! (34 ∷ 35 ∷ []) $ free1 ! $ move ! (32 ∷ 33 ∷ []) $ free1 ! $ move ! (30 ∷ 31 ∷ []) $ free1 ! $ move ! (28 ∷ 29 ∷ []) $ free1 ! $ move ! (26 ∷ 27 ∷ []) $ free1 ! $ move ! (24 ∷ 25 ∷ []) $ free1 ! $ move ! (0 ∷ 23 ∷ []) $ free1 ! $ move ! (20 ∷ 21 ∷ []) $ free1 ! $ move ! (18 ∷ 19 ∷ []) $ free1 ! $ move ! (16 ∷ 17 ∷ []) $ free1 ! $ move ! (14 ∷ 15 ∷ []) $ free1 ! $ move ! (12 ∷ 13 ∷ []) $ free1 ! $ move ! (10 ∷ 11 ∷ []) $ free1 ! $ move ! (8 ∷ 9 ∷ []) $ free1 ! $ move ! (6 ∷ 7 ∷ []) $ free1 ! $ move ! (4 ∷ 5 ∷ []) $ free1 ! $ free0 ! $
-        keep ! (2 ∷ 0 ∷ 3 ∷ 1 ∷ []) $ by ! (exits (made (ws .1 .1 .1 .0) r) _ (made-is (ws .1 .1 .1 .0) r (m′ ∷ []) is-back is-r) (inputs-refused g provided (now s) k i h goal inv v (made (ws .1 .1 .1 .0) r) more-left ev (λ a. made (e .1 a) (e .0 a)) (eqb-false (r .number) 0 (holds-false (eqb (r .number) 0) yes′)))))
+        (λ yes′. assigns ! (of-opd ! (load ! (from ! (stop !)) (look ! 0 refl))) (from ! (stop !)) (init ! 9 refl (LL.lawful T.the-type T′.the-laws 𝓤 H A W .typed (ws .1 .1 .1 .1 .0) _ is-back .0)) $
+        assigns ! (agg ! (and-then ! (load ! (from ! (stop !)) (look ! 9 refl)) (and-then ! (load ! (from ! (stop !)) (look ! 17 refl)) (no-more !)))) (from ! (stop !)) (init ! 38 refl (LL.lawful S.the-type S′.the-laws 𝓤 H A W .typed (made (ws .1 .1 .1 .1 .0) r) _ (made-is (ws .1 .1 .1 .1 .0) r (m′ ∷ []) is-back is-r) .0)) $
+        returns-within ! Post refl (look ! 38 refl) $ forget ! 9 refl $ forget ! 11 refl $ forget ! 13 refl $ forget ! 15 refl $ forget ! 17 refl $ forget ! 19 refl $ forget ! 21 refl $ forget ! 23 refl $ forget ! 25 refl $ forget ! 0 refl $ forget ! 28 refl $ forget ! 30 refl $ forget ! 32 refl $ forget ! 34 refl $ forget ! 36 refl $ forget ! 38 refl $
+        move ! (38 ∷ 39 ∷ []) $ free1 ! $ move ! (36 ∷ 37 ∷ []) $ free1 ! $ move ! (34 ∷ 35 ∷ []) $ free1 ! $ move ! (32 ∷ 33 ∷ []) $ free1 ! $ move ! (30 ∷ 31 ∷ []) $ free1 ! $ move ! (28 ∷ 29 ∷ []) $ free1 ! $ move ! (0 ∷ 27 ∷ []) $ free1 ! $ move ! (24 ∷ 25 ∷ []) $ free1 ! $ move ! (22 ∷ 23 ∷ []) $ free1 ! $ move ! (20 ∷ 21 ∷ []) $ free1 ! $ move ! (18 ∷ 19 ∷ []) $ free1 ! $ move ! (16 ∷ 17 ∷ []) $ free1 ! $ move ! (14 ∷ 15 ∷ []) $ free1 ! $ move ! (12 ∷ 13 ∷ []) $ free1 ! $ move ! (10 ∷ 11 ∷ []) $ free1 ! $ move ! (8 ∷ 9 ∷ []) $ free1 ! $ move ! (6 ∷ 7 ∷ []) $ free1 ! $ move ! (4 ∷ 5 ∷ []) $ free1 ! $ free0 ! $
+        keep ! (2 ∷ 0 ∷ 3 ∷ 1 ∷ []) $ by ! (exits (made (ws .1 .1 .1 .1 .0) r) _ (made-is (ws .1 .1 .1 .1 .0) r (m′ ∷ []) is-back is-r) (inputs-refused g provided (now s) k i h goal inv (varying (y ∷ z ∷ [])) (made (ws .1 .1 .1 .1 .0) r) more-left (varying-words (now s) i y z ey ez) (λ a. made (e .1 a) (e .0 a)) (eqb-false (r .number) 0 (holds-false (eqb (r .number) 0) yes′)))))
         -- the answer is acceptance: the next turn
         (λ no′. skips ! $ exec ! C Λ En more (anyQ (Turned st)) $
         move ! (3 ∷ 4 ∷ []) $ use2 W (raw (Past 𝓤 H A at-mem run .pre (to-past i)) ⊛ ‵ Own) (goes-past i low) $ split ! $
-        calls-at ! (fmOf 𝓤 H (W .laws) 𝓣) (Past 𝓤 H A at-mem run) known-past (to-past i) (and-then ! (load ! (from ! (stop !)) (look ! 32 refl)) (and-then ! (load ! (from ! (stop !)) (look ! 21 refl)) (no-more !))) (λ m″.
+        calls-at ! (fmOf 𝓤 H (W .laws) 𝓣) (Past 𝓤 H A at-mem run) known-past (to-past i) (and-then ! (load ! (from ! (stop !)) (look ! 36 refl)) (and-then ! (load ! (from ! (stop !)) (look ! 25 refl)) (no-more !))) (λ m″.
         use1 W (later (some (λ (r : ℕ). ((‵ (flft κ q) ⊛ ‵ ftrue) ⊛ ‵ (usize .own r (m″ ∷ []))) ⊛ raw (ensured 𝓤 H A past.ended (past.clauses 𝓤 H A at-mem run) (κ, tt) (s, (i, tt)) tt r)))) (id⊢ 𝓤 _) $ await ! tt $ pick ! (λ j.
         split ! $ move ! (1 ∷ []) $ use1 W (raw (fact 𝓤 ((j ≡ i + varyingWidth (drop-list i (now s))) × (j ≤ i + 2)))) (said-past i j) $ heard ! ((j ≡ i + varyingWidth (drop-list i (now s))) × (j ≤ i + 2)) (λ ej. split ! $ move ! (1 ∷ []) $ peeks ! usize (Is usize) (shows 𝓤 H A usize) j (m″ ∷ []) (λ is-j. drop ! $ split ! $ move ! (1 ∷ []) $ drop ! $
         -- [the pack's token; what the pack owns; _6; the inputs' token; what the inputs own; the locals without _6]
-        land ! (from ! (stop !)) (store ! 21 refl (uint-lawful 𝓤 H A W w64 .typed j _ is-j .0)) $ rewrite ! 21 (λ (w : Val). ‵ (fat fullShare word l₇ 0 w)) (ap only (is-j .0)) refl $
-        assigns-last ! (bin ! (load ! (from ! (stop !)) (look ! 19 refl)) (lit ! tt) (omega (arith, more-left))) (from ! (stop !)) (store ! 19 refl (tt, record { fits = omega (arith, few-left) })) $ forget ! 11 refl $ forget ! 13 refl $ forget ! 15 refl $ forget ! 17 refl $
-        keep ! (5 ∷ 6 ∷ 7 ∷ 8 ∷ 9 ∷ 10 ∷ 11 ∷ 12 ∷ 13 ∷ 14 ∷ 15 ∷ 16 ∷ 17 ∷ 18 ∷ 19 ∷ 20 ∷ 21 ∷ 22 ∷ 2 ∷ 23 ∷ 24 ∷ 25 ∷ 26 ∷ 27 ∷ 28 ∷ 29 ∷ 30 ∷ 31 ∷ 32 ∷ 33 ∷ 34 ∷ 35 ∷ 1 ∷ 4 ∷ 0 ∷ 3 ∷ []) $
-        again ! Nearer At st (k - 1, (j, ((ws .1 .1 .1 .0), onward v r (ws .1 .1 .1 .0) j ev e (eqb-true (r .number) 0 (holds-true (eqb (r .number) 0) no′)) ej is-back))) (omega (arith, more-left)))))))))))))))))))
+        land ! (from ! (stop !)) (store ! 25 refl (uint-lawful 𝓤 H A W w64 .typed j _ is-j .0)) $ rewrite ! 25 (λ (w : Val). ‵ (fat fullShare word l₇ 0 w)) (ap only (is-j .0)) refl $
+        assigns-last ! (bin ! (load ! (from ! (stop !)) (look ! 23 refl)) (lit ! tt) (omega (arith, more-left))) (from ! (stop !)) (store ! 23 refl (tt, record { fits = omega (arith, few-left) })) $ forget ! 11 refl $ forget ! 13 refl $ forget ! 15 refl $ forget ! 17 refl $ forget ! 19 refl $ forget ! 21 refl $
+        keep ! (5 ∷ 6 ∷ 7 ∷ 8 ∷ 9 ∷ 10 ∷ 11 ∷ 12 ∷ 13 ∷ 14 ∷ 15 ∷ 16 ∷ 17 ∷ 18 ∷ 19 ∷ 20 ∷ 21 ∷ 22 ∷ 23 ∷ 24 ∷ 25 ∷ 26 ∷ 2 ∷ 27 ∷ 28 ∷ 29 ∷ 30 ∷ 31 ∷ 32 ∷ 33 ∷ 34 ∷ 35 ∷ 36 ∷ 37 ∷ 38 ∷ 39 ∷ 1 ∷ 4 ∷ 0 ∷ 3 ∷ []) $
+        again ! Nearer At st (k - 1, (j, ((ws .1 .1 .1 .1 .0), onward y z r (ws .1 .1 .1 .1 .0) j ey ez e (eqb-true (r .number) 0 (holds-true (eqb (r .number) 0) no′)) ej is-back))) (omega (arith, more-left)))))))))))))))))))))))
       where
         k : ℕ
         k = st .0
@@ -379,13 +385,10 @@ module _ {M : Type 1} (𝓤 : URA M) (H : Heap 𝓤) (A : Atoms 𝓤) (W : Given
         few = omega (arith, few-left)
 
         -- what the next turn begins with
-        onward : (v : Varying) (r : Answer) (w : InputWalk) (j : ℕ) → v ≡ varying (drop-list i (now s)) → Ensured l₆ h v r w → r .number ≡ 0 → (j ≡ i + varyingWidth (drop-list i (now s))) × (j ≤ i + 2) → Is T.the-row w (mach w) → Inv (k - 1) j w
-        onward v r w j ev e z ej is-w =
-            let step : made w r ≡ inputStep g provided v h = λ a. made (e .1 a) (e .0 a) in
-            (omega (arith, more-left, near, ej .1), (locals-left g provided v h (made w r) k step more-left few-left, (is-w, inputs-onward g provided (now s) k i h goal inv v (made w r) more-left ev step j z (ej .0))))
-
-        varying-is : (v : Varying) (m : Val) → Is Y.the-row v (m ∷ []) → Is Y.the-row v (varying-vals v)
-        varying-is v m is = EL.owes Y.the-type Y′.the-laws v (EL.owed Y.the-type Y′.the-laws v (m ∷ []) is)
+        onward : (y z : ℕ) (r : Answer) (w : InputWalk) (j : ℕ) → y ≡ wordAt (now s) i → z ≡ wordAt (now s) (i + 1) → Ensured l₆ h y z r w → r .number ≡ 0 → (j ≡ i + varyingWidth (drop-list i (now s))) × (j ≤ i + 2) → Is T.the-row w (mach w) → Inv (k - 1) j w
+        onward y z r w j ey ez e none ej is-w =
+            let step : made w r ≡ inputStep g provided (varying (y ∷ z ∷ [])) h = λ a. made (e .1 a) (e .0 a) in
+            (omega (arith, more-left, near, ej .1), (locals-left g provided (varying (y ∷ z ∷ [])) h (made w r) k step more-left few-left, (is-w, inputs-onward g provided (now s) k i h goal inv (varying (y ∷ z ∷ [])) (made w r) more-left (varying-words (now s) i y z ey ez) step j none (ej .0))))
 
     turns : (st : State) → Sq W (At st) (runs C Λ En pieces.turn-1 (anyQ (Turned st)))
     turns st = by-bool (eqb (st .0) 0) (λ t. leaves st (eqb-true (st .0) 0 t)) (λ t. goes-on st (eqb-false (st .0) 0 t))
@@ -393,25 +396,25 @@ module _ {M : Type 1} (𝓤 : URA M) (H : Heap 𝓤) (A : Atoms 𝓤) (W : Given
     -- the body, with the parameters stored
     abbrev Passed : List (Item 𝓤)
     Passed =
-        ‵ (froom R′.mir l₁₅ 0) ∷ ‵ (fdies R′.mir l₁₅) ∷ ‵ (froom T′.mir l₁₄ 0) ∷ ‵ (fdies T′.mir l₁₄) ∷ ‵ (froom T′.mir l₁₃ 0) ∷ ‵ (fdies T′.mir l₁₃) ∷ ‵ (froom ref l₁₂ 0) ∷ ‵ (fdies ref l₁₂) ∷ ‵ (froom tyBool l₁₁ 0) ∷ ‵ (fdies tyBool l₁₁) ∷ ‵ (froom R′.mir l₁₀ 0) ∷ ‵ (fdies R′.mir l₁₀) ∷ ‵ (froom Y′.mir l₉ 0) ∷ ‵ (fdies Y′.mir l₉) ∷ ‵ (froom word l₈ 0) ∷ ‵ (fdies word l₈) ∷ ‵ (froom word l₇ 0) ∷ ‵ (fdies word l₇) ∷ ‵ (froom T′.mir l₆ 0) ∷ ‵ (fdies T′.mir l₆) ∷ ‵ (fat fullShare G′.mir l₅ 0 (EL.val G.the-type G′.the-laws g)) ∷ ‵ (fdies G′.mir l₅) ∷ ‵ (fat fullShare (slice 1) l₄ 0 (sliceVal (s′ .ptr) (length (s′ .now)))) ∷ ‵ (fdies (slice 1) l₄) ∷ ‵ (fat fullShare word l₃ 0 (vint w64 n)) ∷ ‵ (fdies word l₃) ∷ ‵ (fat fullShare word l₂ 0 (vint w64 start)) ∷ ‵ (fdies word l₂) ∷ ‵ (fat fullShare (slice 0) l₁ 0 (sliceVal (s .ptr) (length (s .now)))) ∷ ‵ (fdies (slice 0) l₁) ∷ ‵ (froom S′.mir l₀ 0) ∷ ‵ (fdies S′.mir l₀) ∷ (‵ (flft κ q) ⊛ ‵ (flft κ′ q′) ⊛ ‵ ftrue) ∷ ‵ (owns (ShrSlice (named 0) κ u32 ∷ usize ∷ usize ∷ ShrSlice (named 1) κ′ u32 ∷ G.the-row ∷ []) x at) ∷ []
+        ‵ (froom R′.mir l₁₇ 0) ∷ ‵ (fdies R′.mir l₁₇) ∷ ‵ (froom T′.mir l₁₆ 0) ∷ ‵ (fdies T′.mir l₁₆) ∷ ‵ (froom T′.mir l₁₅ 0) ∷ ‵ (fdies T′.mir l₁₅) ∷ ‵ (froom ref l₁₄ 0) ∷ ‵ (fdies ref l₁₄) ∷ ‵ (froom word l₁₃ 0) ∷ ‵ (fdies word l₁₃) ∷ ‵ (froom tyBool l₁₂ 0) ∷ ‵ (fdies tyBool l₁₂) ∷ ‵ (froom R′.mir l₁₁ 0) ∷ ‵ (fdies R′.mir l₁₁) ∷ ‵ (froom (tyInt w32) l₁₀ 0) ∷ ‵ (fdies (tyInt w32) l₁₀) ∷ ‵ (froom (tyInt w32) l₉ 0) ∷ ‵ (fdies (tyInt w32) l₉) ∷ ‵ (froom word l₈ 0) ∷ ‵ (fdies word l₈) ∷ ‵ (froom word l₇ 0) ∷ ‵ (fdies word l₇) ∷ ‵ (froom T′.mir l₆ 0) ∷ ‵ (fdies T′.mir l₆) ∷ ‵ (fat fullShare G′.mir l₅ 0 (EL.val G.the-type G′.the-laws g)) ∷ ‵ (fdies G′.mir l₅) ∷ ‵ (fat fullShare (slice 1) l₄ 0 (sliceVal (s′ .ptr) (length (s′ .now)))) ∷ ‵ (fdies (slice 1) l₄) ∷ ‵ (fat fullShare word l₃ 0 (vint w64 n)) ∷ ‵ (fdies word l₃) ∷ ‵ (fat fullShare word l₂ 0 (vint w64 start)) ∷ ‵ (fdies word l₂) ∷ ‵ (fat fullShare (slice 0) l₁ 0 (sliceVal (s .ptr) (length (s .now)))) ∷ ‵ (fdies (slice 0) l₁) ∷ ‵ (froom S′.mir l₀ 0) ∷ ‵ (fdies S′.mir l₀) ∷ (‵ (flft κ q) ⊛ ‵ (flft κ′ q′) ⊛ ‵ ftrue) ∷ ‵ (owns (ShrSlice (named 0) κ u32 ∷ usize ∷ usize ∷ ShrSlice (named 1) κ′ u32 ∷ G.the-row ∷ []) x at) ∷ []
 
     body : Sq W Passed (runs C Λ En pieces.t-1 (atRet En Post))
     body =
-        assigns ! (agg ! (and-then ! (false-lit !) (and-then ! (false-lit !) (and-then ! (false-lit !) (and-then ! (lit ! tt) (no-more !)))))) (from ! (stop !)) (init ! 18 refl (LL.lawful T.the-type T′.the-laws 𝓤 H A W .typed startWalk _ start-is .0)) $
-        assigns ! (of-opd ! (load ! (from ! (stop !)) (look ! 26 refl))) (from ! (stop !)) (init ! 16 refl (tt, record { fits = fits-start })) $
-        assigns ! (of-opd ! (load ! (from ! (stop !)) (look ! 24 refl))) (from ! (stop !)) (init ! 14 refl (tt, record { fits = fits-n })) $
+        assigns ! (agg ! (and-then ! (false-lit !) (and-then ! (false-lit !) (and-then ! (false-lit !) (and-then ! (lit ! tt) (no-more !)))))) (from ! (stop !)) (init ! 22 refl (LL.lawful T.the-type T′.the-laws 𝓤 H A W .typed startWalk _ start-is .0)) $
+        assigns ! (of-opd ! (load ! (from ! (stop !)) (look ! 30 refl))) (from ! (stop !)) (init ! 20 refl (tt, record { fits = fits-start })) $
+        assigns ! (of-opd ! (load ! (from ! (stop !)) (look ! 28 refl))) (from ! (stop !)) (init ! 18 refl (tt, record { fits = fits-n })) $
         -- what the slices own, and the two tokens
-        move ! (33 ∷ []) $ fsplit ! $ move ! (1 ∷ []) $ fsplit ! $ drop ! $ fsplit ! $ drop ! $ fsplit ! $ move ! (35 ∷ []) $ split ! $ move ! (1 ∷ []) $ split ! $
-        keep ! (6 ∷ 7 ∷ 8 ∷ 9 ∷ 10 ∷ 11 ∷ 12 ∷ 13 ∷ 14 ∷ 15 ∷ 16 ∷ 17 ∷ 18 ∷ 19 ∷ 20 ∷ 21 ∷ 22 ∷ 23 ∷ 24 ∷ 25 ∷ 26 ∷ 27 ∷ 28 ∷ 29 ∷ 30 ∷ 31 ∷ 32 ∷ 33 ∷ 34 ∷ 35 ∷ 36 ∷ 37 ∷ 5 ∷ 3 ∷ 2 ∷ 0 ∷ []) $
+        move ! (37 ∷ []) $ fsplit ! $ move ! (1 ∷ []) $ fsplit ! $ drop ! $ fsplit ! $ drop ! $ fsplit ! $ move ! (39 ∷ []) $ split ! $ move ! (1 ∷ []) $ split ! $
+        keep ! (6 ∷ 7 ∷ 8 ∷ 9 ∷ 10 ∷ 11 ∷ 12 ∷ 13 ∷ 14 ∷ 15 ∷ 16 ∷ 17 ∷ 18 ∷ 19 ∷ 20 ∷ 21 ∷ 22 ∷ 23 ∷ 24 ∷ 25 ∷ 26 ∷ 27 ∷ 28 ∷ 29 ∷ 30 ∷ 31 ∷ 32 ∷ 33 ∷ 34 ∷ 35 ∷ 36 ∷ 37 ∷ 38 ∷ 39 ∷ 40 ∷ 41 ∷ 5 ∷ 3 ∷ 2 ∷ 0 ∷ []) $
         first ! $ blocks ! $ loops ! 𝓣 Nearer Nearer-wf At turns (n, (start, (startWalk, begins)))
 
   module _ (𝓣 : Tables 𝓤 H) (known-reads : Triple 𝓤 (𝓣 .C #reads) (Reads 𝓤 H A at-mem run)) (known-step : Triple 𝓤 (𝓣 .C #step) (Step 𝓤 H A at-mem run)) (known-past : Triple 𝓤 (𝓣 .C #past) (Past 𝓤 H A at-mem run)) (known-good : Triple 𝓤 (𝓣 .C #good) (Good 𝓤 H A at-mem run)) where
     walk : ent 𝓤 (onEntry 𝓤 H A f.signature (κ, (κ′, tt)) (q, (q′, tt)) x at) (WpFn 𝓤 H (𝓣 .C) (𝓣 .Λ) code.function (sliceVal (s .ptr) (length (s .now)) ∷ vint w64 start ∷ vint w64 n ∷ sliceVal (s′ .ptr) (length (s′ .now)) ∷ EL.val G.the-type G′.the-laws g ∷ []) Post)
     walk =
         qed W ((‵ (flft κ q) ⊛ ‵ (flft κ′ q′) ⊛ ‵ ftrue) ∷ ‵ (owns (ShrSlice (named 0) κ u32 ∷ usize ∷ usize ∷ ShrSlice (named 1) κ′ u32 ∷ G.the-row ∷ []) x at) ∷ []) ∵ enter ! (𝓣 .C) (𝓣 .Λ) code.function (sliceVal (s .ptr) (length (s .now)) ∷ vint w64 start ∷ vint w64 n ∷ sliceVal (s′ .ptr) (length (s′ .now)) ∷ EL.val G.the-type G′.the-laws g ∷ []) _ $
-        alloc1 ! (λ l₀. alloc1 ! (λ l₁. alloc1 ! (λ l₂. alloc1 ! (λ l₃. alloc1 ! (λ l₄. alloc1 ! (λ l₅. alloc1 ! (λ l₆. alloc1 ! (λ l₇. alloc1 ! (λ l₈. alloc1 ! (λ l₉. alloc1 ! (λ l₁₀. alloc1 ! (λ l₁₁. alloc1 ! (λ l₁₂. alloc1 ! (λ l₁₃. alloc1 ! (λ l₁₄. alloc1 ! (λ l₁₅. alloc0 ! $ params1 ! $
-        pass1 ! (init ! 28 refl (shr-slice-lawful 𝓤 H A W (named 0) κ u32 .typed s (slice-vals s) is-s .0)) $ pass1 ! (init ! 26 refl (tt, record { fits = fits-start })) $ pass1 ! (init ! 24 refl (tt, record { fits = fits-n })) $ pass1 ! (init ! 22 refl (shr-slice-lawful 𝓤 H A W (named 1) κ′ u32 .typed s′ (slice-vals s′) is-s′ .0)) $ pass1 ! (init ! 20 refl (EL.lawful G.the-type G′.the-laws 𝓤 H A W tt .typed g _ is-g .0)) $ pass0 ! $
-        body 𝓣 known-reads known-step known-past known-good l₀ l₁ l₂ l₃ l₄ l₅ l₆ l₇ l₈ l₉ l₁₀ l₁₁ l₁₂ l₁₃ l₁₄ l₁₅))))))))))))))))
+        alloc1 ! (λ l₀. alloc1 ! (λ l₁. alloc1 ! (λ l₂. alloc1 ! (λ l₃. alloc1 ! (λ l₄. alloc1 ! (λ l₅. alloc1 ! (λ l₆. alloc1 ! (λ l₇. alloc1 ! (λ l₈. alloc1 ! (λ l₉. alloc1 ! (λ l₁₀. alloc1 ! (λ l₁₁. alloc1 ! (λ l₁₂. alloc1 ! (λ l₁₃. alloc1 ! (λ l₁₄. alloc1 ! (λ l₁₅. alloc1 ! (λ l₁₆. alloc1 ! (λ l₁₇. alloc0 ! $ params1 ! $
+        pass1 ! (init ! 32 refl (shr-slice-lawful 𝓤 H A W (named 0) κ u32 .typed s (slice-vals s) is-s .0)) $ pass1 ! (init ! 30 refl (tt, record { fits = fits-start })) $ pass1 ! (init ! 28 refl (tt, record { fits = fits-n })) $ pass1 ! (init ! 26 refl (shr-slice-lawful 𝓤 H A W (named 1) κ′ u32 .typed s′ (slice-vals s′) is-s′ .0)) $ pass1 ! (init ! 24 refl (EL.lawful G.the-type G′.the-laws 𝓤 H A W tt .typed g _ is-g .0)) $ pass0 ! $
+        body 𝓣 known-reads known-step known-past known-good l₀ l₁ l₂ l₃ l₄ l₅ l₆ l₇ l₈ l₉ l₁₀ l₁₁ l₁₂ l₁₃ l₁₄ l₁₅ l₁₆ l₁₇))))))))))))))))))
 
 module _ {M : Type 1} (𝓤 : URA M) (H : Heap 𝓤) (A : Atoms 𝓤) (W : Given 𝓤 H A) (at-mem : Memory → SProp 𝓤) (run : Routine → Fun 𝓤) (𝓣 : Tables 𝓤 H) (known-reads : Triple 𝓤 (𝓣 .C #reads) (Reads 𝓤 H A at-mem run)) (known-step : Triple 𝓤 (𝓣 .C #step) (Step 𝓤 H A at-mem run)) (known-past : Triple 𝓤 (𝓣 .C #past) (Past 𝓤 H A at-mem run)) (known-good : Triple 𝓤 (𝓣 .C #good) (Good 𝓤 H A at-mem run)) where
   f-walks : Walks 𝓤 H A f.ended stayed (WpFn 𝓤 H (𝓣 .C) (𝓣 .Λ) code.function) (f.clauses 𝓤 H A at-mem run)
@@ -430,7 +433,7 @@ input-steps-spec 𝓤 H 𝓜 𝓖 𝓡 =
     entered 𝓤 H (tripleOf 𝓤 H (𝓖 .A) f.signature (f.spec 𝓤 H (𝓖 .A) (𝓜 .mem) (𝓡 .run)))
     (tables 𝓤 H 𝓜 𝓡 code.env .C) (tables 𝓤 H 𝓜 𝓡 code.env .Λ) #f code.function (code.unfolded 𝓤 H 𝓜 𝓡)
     (f-meets 𝓤 H (𝓖 .A) (givenOf 𝓤 H 𝓜 𝓖) (𝓜 .mem) (𝓡 .run) (tablesOf 𝓤 H 𝓜 (tables 𝓤 H 𝓜 𝓡 code.env))
-    (cited 𝓤 H (Reads 𝓤 H (𝓖 .A) (𝓜 .mem) (𝓡 .run)) 𝓜 𝓡 code.env #reads reads-def.routine code.calls-interface·reads·varying-at (reads-thm.met 𝓤 H 𝓜 𝓖 𝓡))
+    (cited 𝓤 H (Reads 𝓤 H (𝓖 .A) (𝓜 .mem) (𝓡 .run)) 𝓜 𝓡 code.env #reads reads-def.routine code.calls-word·word (reads-thm.met 𝓤 H 𝓜 𝓖 𝓡))
     (cited 𝓤 H (Step 𝓤 H (𝓖 .A) (𝓜 .mem) (𝓡 .run)) 𝓜 𝓡 code.env #step step-def.routine code.calls-stage·inputs·input-step (step-thm.met 𝓤 H 𝓜 𝓖 𝓡))
     (cited 𝓤 H (Past 𝓤 H (𝓖 .A) (𝓜 .mem) (𝓡 .run)) 𝓜 𝓡 code.env #past past-def.routine code.calls-stage·inputs·past-input (past-thm.met 𝓤 H 𝓜 𝓖 𝓡))
     (cited 𝓤 H (Good 𝓤 H (𝓖 .A) (𝓜 .mem) (𝓡 .run)) 𝓜 𝓡 code.env #good good-def.routine code.calls-word·answer·Answer·accepted (good-thm.met 𝓤 H 𝓜 𝓖 𝓡)))

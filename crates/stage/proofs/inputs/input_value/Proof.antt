@@ -7,15 +7,15 @@ pub input-value-spec : {M : Type 1} → statement M
 input-value-spec =
     tie.close
     (tie.spec
-    (λ c. search needs)  -- enum-known-v
-    (λ c κs. search needs)  -- varying-at-requires
+    (λ c κs. search needs)  -- location-filed-requires
+    (λ c κs. search needs)  -- content-requires
     (λ c κs. search needs)  -- input-number-requires
     (λ c κs. search needs)  -- new-requires
     (λ c. search local-refused)  -- returns
     (λ c κs. search needs)  -- met-local-requires
     (λ c κs. search needs)  -- accepted-requires
-    (λ c. search needs)  -- enum-known-v-2
+    (λ c. search local-met)  -- returns-2
+    (λ c κs. search needs)  -- built-in-of-requires
     (λ c κs. search needs)  -- met-built-in-requires
     (λ c κs. search needs)  -- accepted-requires-2
-    (λ c. search local-met)  -- returns-2
     (λ c. search built-in-met))  -- returns-3

@@ -7,8 +7,6 @@ pub vertex-input-spec : {M : Type 1} → statement M
 vertex-input-spec =
     tie.close
     (tie.spec
-    (λ c κs. search needs)  -- kind-code-requires
-    (λ c κs. search needs)  -- kind-code-requires-2
     (λ c. (search vertex-kind, search needs))  -- returns
     (λ c. (search vertex-primitive, search needs))  -- returns-2
     (λ c. (search vertex-good, search needs)))  -- returns-3

@@ -8,5 +8,6 @@ place-at-spec =
     tie.close
     (tie.spec
     (λ c κs. search needs)  -- index-requires
-    (λ c κs. search needs)  -- resource-at-requires
+    (λ c κs. search needs)  -- word-requires
+    (λ c κs. search needs)  -- place-of-requires
     (λ c. (search place-listed, search needs)))  -- returns
