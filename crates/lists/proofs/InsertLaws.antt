@@ -3,7 +3,7 @@ use Prim.Native.Nat.{ℕ, suc, _+_, _<_, _≤_}
 use native.Mathlib.Omega.{arith}
 use mathlib.Core.Path.{_≡_, refl, sym, ap, _∙_}
 use mathlib.Core.Bool.{Bool, true, false}
-use mathlib.Core.List.{List, [], _∷_}
+use mathlib.Core.List.{List, [], _∷_, _++_}
 use lib.Dec.{eqb, ltb}
 use lib.ListN.{length}
 use borrow.Author.Tests.{eqb-true, eqb-false, ltb-true, ltb-false, eq-eqb, ne-eqb, lt-ltb, le-ltb}
@@ -78,6 +78,26 @@ rising-insert v (w ∷ vs) h =
     (λ e. rw (insert-over v w vs e) (rising-cons v vs ∙ rw (e, rising-first w vs h, rising-rest w vs h)))
     (λ a. rw (insert-behind v w vs (omega arith) (λ e. omega arith))
     (rising-cons w (insert v vs) ∙ rw (starts-insert (w .location) v vs (rising-first w vs h) a, rising-insert v vs (rising-rest w vs h))))
+
+-- ---- a location above the last goes to the end
+
+-- the last location, or a number where there is none
+unfoldable pub lastFrom : ℕ → List Located → ℕ
+lastFrom n [] = n
+lastFrom n (w ∷ vs) = lastFrom (w .location) vs
+
+last-above : (w : Located) (vs : List Located) → rising (w ∷ vs) ≡ true → w .location ≤ lastFrom (w .location) vs
+unfolding lastFrom
+last-above w [] h = omega arith
+last-above w (x ∷ vs) h =
+    omega (arith, ltb-true (w .location) (x .location) (rising-first w (x ∷ vs) h), last-above x vs (rising-rest w (x ∷ vs) h))
+
+pub insert-last : (v : Located) (vs : List Located) (n : ℕ) → rising vs ≡ true → lastFrom n vs < v .location → insert v vs ≡ vs ++ (v ∷ [])
+unfolding insert lastFrom
+insert-last v [] n h k = refl
+insert-last v (w ∷ vs) n h k =
+    let a = last-above w vs h in
+    rw (insert-behind v w vs (omega arith) (λ e. omega arith), insert-last v vs (w .location) (rising-rest w vs h) k)
 
 -- ---- a new location makes the list longer
 

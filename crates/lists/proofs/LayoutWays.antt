@@ -2,15 +2,17 @@
 use Prim.Native.Nat.{ℕ, zero, suc, _+_, _*_, _<_, _≤_}
 use native.Mathlib.Omega.{arith}
 use mathlib.Core.Path.{_≡_, refl, sym, _∙_}
-use mathlib.Core.Bool.{Bool, true, false, _&&_}
+use mathlib.Core.Bool.{Bool, true, false, not, _&&_}
 use mathlib.Core.List.{List}
 use lib.Dec.{eqb, leb, ltb}
 use lib.ListN.{length, drop}
 use lib.Seq.{drop-drop}
+use borrow.Author.Tests.{not-false, leb-true}
 use Rattle.word.specs.Words.{wordAt, kindOf, bits}
 use Rattle.resource.specs.Format.{entryFiledAt, entryAt, entryOf}
 use Rattle.resource.specs.declared.types.ResourceBinding.{ResourceBinding}
 use Rattle.resource.specs.declared.types.BindGroupLayoutEntry.{BindGroupLayoutEntry}
+use Rattle.word.proofs.Truth.{second}
 use Rattle.lists.specs.Meaning.{placeFrom, distinctPlaces, distinctEntries, entryPlaces, findEntry, foundBelow, entryNth, emptyEntry}
 use Rattle.lists.specs.Format.{records, each, countOf, groupsOf, places, readEntry, entryGood, readEntries, layoutHead, decodeLayout}
 use Rattle.lists.specs.declared.types.Found.{Found}
@@ -23,6 +25,10 @@ pub head-word : (ws : List ℕ) (w : ℕ) (r : Bool) → w ≡ wordAt ws 0
 unfolding layoutHead countOf groupsOf
 head-word ws w r e h = rw (← e) h
 
+pub head-holds : (ws : List ℕ) (b : Bool) → b ≡ layoutHead ws → not b ≡ false → 1 + 4 * countOf ws ≤ length ws
+unfolding layoutHead
+head-holds ws b e h = let t = sym e ∙ not-false b h in search (leb-true, second)
+
 -- ---- an entry
 
 module _ (l : List ℕ) (at groups : ℕ) (b : Bool) (e : b ≡ entryFiledAt l at) where
@@ -32,8 +38,8 @@ module _ (l : List ℕ) (at groups : ℕ) (b : Bool) (e : b ≡ entryFiledAt l a
   pub entry-not : b ≡ false → false ≡ entryGood groups (drop at l)
   entry-not h = rw (filed-there, h)
 
-  pub entry-is : (w : ℕ) → b ≡ true → w ≡ wordAt l at → ltb (bits 26 23 w) groups ≡ entryGood groups (drop at l)
-  entry-is w h f = rw (filed-there, h, here l at, ← f)
+  pub entry-is : b ≡ true → ltb (bits 26 23 (wordAt l at)) groups ≡ entryGood groups (drop at l)
+  entry-is h = rw (filed-there, h, here l at)
 
 pub good-begins : (ws : List ℕ) (g n : ℕ) (l : List ℕ) → g ≡ groupsOf ws → n ≡ countOf ws
     → each 4 (entryGood (groupsOf ws)) (countOf ws) l ≡ each 4 (entryGood g) n l

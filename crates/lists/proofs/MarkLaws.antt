@@ -1,8 +1,8 @@
 -- Places with a mark, and places distinct from some record on.
-use Prim.Native.Nat.{ℕ, zero, suc, _+_, _-_, _*_, _<_, _≤_}
+use Prim.Native.Nat.{ℕ, zero, suc, _+_, _-_, _*_, _%_, _<_, _≤_}
 use native.Mathlib.Omega.{arith}
-use native.Mathlib.Nat.{mul-suc, mul-zero, mul-le-mul-right}
-use mathlib.Core.Path.{_≡_, refl, sym, _∙_}
+use native.Mathlib.Nat.{mul-suc, mul-zero, mul-add, mul-le-mul-left, mul-le-mul-right}
+use mathlib.Core.Path.{_≡_, refl, sym, ap, _∙_}
 use mathlib.Core.Bool.{Bool, true, false}
 use mathlib.Core.List.{List, [], _∷_}
 use lib.Dec.{eqb}
@@ -18,6 +18,7 @@ use Rattle.lists.specs.Marks.{slot, marked}
 use Rattle.lists.specs.Format.{countOf, readPlace, places}
 use Rattle.lists.proofs.Words.{here}
 use Rattle.lists.proofs.PlaceLaws.{same-place-eq}
+use Rattle.lists.proofs.PlaceWays.{content-place}
 use Rattle.lists.proofs.Records.{first-passes, rest-passes, one-less, left-cons, left-none}
 
 -- ---- marks
@@ -71,8 +72,22 @@ module _ (width at left : ℕ) (e : at ≡ 1 + width * left) (h : left ≡ 0 →
   pub record-fits : width ≤ at
   record-fits = omega (arith, one-less width left h)
 
+  pub record-within : (n c m : ℕ) → left ≤ n → n ≡ c → 0 < width → 1 + width * c ≤ m → at - width < m
+  record-within n c m k en o b =
+      let w : 1 + width * n ≤ m = rw en b in
+      let q : width * left ≤ width * n = mul-le-mul-left width k in
+      omega (arith, one-less width left h)
+
   pub record-starts : at - width ≡ 1 + width * (left - 1)
   record-starts = omega (arith, one-less width left h)
+
+-- those behind a record end where all end
+pub behind-within : (width at left n c m : ℕ) → at ≡ 1 + width * left → left ≤ n → n ≡ c → 1 + width * c ≤ m → at + width * (n - left) ≤ m
+behind-within width at left n c m e k en b =
+    let h : 1 + width * n ≤ m = rw en b in
+    let s : left + (n - left) ≡ n = omega arith in
+    let q : width * left + width * (n - left) ≡ width * n = sym (mul-add width left (n - left)) ∙ ap (λ j. width * j) s in
+    omega arith
 
 -- ---- the records from a position on
 
@@ -102,13 +117,16 @@ pub marked-begins : (width n : ℕ) (ws : List ℕ) → distinctPlaces (places w
 unfolding distinctPlaces
 marked-begins width n ws = let z : n - n ≡ 0 = omega arith in rw (left-none width readPlace (n - n) ws z)
 
-module _ (width n left at : ℕ) (l : List ℕ) (p : ResourceBinding) (fits : left ≤ n) (e : at ≡ 1 + width * left) (h : left ≡ 0 → ⊥) (ep : p ≡ placeOf (wordAt l (at - width))) where
+module _ (width n left at : ℕ) (l : List ℕ) (fits : left ≤ n) (e : at ≡ 1 + width * left) (h : left ≡ 0 → ⊥) where
+  abbrev p : ResourceBinding
+  p = placeOf (wordAt l (at - width) % 0x800_0000)
+
   one-more : places width (n - (left - 1)) (drop (at - width) l) ≡ p ∷ places width (n - left) (drop at l)
   one-more =
       let z : n - (left - 1) ≡ 0 → ⊥ = λ q. omega arith in
       let k : n - (left - 1) - 1 ≡ n - left = omega arith in
       let a : at - width + width ≡ at = omega (arith, record-fits width at left e h) in
-      left-cons width readPlace l (n - (left - 1)) (at - width) z ∙ rw (here l (at - width), ← ep, k, a)
+      left-cons width readPlace l (n - (left - 1)) (at - width) z ∙ rw (here l (at - width), content-place (wordAt l (at - width)), k, a)
 
   pub marks-onward : (marks : List ℕ) (s : ℕ) → s ≡ slot p → s < 1024 → length marks ≡ 1024 → every (marked marks) (places width (n - left) (drop at l)) ≡ true
       → every (marked (set marks s 1)) (places width (n - (left - 1)) (drop (at - width) l)) ≡ true

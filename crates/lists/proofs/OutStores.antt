@@ -1,29 +1,28 @@
 -- What the code's stores into the list out make of it.
-use Prim.Native.Nat.{ℕ, suc, _+_, _-_, _*_, _^_, _<_, _≤_}
+use Prim.Native.Nat.{ℕ, zero, suc, _+_, _-_, _*_, _^_, _<_, _≤_}
 use native.Mathlib.Omega.{arith}
-use native.Mathlib.Numerals.{add-one}
 use mathlib.Core.Path.{_≡_, refl, sym, ap, _∙_}
 use mathlib.Core.Bool.{Bool, true, false}
 use mathlib.Core.List.{List, [], _∷_, _++_, append-assoc}
 use lib.ListN.{length, take, drop, set, length-append, length-drop, take-append-drop}
-use lib.Seq.{drop-drop, drop-at, take-suc, length-take-le}
+use lib.Seq.{drop-drop, drop-at, take-append-add, length-take-le}
 use borrow.Author.Tests.{ltb-true}
 use Rattle.word.specs.Choice.{pick}
 use Rattle.word.specs.Words.{wordAt, kindOf, contentOf, bits, ofKind}
-use Rattle.varying.specs.Format.{locatedWords, locatedHeld, varFiled, varHeld, varOf, varWord, payloadHeld, payloadWord}
+use Rattle.varying.specs.Format.{locatedWords, locatedHeld, varFiled, varOf, varWord, payloadHeld, payloadWord}
 use Rattle.varying.specs.declared.Located.{Located}
 use Rattle.varying.specs.declared.Payload.{Payload}
 use Rattle.word.proofs.Truth.{first, second}
 use Rattle.varying.proofs.Joined.{payload-written, location-written, var-written, var-filed, var-read}
 use Rattle.lists.specs.Meaning.{StageIo, every, rising, insert, inserted, varyingAt, isProvided}
-use Rattle.lists.specs.Format.{put, past, each, flat, countOf, primitiveCode, readLocated, locatedGood, readVaryings}
+use Rattle.lists.specs.Format.{put, past, records, each, flat, countOf, primitiveCode, readLocated, locatedGood, readVaryings}
 use Rattle.lists.specs.Format.{outFiled, decodeStage, encodeStage, outGood}
 use Rattle.lists.specs.declared.types.PrimitiveIndex.{PrimitiveIndex}
 use Rattle.lists.proofs.Words.{here, there, put-put}
-use Rattle.lists.proofs.Records.{read-length, room-length, left-cons, left-none, each-cons, first-passes, rest-passes, past-drop, flat-length, take-read}
+use Rattle.lists.proofs.Records.{read-length, room-length, left-cons, left-none, each-cons, first-passes, rest-passes, past-drop, flat-append, flat-length, take-read}
 use Rattle.lists.proofs.Forms.{two, located-form}
 use Rattle.lists.proofs.StageLists.{Filed, filed, is-good, code-back, decode-encode, filed-encode, good-decode}
-use Rattle.lists.proofs.InsertLaws.{insert-before, insert-over, insert-behind, insert-length, longer, good-inserted}
+use Rattle.lists.proofs.InsertLaws.{lastFrom, insert-last, insert-before, insert-over, insert-behind, insert-length, longer, good-inserted}
 
 -- ---- words written at a position
 
@@ -31,26 +30,25 @@ use Rattle.lists.proofs.InsertLaws.{insert-before, insert-over, insert-
 pub two-at : (l : List ℕ) (at : ℕ) → at + 2 ≤ length l → drop at l ≡ wordAt l at ∷ wordAt l (at + 1) ∷ drop (at + 2) l
 two-at l at h = two (drop at l) (omega (arith, length-drop at l)) ∙ rw (here l at, there l at 1, drop-drop 2 at l)
 
-take-two : (l : List ℕ) (at : ℕ) → at + 2 ≤ length l → take (at + 2) l ≡ take at l ++ (wordAt l at ∷ wordAt l (at + 1) ∷ [])
-take-two l at h =
-    let e : at + 2 ≡ suc (suc at) = omega arith in
-    let a : at < length l = omega arith in
-    let b : suc at < length l = omega arith in
-    rw (e, add-one at, take-suc l (suc at) 0 b, take-suc l at 0 a) (append-assoc (take at l) (wordAt l at ∷ []) (wordAt l (suc at) ∷ []))
-
 put-behind : (l p : List ℕ) (at : ℕ) → at ≤ length l → drop (at + length p) (put l at p) ≡ drop (at + length p) l
 unfolding put
 put-behind l p at h =
     let n : length (take at l ++ p) ≡ at + length p = length-append (take at l) p ∙ rw (length-take-le at l h) in
     ap (drop (at + length p)) (sym (append-assoc (take at l) p (drop (at + length p) l))) ∙ drop-at (take at l ++ p) (drop (at + length p) l) (at + length p) n
 
--- two words written as they stand
-put-own : (l q : List ℕ) (at : ℕ) → at + 2 ≤ length l → put l at (wordAt l at ∷ wordAt l (at + 1) ∷ q) ≡ put l (at + 2) q
+-- words written as they stand, and others behind them
+put-after : (l q : List ℕ) (at j : ℕ) → at + j ≤ length l → put l at (take j (drop at l) ++ q) ≡ put l (at + j) q
 unfolding put
-put-own l q at h =
-    let e : at + suc (suc (length q)) ≡ at + 2 + length q = omega arith in
-    rw (e, take-two l at h)
-    (sym (append-assoc (take at l) (wordAt l at ∷ wordAt l (at + 1) ∷ []) (q ++ drop (at + 2 + length q) l)))
+put-after l q at j h =
+    let n : length (take at l) ≡ at = length-take-le at l (omega arith) in
+    let m : length (take j (drop at l)) ≡ j = length-take-le j (drop at l) (omega (arith, length-drop at l)) in
+    let t : take (at + j) l ≡ take at l ++ take j (drop at l) = rw (n, take-append-drop at l) at (take-append-add (take at l) (drop at l) j) in
+    let e : at + length (take j (drop at l) ++ q) ≡ at + j + length q = rw (length-append (take j (drop at l)) q, m) (omega arith) in
+    rw (e, t, append-assoc (take j (drop at l)) q (drop (at + j + length q) l))
+    (sym (append-assoc (take at l) (take j (drop at l)) (q ++ drop (at + j + length q) l)))
+
+put-own : (l q : List ℕ) (at : ℕ) → at + 2 ≤ length l → put l at (wordAt l at ∷ wordAt l (at + 1) ∷ q) ≡ put l (at + 2) q
+put-own l q at h = rw (two-at l at h) at (put-after l q at 2 h)
 
 -- two words written, and those behind as they stand
 put-kept : (l : List ℕ) (at j a b : ℕ) → at + 2 + j ≤ length l → put l at (a ∷ b ∷ take j (drop (at + 2) l)) ≡ put l at (a ∷ b ∷ [])
@@ -170,6 +168,34 @@ module _ (l : List ℕ) (k at n total : ℕ) (v : Located) (inv : total + k ≡ 
         let y : k ≡ suc (k - 1) = omega arith in
         omega arith
 
+-- ---- a variable put behind the last
+
+last-read : (k n : ℕ) (ws : List ℕ) → lastFrom n (readVaryings (suc k) ws) ≡ contentOf (wordAt ws (2 * k))
+unfolding lastFrom records
+last-read zero n ws = refl
+last-read (suc k) n ws =
+    let e : 2 + 2 * k ≡ 2 * suc k = omega arith in
+    last-read k (contentOf (wordAt ws 0)) (drop 2 ws) ∙ rw (there ws 2 (2 * k), e)
+
+module _ (s : List ℕ) (n : ℕ) (v : Located) (z : n ≡ 0 → ⊥) (up : rising (readVaryings n (drop 2 s)) ≡ true)
+    (above : contentOf (wordAt s (2 * n)) < v .location) where
+  last-goes : insert v (readVaryings n (drop 2 s)) ≡ readVaryings n (drop 2 s) ++ (v ∷ [])
+  last-goes =
+      let k : n ≡ suc (n - 1) = omega arith in
+      let e : 2 + 2 * (n - 1) ≡ 2 * n = omega arith in
+      let a : contentOf (wordAt (drop 2 s) (2 * (n - 1))) < v .location = rw (there s 2 (2 * (n - 1)), e) above in
+      insert-last v (readVaryings n (drop 2 s)) 0 up (rw (k, last-read (n - 1) 0 (drop 2 s)) a)
+
+  pub last-counted : length (insert v (readVaryings n (drop 2 s))) ≡ n + 1
+  last-counted = rw (last-goes, length-append (readVaryings n (drop 2 s)) (v ∷ []), read-length 2 readLocated n (drop 2 s))
+
+  pub last-placed : (m : List ℕ) (b : ℕ) → 2 + 2 * n + 2 ≤ length s → each 2 locatedGood n (drop 2 s) ≡ true → b ≡ varWord (v .var)
+      → m ≡ put s (2 + 2 * n) ((0x60000000 + v .location) ∷ b ∷ []) → m ≡ put s 2 (flat locatedWords (insert v (readVaryings n (drop 2 s))))
+  unfolding flat
+  last-placed m b h good eb em =
+      em ∙ rw (last-goes, flat-append locatedWords (readVaryings n (drop 2 s)) (v ∷ []), rest-flat s n 2 good (omega arith), eb)
+      (sym (put-after s (locatedWords v) 2 (2 * n) (omega arith)))
+
 -- ---- the list with a variable more
 
 pub var-again : (w : ℕ) → varFiled w ≡ true → w ≡ varWord (varOf w)
@@ -184,12 +210,12 @@ located-filed v w h e = rw e (var-filed (v .var) (search second))
 located-again : (v : Located) (w : ℕ) → locatedHeld v ≡ true → w ≡ varWord (v .var) → record { location = v .location; var = varOf w } ≡ v
 located-again v w h e = rw (e, var-read (v .var) (search second))
 
-pub located-var : (v : Located) → locatedHeld v ≡ true → varHeld (v .var) ≡ true
-located-var v h = search second
-
 module _ (s : List ℕ) (n : ℕ) (f : outFiled s ≡ true) (en : n ≡ countOf s) where
   pub out-good : each 2 locatedGood n (drop 2 s) ≡ true
   out-good = rw en (filed s f .good)
+
+  pub out-rises : rising (readVaryings n (drop 2 s)) ≡ true
+  out-rises = rw en (filed s f .rises)
 
   pub out-fits : 2 ≤ length (decodeStage s .room) → 2 + 2 * n + 2 ≤ length s
   unfolding decodeStage

@@ -1,18 +1,18 @@
 -- The words that a stage list is written in.
-use Prim.Native.Nat.{ℕ, _+_, _*_, _^_, _<_, _≤_}
+use Prim.Native.Nat.{ℕ, _+_, _-_, _*_, _/_, _%_, _^_, _<_, _≤_}
 use native.Mathlib.Omega.{arith}
-use mathlib.Core.Path.{_≡_}
+use mathlib.Core.Path.{_≡_, refl, _∙_}
 use mathlib.Core.Bool.{true}
-use borrow.Author.Tests.{eqb-true, ltb-true}
-use Rattle.word.specs.Choice.{pick, yes}
-use Rattle.word.specs.Words.{kindOf, ofKind}
-use Rattle.numeric.specs.Format.{typeWord}
-use Rattle.varying.specs.Format.{varFiled, varHeld, varWord, payloadHeld, payloadWord}
-use Rattle.varying.specs.declared.InterfaceVar.{InterfaceVar}
+use lib.Dec.{eqb, ltb}
+use borrow.Author.Tests.{eqb-true, ltb-true, lt-ltb, le-ltb}
+use Rattle.word.specs.Choice.{pick}
+use Rattle.word.specs.Words.{bits, bit, ofKind}
+use Rattle.numeric.specs.Format.{dimensionAt, typeOf, shapeCode, typeWord}
+use Rattle.varying.specs.Format.{varOf, varWord, payloadHeld, payloadWord}
 use Rattle.varying.specs.declared.Payload.{Payload}
 use Rattle.varying.specs.declared.Payload.the-variants as Pay
-use Rattle.word.proofs.Truth.{first, second}
-use Rattle.varying.proofs.Joined.{var-filed}
+use Rattle.word.proofs.Truth.{below-all}
+use Rattle.varying.proofs.Joined.{kind-back, flag-back}
 use Rattle.lists.specs.Format.{primitiveCode}
 use Rattle.lists.specs.declared.types.PrimitiveIndex.{PrimitiveIndex}
 
@@ -35,37 +35,27 @@ module _ (p : Payload) (bytes : ℕ) (e : p ≡ Pay.Size bytes) where
 
 -- ---- a variable
 
-module _ (v : InterfaceVar) (h : varHeld v ≡ true) where
-  below-five : v .interpolation < 5
-  below-five = search (ltb-true, first, second) depth 5
+-- of sixteen codes of a shape the last three mean what others mean
+shape-code : (code : ℕ) → code < 16 → shapeCode (dimensionAt code) ≡ pick (ltb code 13) code (code - 3)
+shape-code code h =
+    eqb-true (shapeCode (dimensionAt code)) (pick (ltb code 13) code (code - 3))
+    (below-all 16 (λ c. eqb (shapeCode (dimensionAt c)) (pick (ltb c 13) c (c - 3))) refl code h)
 
-  below-six : v .sampling < 6
-  below-six = search (ltb-true, first, second) depth 5
+summed : (s a b c d e : ℕ) → 0x68000000 + (c + 8 * d + 64 * e) * 0x1000 + (a + 4 * b) * 16 + s
+    ≡ 2 ^ 27 * 13 + (s + 16 * a + 64 * b) + (2 ^ 12 * c + (2 ^ 15 * d + 2 ^ 18 * e))
+summed s a b c d e = omega arith
 
-  word-below : varWord v < 2 ^ 31
-  unfolding varFiled
-  word-below =
-      let f = var-filed v h in
-      let k : kindOf (varWord v) ≡ 13 = search (eqb-true, first) in
-      omega arith
+module _ (w : ℕ) where
+  var-by : (s : ℕ) → shapeCode (dimensionAt (bits 3 0 w)) ≡ s → 0x68000000 + w / 0x1000 % 0x80 * 0x1000 + w / 16 % 64 * 16 + s ≡ varWord (varOf w)
+  unfolding varWord varOf typeWord typeOf
+  var-by s e =
+      let h : w / 0x1000 % 0x80 ≡ bits 14 12 w + 8 * bits 17 15 w + 64 * bit 18 w = omega arith in
+      let l : w / 16 % 64 ≡ bits 5 4 w + 4 * bits 9 6 w = omega arith in
+      rw (e, kind-back (bits 5 4 w) (omega arith), flag-back (bit 18 w) (omega arith), h, l)
+      (summed s (bits 5 4 w) (bits 9 6 w) (bits 14 12 w) (bits 17 15 w) (bit 18 w))
 
-  pub interpolation-scaled : 0x1000 * v .interpolation < 2 ^ 32
-  interpolation-scaled = omega (arith, below-five)
+  pub var-first : w % 16 < 13 → 0x68000000 + w / 0x1000 % 0x80 * 0x1000 + w / 16 % 64 * 16 + w % 16 ≡ varWord (varOf w)
+  var-first h = var-by (w % 16) (shape-code (bits 3 0 w) (omega arith) ∙ rw (lt-ltb (w % 16) 13 h))
 
-  pub sampling-scaled : 0x8000 * v .sampling < 2 ^ 32
-  sampling-scaled = omega (arith, below-six)
-
-  module _ (b : ℕ) (k : b ≤ 0x40000) where
-    pub flag-sum : 0x8000 * v .sampling + b < 2 ^ 32
-    flag-sum = omega (arith, below-six)
-
-    pub rest-sum : 0x1000 * v .interpolation + (0x8000 * v .sampling + b) < 2 ^ 32
-    rest-sum = omega (arith, below-five, below-six)
-
-  module _ (b t : ℕ) (eb : b ≡ 2 ^ 18 * pick (yes (v .«per_primitive»)) 1 0) (et : t ≡ typeWord (v .ty)) where
-    pub var-is : t + (0x1000 * v .interpolation + (0x8000 * v .sampling + b)) ≡ varWord v
-    unfolding varWord
-    var-is = rw (et, eb)
-
-    pub var-sum : t + (0x1000 * v .interpolation + (0x8000 * v .sampling + b)) < 2 ^ 32
-    var-sum = rw var-is (omega (arith, word-below))
+  pub var-other : 13 ≤ w % 16 → 0x68000000 + w / 0x1000 % 0x80 * 0x1000 + w / 16 % 64 * 16 + (w % 16 - 3) ≡ varWord (varOf w)
+  var-other h = var-by (w % 16 - 3) (shape-code (bits 3 0 w) (omega arith) ∙ rw (le-ltb (w % 16) 13 h))

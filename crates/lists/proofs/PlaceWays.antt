@@ -50,6 +50,12 @@ module _ (width : ℕ) (l : List ℕ) (n i at : ℕ) (place : ResourceBinding) (
 
 -- ---- a place sought by the content of its word
 
+pub content-place : (w : ℕ) → placeOf (w % 0x800_0000) ≡ placeOf w
+content-place w =
+    let g : bits 26 23 (w % 0x800_0000) ≡ bits 26 23 w = omega arith in
+    let b : bits 22 0 (w % 0x800_0000) ≡ bits 22 0 w = omega arith in
+    rw (g, b)
+
 module _ (w content : ℕ) (h : content < 2 ^ 27) where
   content-same : w % 0x800_0000 ≡ content → samePlace (placeOf w) (placeOf content) ≡ true
   content-same e =
@@ -93,6 +99,17 @@ module _ (width n m : ℕ) where
         let s : width * (n - i) ≡ width * (n - (i + 1)) + width = rw e at (one-less width (n - i) (λ z. omega arith)) in
         omega arith
 
+-- the records that are counted, and those that are left with their first
+pub counted-within : (width n k m : ℕ) → n ≡ k → 1 + width * k ≤ m → 1 + width * n ≤ m
+counted-within width n k m e h = rw e h
+
+module _ (width at left m : ℕ) (h : at + width * left ≤ m) (z : left ≡ 0 → ⊥) where
+  pub left-within : 0 < width → at < m
+  left-within o = omega (arith, one-less width left z)
+
+  pub left-onward : at + width + width * (left - 1) ≤ m
+  left-onward = omega (arith, one-less width left z)
+
 module _ (width n m : ℕ) (w : width ≤ 4) (h : n < 2 ^ 32) (k : 2 ^ 60 ≤ m) where
   pub sought-fit : width * n < m
   sought-fit = let q : width * n ≤ 4 * n = mul-le-mul-right n w in omega arith
@@ -106,11 +123,7 @@ module _ (place : ResourceBinding) (b : Bool) (h : b ≡ placeHeld place) (t : b
   held-told = sym h ∙ t
 
   pub content-tells : (ps : List ResourceBinding) (r : Found) (w : ℕ) → w ≡ placeWord place → r ≡ placeFrom (placeOf (w % 0x800_0000)) ps 0 → r ≡ placeFrom place ps 0
-  content-tells ps r w e f =
-      let g : bits 26 23 (w % 0x800_0000) ≡ bits 26 23 w = omega arith in
-      let n : bits 22 0 (w % 0x800_0000) ≡ bits 22 0 w = omega arith in
-      let p : placeOf w ≡ place = ap placeOf e ∙ place-read place held-told in
-      f ∙ rw (g, n) (ap (λ q. placeFrom q ps 0) p)
+  content-tells ps r w e f = f ∙ ap (λ q. placeFrom q ps 0) (content-place w ∙ (ap placeOf e ∙ place-read place held-told))
 
 -- ---- a place among others
 
@@ -141,14 +154,14 @@ pub distinct-begins : (width m n : ℕ) (ws : List ℕ) → n ≡ m → distinct
 distinct-begins width m n ws e = rw e
 
 module _ (width : ℕ) (l : List ℕ) (k at : ℕ) (goal : Bool) (inv : goal ≡ distinctPlaces (places width k (drop at l))) where
-  module _ (p : ResourceBinding) (b : Bool) (h : k ≡ 0 → ⊥) (ep : p ≡ placeOf (wordAt l at)) (eb : b ≡ placeIn p (places width (k - 1) (drop (at + width) l))) where
+  module _ (b : Bool) (h : k ≡ 0 → ⊥) (eb : b ≡ placeIn (placeOf (wordAt l at % 0x800_0000)) (places width (k - 1) (drop (at + width) l))) where
     pub distinct-twice : b ≡ true → false ≡ goal
     unfolding distinctPlaces
-    distinct-twice t = sym (inv ∙ rw (left-cons width readPlace l k at h, here l at, ← ep, ← eb, t))
+    distinct-twice t = sym (inv ∙ rw (left-cons width readPlace l k at h, here l at, ← content-place (wordAt l at), ← eb, t))
 
     pub distinct-onward : b ≡ false → goal ≡ distinctPlaces (places width (k - 1) (drop (at + width) l))
     unfolding distinctPlaces
-    distinct-onward t = inv ∙ rw (left-cons width readPlace l k at h, here l at, ← ep, ← eb, t)
+    distinct-onward t = inv ∙ rw (left-cons width readPlace l k at h, here l at, ← content-place (wordAt l at), ← eb, t)
 
   pub distinct-ended : k ≡ 0 → true ≡ goal
   unfolding distinctPlaces

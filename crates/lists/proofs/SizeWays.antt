@@ -1,13 +1,14 @@
 -- The code's ways through a size list.
-use Prim.Native.Nat.{ℕ, _+_, _*_}
-use mathlib.Core.Path.{_≡_}
-use mathlib.Core.Bool.{Bool, false, _&&_}
+use Prim.Native.Nat.{ℕ, _+_, _*_, _≤_}
+use mathlib.Core.Path.{_≡_, sym, _∙_}
+use mathlib.Core.Bool.{Bool, false, not, _&&_}
 use mathlib.Core.List.{List}
 use lib.Dec.{eqb, leb}
 use lib.ListN.{length, drop}
-use borrow.Author.Tests.{eq-eqb, ne-eqb}
+use borrow.Author.Tests.{eq-eqb, ne-eqb, not-false, leb-true}
 use Rattle.word.specs.Words.{wordAt, kindOf, bits}
 use Rattle.resource.specs.Format.{sizeFiled}
+use Rattle.word.proofs.Truth.{second}
 use Rattle.lists.specs.Meaning.{distinctPlaces, distinctSizes, sizePlaces}
 use Rattle.lists.specs.Format.{countOf, places, readSize, sizeGood, readSizes, sizesHead}
 use Rattle.lists.proofs.Records.{read-mapped}
@@ -18,14 +19,18 @@ pub head-word : (ws : List ℕ) (w : ℕ) (r : Bool) → w ≡ wordAt ws 0
 unfolding sizesHead countOf
 head-word ws w r e h = rw (← e) h
 
+pub head-holds : (ws : List ℕ) (b : Bool) → b ≡ sizesHead ws → not b ≡ false → 1 + 2 * countOf ws ≤ length ws
+unfolding sizesHead
+head-holds ws b e h = let t = sym e ∙ not-false b h in search (leb-true, second)
+
 -- ---- a record
 
-module _ (l : List ℕ) (at w : ℕ) (e : w ≡ wordAt l at) where
-  pub size-no-place : (kindOf w ≡ 4 → ⊥) → false ≡ sizeGood (drop at l)
-  size-no-place h = rw (here l at, ← e, ne-eqb (kindOf w) 4 h)
+module _ (l : List ℕ) (at : ℕ) where
+  pub size-no-place : (kindOf (wordAt l at) ≡ 4 → ⊥) → false ≡ sizeGood (drop at l)
+  size-no-place h = rw (here l at, ne-eqb (kindOf (wordAt l at)) 4 h)
 
-  pub size-is : (x : ℕ) (r : Bool) → kindOf w ≡ 4 → x ≡ wordAt l (at + 1) → r ≡ sizeFiled x → r ≡ sizeGood (drop at l)
-  size-is x r h f g = rw (here l at, there l at 1, ← e, ← f, eq-eqb (kindOf w) 4 h) g
+  pub size-is : (r : Bool) → kindOf (wordAt l at) ≡ 4 → r ≡ sizeFiled (wordAt l (at + 1)) → r ≡ sizeGood (drop at l)
+  size-is r h g = rw (here l at, there l at 1, eq-eqb (kindOf (wordAt l at)) 4 h) g
 
 -- ---- places
 

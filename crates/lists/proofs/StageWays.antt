@@ -2,16 +2,17 @@
 use Prim.Native.Nat.{ℕ, zero, suc, _+_, _-_, _*_, _%_, _<_, _≤_}
 use native.Mathlib.Omega.{arith}
 use mathlib.Core.Path.{_≡_, refl, sym, _∙_}
-use mathlib.Core.Bool.{Bool, true, false, _&&_}
+use mathlib.Core.Bool.{Bool, true, false, not, _&&_}
 use mathlib.Core.List.{List}
 use lib.Dec.{eqb, leb, ltb}
 use lib.ListN.{length, drop}
-use borrow.Author.Tests.{eq-eqb, ne-eqb, lt-ltb, le-ltb}
+use borrow.Author.Tests.{eq-eqb, ne-eqb, lt-ltb, le-ltb, leb-true, not-false}
 use Rattle.word.specs.Choice.{pick}
 use Rattle.word.specs.Words.{wordAt, kindOf, contentOf, bits}
 use Rattle.varying.specs.Format.{locationFiled, varFiled, varOf, payloadFiled, payloadOf}
 use Rattle.varying.specs.declared.InterfaceVar.{InterfaceVar}
 use Rattle.varying.specs.declared.Payload.{Payload}
+use Rattle.word.proofs.Truth.{first, second}
 use Rattle.lists.specs.Meaning.{rising, varyingAt}
 use Rattle.lists.specs.Format.{records, countOf, primitiveAt, readLocated, locatedGood, readVaryings, variableFound, stageHead, decodeStage}
 use Rattle.lists.specs.declared.types.Found.{Found}
@@ -30,6 +31,13 @@ module _ (ws : List ℕ) (w : ℕ) (r : Bool) (e : w ≡ wordAt ws 0) where
   unfolding stageHead countOf
   head-word h = rw (← e) h
 
+pub head-holds : (ws : List ℕ) (b : Bool) (n : ℕ) → b ≡ stageHead ws → not b ≡ false → n ≡ countOf ws → 2 + 2 * n ≤ length ws
+unfolding stageHead
+head-holds ws b n e h en =
+    let t = sym e ∙ not-false b h in
+    let k : 2 + 2 * countOf ws ≤ length ws = search (leb-true, first, second) depth 7 in
+    rw en k
+
 pub payload-word : (ws : List ℕ) (p : ℕ) (r : Bool) → p ≡ wordAt ws 1 → r ≡ payloadFiled p → r ≡ payloadFiled (wordAt ws 1)
 payload-word ws p r e h = rw (← e) h
 
@@ -43,12 +51,12 @@ payload-decoded ws w r e h = rw (← e) h
 
 -- ---- a record
 
-module _ (l : List ℕ) (at x : ℕ) (a : Bool) (e : x ≡ wordAt l at) (f : a ≡ locationFiled x) where
+module _ (l : List ℕ) (at : ℕ) (a : Bool) (f : a ≡ locationFiled (wordAt l at)) where
   pub located-not : a ≡ false → false ≡ locatedGood (drop at l)
-  located-not h = rw (here l at, ← e, ← f, h)
+  located-not h = rw (here l at, ← f, h)
 
-  pub located-is : (y : ℕ) (b : Bool) → a ≡ true → y ≡ wordAt l (at + 1) → b ≡ varFiled y → b ≡ locatedGood (drop at l)
-  located-is y b h g k = rw (here l at, there l at 1, ← e, ← f, ← g, h, ← k)
+  pub located-is : (b : Bool) → a ≡ true → b ≡ varFiled (wordAt l (at + 1)) → b ≡ locatedGood (drop at l)
+  located-is b h k = rw (here l at, there l at 1, ← f, h, ← k)
 
 -- ---- rising locations
 
@@ -70,12 +78,12 @@ pub rising-counted : (n m : ℕ) (ws : List ℕ) (r : Bool) → n ≡ m → r �
 rising-counted n m ws r e h = rw (← e) h
 
 module _ (l : List ℕ) (k at : ℕ) (goal : Bool) (inv : goal ≡ rising (readVaryings k (drop at l))) where
-  module _ (a b : ℕ) (h : 2 ≤ k) (eb : b ≡ contentOf (wordAt l (at + 2))) (ea : a ≡ contentOf (wordAt l at)) where
-    pub rising-falls : b ≤ a → false ≡ goal
-    rising-falls n = sym (inv ∙ rw (rising-step l k at h, ← ea, ← eb, le-ltb a b n))
+  module _ (h : 2 ≤ k) where
+    pub rising-falls : contentOf (wordAt l (at + 2)) ≤ contentOf (wordAt l at) → false ≡ goal
+    rising-falls n = sym (inv ∙ rw (rising-step l k at h, le-ltb (contentOf (wordAt l at)) (contentOf (wordAt l (at + 2))) n))
 
-    pub rising-onward : a < b → goal ≡ rising (readVaryings (k - 1) (drop (at + 2) l))
-    rising-onward n = inv ∙ rw (rising-step l k at h, ← ea, ← eb, lt-ltb a b n)
+    pub rising-onward : contentOf (wordAt l at) < contentOf (wordAt l (at + 2)) → goal ≡ rising (readVaryings (k - 1) (drop (at + 2) l))
+    rising-onward n = inv ∙ rw (rising-step l k at h, lt-ltb (contentOf (wordAt l at)) (contentOf (wordAt l (at + 2))) n)
 
   pub rising-ended : k < 2 → true ≡ goal
   rising-ended h = sym (inv ∙ rising-end k (drop at l) h)

@@ -1,7 +1,7 @@
 // A layout list: whether it is one, what it holds, a new entry, and a stage joined to one.
 ghost use mathlib.Core.Path.{_≡_};
 ghost use mathlib.Core.Bool.{true, false};
-ghost use Prim.Native.Nat.{_+_, _<_, _≤_};
+ghost use Prim.Native.Nat.{_+_, _*_, _<_, _≤_};
 ghost use lib.ListN.{length, drop};
 ghost use Rattle.word.specs.Choice.{pick};
 ghost use Rattle.resource.specs.Format.{entryHeld, entryWords};
@@ -17,7 +17,7 @@ use crate::visibility::join_bit;
 use resource::binding_codes::binding_word;
 use resource::binding_codes::least_word;
 use resource::entry_words::entry_at;
-use resource::entry_words::entry_filed;
+use resource::entry_words::words_filed;
 use resource::resource_words::place_word;
 use resource::types::BindGroupLayoutEntry;
 use resource::types::BindingType;
@@ -40,15 +40,18 @@ fn layout_head(l: &[u32]) -> bool
 
 // Whether an entry stands at a position, with its group below the count.
 fn entry_good(l: &[u32], at: usize, groups: u32) -> bool
+    requires { ⌜ at + 4 ≤ length (now l) ⌝ }
     ensures { λ r. ⌜ r ≡ entryGood groups (drop at (now (l .entry))) ⌝ }
 {
-    if entry_filed(l, at) {
-        return word(l, at) / 0x80_0000 % 16 < groups;
+    let place = l[at];
+    if words_filed(place, l[at + 1], l[at + 2], l[at + 3]) {
+        return place / 0x80_0000 % 16 < groups;
     }
     false
 }
 
 fn entries_good(l: &[u32]) -> bool
+    requires { ⌜ 1 + 4 * countOf (now l) ≤ length (now l) ⌝ }
     ensures { λ r. ⌜ r ≡ each 4 (entryGood (groupsOf (now (l .entry)))) (countOf (now (l .entry))) (drop 1 (now (l .entry))) ⌝ }
 {
     let bound = groups(l);

@@ -5,7 +5,7 @@ ghost use mathlib.Core.List.{[], _∷_};
 ghost use Prim.Native.Nat.{_+_, _*_, _<_, _≤_, _^_};
 ghost use lib.ListN.{length, take, drop};
 ghost use Rattle.varying.specs.Format.{varFiled, varOf, locatedHeld, locatedWords, payloadHeld};
-ghost use Rattle.lists.specs.Meaning.{insert, inserted};
+ghost use Rattle.lists.specs.Meaning.{rising, insert, inserted};
 ghost use Rattle.lists.specs.Format.{put, each, flat, locatedGood, readVaryings, outFiled, decodeStage, encodeStage};
 use crate::heads::count;
 use crate::out_words::payload_word;
@@ -14,7 +14,6 @@ use crate::out_words::var_word;
 use crate::stage_io::location_at;
 use crate::stores::store_two;
 use crate::types::PrimitiveIndex;
-use varying::Located;
 use varying::Payload;
 use word::word;
 
@@ -79,18 +78,34 @@ fn place(out: &mut [u32], n: usize, location: u32, var: u32) -> u32
     1
 }
 
-// A variable put into the list by its location; of equal locations the last is kept.
-pub fn insert_out(out: &mut [u32], v: Located)
-    requires { ⌜ (outFiled (now out) ≡ true) × (locatedHeld v ≡ true) ⌝ }
+// The same where the locations rise: one above the last needs no search.
+fn place_last(out: &mut [u32], n: usize, location: u32, var: u32) -> u32
+    requires { ⌜ (2 + 2 * n + 2 ≤ length (now out)) × (n < 0x1_0000) × (each 2 locatedGood n (drop 2 (now out)) ≡ true) ⌝ }
+    requires { ⌜ (location < 2 ^ 27) × (varFiled var ≡ true) × (rising (readVaryings n (drop 2 (now out))) ≡ true) ⌝ }
+    ensures { λ _. ⌜ now (out .exit) ≡ put (now (out .entry)) 2 (flat locatedWords (insert (record { location = location; var = varOf var }) (readVaryings n (drop 2 (now (out .entry)))))) ⌝ }
+    ensures { λ r. ⌜ length (insert (record { location = location; var = varOf var }) (readVaryings n (drop 2 (now (out .entry))))) ≡ n + r ⌝ }
+    ensures { λ r. ⌜ r ≤ 1 ⌝ }
+{
+    if n != 0 {
+        if out[2 * n] % 0x800_0000 < location {
+            store_two(out, 2 + 2 * n, 0x6000_0000 + location, var);
+            return 1;
+        }
+    }
+    place(out, n, location, var)
+}
+
+// The variable of a word put into the list by its location; of equal locations the last is kept.
+pub fn insert_words(out: &mut [u32], location: u32, var: u32)
+    requires { ⌜ (outFiled (now out) ≡ true) × (locatedHeld (record { location = location; var = varOf var }) ≡ true) ⌝ }
     requires { ⌜ (length (decodeStage (now out) .varyings) < 63) × (2 ≤ length (decodeStage (now out) .room)) ⌝ }
-    ensures { λ _. ⌜ now (out .exit) ≡ encodeStage (inserted v (decodeStage (now (out .entry)))) ⌝ }
-    ensures { λ _. ⌜ decodeStage (now (out .exit)) ≡ inserted v (decodeStage (now (out .entry))) ⌝ }
+    ensures { λ _. ⌜ now (out .exit) ≡ encodeStage (inserted (record { location = location; var = varOf var }) (decodeStage (now (out .entry)))) ⌝ }
+    ensures { λ _. ⌜ decodeStage (now (out .exit)) ≡ inserted (record { location = location; var = varOf var }) (decodeStage (now (out .entry))) ⌝ }
     ensures { λ _. ⌜ outFiled (now (out .exit)) ≡ true ⌝ }
 {
     let n = count(out);
     let head = word(out, 0);
-    let var = v.var;
     let second = var_word(var);
-    let more = place(out, n, v.location, second);
+    let more = place_last(out, n, location, second);
     out[0] = head + more;
 }

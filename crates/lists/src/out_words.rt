@@ -1,14 +1,11 @@
 // The words that a stage list is written in.
 ghost use mathlib.Core.Path.{_≡_};
 ghost use mathlib.Core.Bool.{true};
-ghost use Prim.Native.Nat.{_+_, _*_, _≤_, _^_};
-ghost use Rattle.word.specs.Choice.{pick, yes};
+ghost use Prim.Native.Nat.{_*_, _^_};
 ghost use Rattle.word.specs.Words.{ofKind};
-ghost use Rattle.varying.specs.Format.{varHeld, varWord, payloadHeld, payloadWord};
+ghost use Rattle.varying.specs.Format.{varOf, varWord, payloadHeld, payloadWord};
 ghost use Rattle.lists.specs.Format.{primitiveCode};
 use crate::types::PrimitiveIndex;
-use numeric::type_words::type_word;
-use varying::InterfaceVar;
 use varying::Payload;
 
 // The first word of a list that counts no variable yet.
@@ -32,22 +29,14 @@ pub(crate) fn payload_word(payload: Payload) -> u32
     }
 }
 
-fn per_primitive_bit(flag: bool) -> u32
-    ensures { λ r. ⌜ r ≡ 2 ^ 18 * pick (yes flag) 1 0 ⌝ }
-    ensures { λ r. ⌜ r ≤ 0x4_0000 ⌝ }
+// The word of the variable that a word holds: bits that name nothing are zero, and a shape has one code.
+pub(crate) fn var_word(w: u32) -> u32
+    ensures { λ r. ⌜ r ≡ varWord (varOf w) ⌝ }
 {
-    if flag {
-        return 0x4_0000;
+    let rest = 0x6800_0000 + w / 0x1000 % 0x80 * 0x1000 + w / 16 % 64 * 16;
+    let shape = w % 16;
+    if shape < 13 {
+        return rest + shape;
     }
-    0
-}
-
-pub(crate) fn var_word(v: InterfaceVar) -> u32
-    requires { ⌜ varHeld v ≡ true ⌝ }
-    ensures { λ r. ⌜ r ≡ varWord v ⌝ }
-{
-    let ty = v.ty;
-    let rest = 0x1000 * v.interpolation
-        + (0x8000 * v.sampling + per_primitive_bit(v.per_primitive));
-    type_word(ty) + rest
+    rest + (shape - 3)
 }

@@ -94,11 +94,13 @@ pub(crate) fn find_place(
     find_plain(l, from, n, width, place)
 }
 
-fn has_place(l: &[u32], from: usize, n: usize, width: usize, place: ResourceBinding) -> bool
+// Whether one of the records has the place that a word's content tells, where all lie within the slice.
+fn has_place(l: &[u32], from: usize, n: usize, width: usize, content: u32) -> bool
     requires { ⌜ (from < 2 ^ 32) × (n < 2 ^ 32) × (width ≤ 4) ⌝ }
-    ensures { λ r. ⌜ r ≡ placeIn place (places width n (drop from (now (l .entry)))) ⌝ }
+    requires { ⌜ (0 < width) × (from + width * n ≤ length (now l)) × (content < 2 ^ 27) ⌝ }
+    ensures { λ r. ⌜ r ≡ placeIn (placeOf content) (places width n (drop from (now (l .entry)))) ⌝ }
 {
-    match find_place(l, from, n, width, place) {
+    match find_within(l, from, n, width, content) {
         Found::At { index: _ } => true,
         Found::Nothing => false,
     }
@@ -106,28 +108,28 @@ fn has_place(l: &[u32], from: usize, n: usize, width: usize, place: ResourceBind
 
 // Whether no two records have one place: each is compared with all behind it.
 fn distinct_pairs(l: &[u32], width: usize) -> bool
-    requires { ⌜ width ≤ 4 ⌝ }
+    requires { ⌜ (0 < width) × (width ≤ 4) × (1 + width * countOf (now l) ≤ length (now l)) ⌝ }
     ensures { λ r. ⌜ r ≡ distinctPlaces (places width (countOf (now (l .entry))) (drop 1 (now (l .entry)))) ⌝ }
 {
     let mut at: usize = 1;
     let mut left = count(l);
     while left != 0 {
-        let place = place_at(l, at);
+        let content = l[at] % 0x800_0000;
         at += width;
         left -= 1;
-        if has_place(l, at, left, width, place) {
+        if has_place(l, at, left, width, content) {
             return false;
         }
     }
     true
 }
 
-// Where a place has its mark.
-fn slot_of(place: ResourceBinding) -> usize
-    ensures { λ r. ⌜ r ≡ slot place ⌝ }
+// Where the place that a word's content tells has its mark.
+fn slot_of(content: u32) -> usize
+    ensures { λ r. ⌜ r ≡ slot (placeOf content) ⌝ }
     ensures { λ r. ⌜ r < 1024 ⌝ }
 {
-    ((place.binding % 1024 + 128 * (place.group % 8)) % 1024) as usize
+    ((content % 1024 + 128 * (content / 0x80_0000 % 8)) % 1024) as usize
 }
 
 // Whether a place is among those of records that all have their mark. Without a mark it is not.
@@ -136,23 +138,24 @@ fn has_marked(
     from: usize,
     n: usize,
     width: usize,
-    place: ResourceBinding,
+    content: u32,
     marks: &[u8; 1024],
 ) -> bool
     requires { ⌜ (from < 2 ^ 32) × (n < 2 ^ 32) × (width ≤ 4) ⌝ }
+    requires { ⌜ (0 < width) × (from + width * n ≤ length (now l)) × (content < 2 ^ 27) ⌝ }
     requires { ⌜ every (marked (now marks)) (places width n (drop from (now l))) ≡ true ⌝ }
-    ensures { λ r. ⌜ r ≡ placeIn place (places width n (drop from (now (l .entry)))) ⌝ }
+    ensures { λ r. ⌜ r ≡ placeIn (placeOf content) (places width n (drop from (now (l .entry)))) ⌝ }
 {
-    let slot = slot_of(place);
+    let slot = slot_of(content);
     if marks[slot] == 0 {
         return false;
     }
-    has_place(l, from, n, width, place)
+    has_place(l, from, n, width, content)
 }
 
 // Whether no two records have one place, from the last record to the first: those behind have their mark.
 fn distinct_marked(l: &[u32], width: usize) -> bool
-    requires { ⌜ width ≤ 4 ⌝ }
+    requires { ⌜ (0 < width) × (width ≤ 4) × (1 + width * countOf (now l) ≤ length (now l)) ⌝ }
     ensures { λ r. ⌜ r ≡ distinctPlaces (places width (countOf (now (l .entry))) (drop 1 (now (l .entry)))) ⌝ }
 {
     let n = count(l);
@@ -162,23 +165,23 @@ fn distinct_marked(l: &[u32], width: usize) -> bool
     while left != 0 {
         let behind = at;
         at -= width;
-        let place = place_at(l, at);
-        if has_marked(l, behind, n - left, width, place, &marks) {
+        let content = l[at] % 0x800_0000;
+        if has_marked(l, behind, n - left, width, content, &marks) {
             return false;
         }
-        let slot = slot_of(place);
+        let slot = slot_of(content);
         marks[slot] = 1;
         left -= 1;
     }
     true
 }
 
-// Whether no two records have one place. Marks pay where there are more than a few.
+// Whether no two records have one place, where all lie within the slice. Marks pay where there are more than a few.
 pub(crate) fn distinct_places(l: &[u32], width: usize) -> bool
-    requires { ⌜ width ≤ 4 ⌝ }
+    requires { ⌜ (0 < width) × (width ≤ 4) × (1 + width * countOf (now l) ≤ length (now l)) ⌝ }
     ensures { λ r. ⌜ r ≡ distinctPlaces (places width (countOf (now (l .entry))) (drop 1 (now (l .entry)))) ⌝ }
 {
-    if count(l) <= 12 {
+    if count(l) <= 6 {
         return distinct_pairs(l, width);
     }
     distinct_marked(l, width)

@@ -1,8 +1,8 @@
 // A size list: whether it is one, and a size recorded.
 ghost use mathlib.Core.Path.{_≡_};
 ghost use mathlib.Core.Bool.{true, false};
-ghost use Prim.Native.Nat.{_<_, _≤_, _^_};
-ghost use lib.ListN.{drop};
+ghost use Prim.Native.Nat.{_+_, _*_, _<_, _≤_, _^_};
+ghost use lib.ListN.{length, drop};
 ghost use Rattle.resource.specs.Format.{placeHeld};
 ghost use Rattle.lists.specs.Meaning.{sizeHas, sizeFits, recorded};
 ghost use Rattle.lists.specs.Format.{countOf, each, sizeGood, sizesHead, sizesFiled, decodeSizes, encodeSizes};
@@ -32,17 +32,18 @@ fn sizes_head(l: &[u32]) -> bool
 
 // Whether a place and a size of at least 1 stand at a position.
 fn size_good(l: &[u32], at: usize) -> bool
-    requires { ⌜ at < 2 ^ 60 ⌝ }
+    requires { ⌜ at + 2 ≤ length (now l) ⌝ }
     ensures { λ r. ⌜ r ≡ sizeGood (drop at (now (l .entry))) ⌝ }
 {
-    if word(l, at) / 0x800_0000 != 4 {
+    if l[at] / 0x800_0000 != 4 {
         return false;
     }
-    let size = word(l, at + 1);
+    let size = l[at + 1];
     size / 0x800_0000 == 6 && size % 0x800_0000 != 0
 }
 
 fn sizes_good(l: &[u32]) -> bool
+    requires { ⌜ 1 + 2 * countOf (now l) ≤ length (now l) ⌝ }
     ensures { λ r. ⌜ r ≡ each 2 sizeGood (countOf (now (l .entry))) (drop 1 (now (l .entry))) ⌝ }
 {
     let mut at: usize = 1;

@@ -45,17 +45,18 @@ pub fn location_at(l: &[u32], at: usize) -> u32
 }
 
 fn located_good(l: &[u32], at: usize) -> bool
-    requires { ⌜ at < 2 ^ 60 ⌝ }
+    requires { ⌜ at + 2 ≤ length (now l) ⌝ }
     ensures { λ r. ⌜ r ≡ locatedGood (drop at (now (l .entry))) ⌝ }
 {
-    if varying::location_filed(word(l, at)) {
-        return varying::var_filed(word(l, at + 1));
+    if varying::location_filed(l[at]) {
+        return varying::var_filed(l[at + 1]);
     }
     false
 }
 
 // Whether each variable has a location and a variable's word.
 fn varyings_good(l: &[u32]) -> bool
+    requires { ⌜ 2 + 2 * countOf (now l) ≤ length (now l) ⌝ }
     ensures { λ r. ⌜ r ≡ each 2 locatedGood (countOf (now (l .entry))) (drop 2 (now (l .entry))) ⌝ }
 {
     let mut at: usize = 2;
@@ -72,13 +73,13 @@ fn varyings_good(l: &[u32]) -> bool
 
 // Whether each location is below the next.
 fn rises(l: &[u32], n: usize) -> bool
-    requires { ⌜ n < 0x1_0000 ⌝ }
+    requires { ⌜ 2 + 2 * n ≤ length (now l) ⌝ }
     ensures { λ r. ⌜ r ≡ rising (readVaryings n (drop 2 (now (l .entry)))) ⌝ }
 {
     let mut at: usize = 2;
     let mut left = n;
     while 2 <= left {
-        if location_at(l, at + 2) <= location_at(l, at) {
+        if l[at + 2] % 0x800_0000 <= l[at] % 0x800_0000 {
             return false;
         }
         at += 2;

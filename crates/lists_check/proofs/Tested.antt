@@ -13,7 +13,6 @@ use Rattle.resource.specs.declared.types.ResourceBinding.{ResourceBinding}
 use Rattle.resource.specs.declared.types.BindGroupLayoutEntry.{BindGroupLayoutEntry}
 use Rattle.resource.proofs.EntryFormat.{entry-held}
 use Rattle.varying.specs.Format.{varFiled, varOf, locatedHeld, payloadOf, payloadHeld}
-use Rattle.varying.specs.declared.InterfaceVar.{InterfaceVar}
 use Rattle.varying.specs.declared.Payload.{Payload}
 use Rattle.word.proofs.Truth.{first, second, both}
 use Rattle.varying.proofs.Joined.{var-held, payload-held}
@@ -51,9 +50,8 @@ entry-within L f i h e = ltb-true i (length (L .entries)) (rw e at h)
 pub payload-fits : (p : Payload) (w : ℕ) → p ≡ payloadOf w → payloadHeld p ≡ true
 payload-fits p w e = rw e (payload-held w)
 
-pub located-fits : (v : InterfaceVar) (location w : ℕ) (b : Bool) → b ≡ varFiled w → not b ≡ false → v ≡ varOf w → location < 2 ^ 27
-    → locatedHeld (record { location = location; var = v }) ≡ true
-located-fits v location w b q h e n = rw (e, lt-ltb location (2 ^ 27) n) (var-held w (passed b (varFiled w) q h))
+pub located-fits : (location w : ℕ) (b : Bool) → b ≡ varFiled w → not b ≡ false → location < 2 ^ 27 → locatedHeld (record { location = location; var = varOf w }) ≡ true
+located-fits location w b q h n = rw (lt-ltb location (2 ^ 27) n) (var-held w (passed b (varFiled w) q h))
 
 module _ (l : List ℕ) (h : hasRoom l ≡ true) where
   pub list-out : outFiled l ≡ true

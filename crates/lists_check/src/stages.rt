@@ -4,7 +4,7 @@ ghost use Rattle.lists_check.specs.Room.{hasRoom};
 use crate::print;
 use lists::heads::count;
 use lists::list_out::begin_out;
-use lists::list_out::insert_out;
+use lists::list_out::insert_words;
 use lists::stage_io::out_filed;
 use lists::stage_io::payload;
 use lists::stage_io::primitive_index;
@@ -14,12 +14,10 @@ use lists::types::PrimitiveIndex;
 use lists::types::Provided;
 use numeric::type_words::type_word;
 use varying::InterfaceVar;
-use varying::Located;
 use varying::Payload;
 use varying::payload_filed;
 use varying::payload_of;
 use varying::var_filed;
-use varying::var_of;
 
 fn show_variable(v: InterfaceVar) {
     let ty = v.ty;
@@ -103,7 +101,6 @@ pub fn insert(l: &mut [u32], location: u32, var: u32) {
     if !var_filed(var) {
         return print::nothing();
     }
-    let v = var_of(var);
-    insert_out(l, Located { location, var: v });
+    insert_words(l, location, var);
     print::yes_no(true)
 }

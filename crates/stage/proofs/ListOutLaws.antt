@@ -6,18 +6,19 @@ use mathlib.Core.Bool.{Bool, true, false, _||_}
 use mathlib.Core.List.{List, [], _∷_}
 use lib.ListN.{length, drop, length-drop}
 use lib.Seq.{drop-drop}
+use borrow.Author.Tests.{eq-eqb, ne-eqb}
 use Rattle.word.specs.Choice.{pick}
 use Rattle.word.proofs.Tests.{yes-true, yes-false}
-use Rattle.word.specs.Words.{wordAt, bits}
-use Rattle.varying.specs.Format.{locatedHeld, payloadOf, payloadHeld}
+use Rattle.word.specs.Words.{wordAt, kindOf, contentOf, bits}
+use Rattle.varying.specs.Format.{varOf, locatedHeld, payloadOf, payloadHeld}
 use Rattle.varying.proofs.Joined.{payload-held}
-use Rattle.varying.specs.declared.InterfaceVar.{InterfaceVar}
 use Rattle.varying.specs.declared.Located.{Located}
 use Rattle.varying.specs.declared.Payload.{Payload}
 use Rattle.lists.specs.Meaning.{StageIo, every, rising, varyingAt, isProvided, insert, inserted}
 use Rattle.lists.specs.Format.{outFiled, decodeStage, encodeStage}
 use Rattle.lists.specs.declared.types.PrimitiveIndex.{PrimitiveIndex}
 use Rattle.lists.specs.declared.types.PrimitiveIndex.the-variants as Index
+use Rattle.lists.proofs.Words.{here, there}
 use Rattle.lists.proofs.Records.{first-passes, rest-passes}
 use Rattle.lists.proofs.InsertLaws.{rising-insert, insert-length, longer}
 use Rattle.lists.proofs.StageLists.{good, good-decode, encode-decode}
@@ -47,37 +48,35 @@ module _ (stage : ShaderStage) (w : Bool) where
 
 -- ---- one output
 
-module _ (v : Varying) (location : ℕ) (iv : InterfaceVar) (e : v ≡ Var.Local location iv) where
-  pub local-held : outputHeld v ≡ true → locatedHeld (record { location = location; var = iv }) ≡ true
-  local-held h = rw e at h
+module _ (ws : List ℕ) (at w k : ℕ) (ew : w ≡ wordAt ws at) (ek : k ≡ kindOf w) where
+  module _ (t : k ≡ 12) where
+    pub local-few : (n : ℕ) → n + isLocal (varying (drop at ws)) ≤ 63 → n < 63
+    local-few n h = let m : n + 1 ≤ 63 = rw (here ws at, ← ew, ← ek, eq-eqb k 12 t) at h in omega arith
 
-  pub local-few : (n : ℕ) → n + isLocal v ≤ 63 → n < 63
-  local-few n h = let k : n + 1 ≤ 63 = rw e at h in omega arith
+    pub local-roomy : (n : ℕ) → 2 * isLocal (varying (drop at ws)) ≤ n → 2 ≤ n
+    local-roomy n h = rw (here ws at, ← ew, ← ek, eq-eqb k 12 t) at h
 
-  pub local-roomy : (n : ℕ) → 2 * isLocal v ≤ n → 2 ≤ n
-  local-roomy n h = rw e at h
+    pub local-wide : at + 2 ≡ at + varyingWidth (drop at ws)
+    local-wide = rw (here ws at, ← ew, ← ek, eq-eqb k 12 t)
 
-  pub local-handed : (S T : StageIo) → T ≡ inserted (record { location = location; var = iv }) S → T ≡ handed v S
-  unfolding handed
-  local-handed S T h = rw e h
+    module _ (c x : ℕ) (ec : c ≡ contentOf w) (ex : x ≡ wordAt ws (at + 1)) where
+      there-local : varying (drop at ws) ≡ Var.Local c (varOf x)
+      there-local = rw (here ws at, there ws at 1, ← ew, ← ek, ← ex, ← ec, eq-eqb k 12 t)
 
-pub built-in-handed : (v : Varying) (b : BuiltIn) (S : StageIo) → v ≡ Var.BuiltIn b → S ≡ handed v S
-unfolding handed
-built-in-handed v b S e = rw e
+      pub local-held : outputHeld (varying (drop at ws)) ≡ true → locatedHeld (record { location = c; var = varOf x }) ≡ true
+      local-held h = ap outputHeld (sym there-local) ∙ h
 
--- the output that was read is the one that stands there
-module _ (u v : Varying) (e : v ≡ u) where
-  pub same-held : outputHeld u ≡ true → outputHeld v ≡ true
-  same-held h = rw e h
+      pub local-handed : (S T : StageIo) → T ≡ inserted (record { location = c; var = varOf x }) S → T ≡ handed (varying (drop at ws)) S
+      unfolding handed
+      local-handed S T h = h ∙ ap (λ v. handed v S) (sym there-local)
 
-  pub same-few : (n : ℕ) → n + isLocal u ≤ 63 → n + isLocal v ≤ 63
-  same-few n h = rw e h
+  module _ (t : k ≡ 12 → ⊥) where
+    pub built-in-handed : (S : StageIo) → S ≡ handed (varying (drop at ws)) S
+    unfolding handed
+    built-in-handed S = rw (here ws at, ← ew, ← ek, ne-eqb k 12 t)
 
-  pub same-room : (n : ℕ) → 2 * isLocal u ≤ n → 2 * isLocal v ≤ n
-  same-room n h = rw e h
-
-  pub same-handed : (S T : StageIo) → T ≡ handed v S → T ≡ handed u S
-  same-handed S T h = rw (← e) h
+    pub built-in-wide : at + 1 ≡ at + varyingWidth (drop at ws)
+    built-in-wide = rw (here ws at, ← ew, ← ek, ne-eqb k 12 t)
 
 -- ---- all outputs in order
 

@@ -137,8 +137,17 @@ module _ (w k : ℕ) (ek : k ≡ kindOf w) where
   pub first-built-in : (r : Summary) → (k ≡ 12 → ⊥) → r ≡ summaryOf (Var.BuiltIn (builtInOf w) ∷ []) → r ≡ summaryOf (varying (w ∷ []) ∷ [])
   first-built-in r n e = rw (← ek, ne-eqb k 12 n) e
 
+  pub width-local : k ≡ 12 → 2 ≡ varyingWidth (w ∷ [])
+  width-local h = rw (← ek, eq-eqb k 12 h)
+
+  pub width-built-in : (k ≡ 12 → ⊥) → 1 ≡ varyingWidth (w ∷ [])
+  width-built-in n = rw (← ek, ne-eqb k 12 n)
+
 -- the type of a local variable does not matter
 module _ (ws : List ℕ) (at w : ℕ) (ew : w ≡ wordAt ws at) where
+  width-there : varyingWidth (w ∷ []) ≡ varyingWidth (drop at ws)
+  width-there = rw (here ws at, ← ew)
+
   first-summary : summaryOf (varying (w ∷ []) ∷ []) ≡ summaryOf (varying (drop at ws) ∷ [])
   first-summary =
       rw (here ws at, ← ew, one-varying (varying (w ∷ [])), one-varying (pick (locationFiled w) (local w (wordAt (drop at ws) 1)) (Var.BuiltIn (builtInOf w))))
@@ -214,11 +223,11 @@ summary-start vs s e = rw e (plus-start vs)
 
 module _ (ws : List ℕ) (k at : ℕ) (s goal : Summary) (inv : goal ≡ plus s (summaryOf (varyings k (drop at ws)))) where
   pub summary-onward : (w : ℕ) (p r : Summary) (width : ℕ) → (k ≡ 0 → ⊥) → w ≡ wordAt ws at → p ≡ summaryOf (varying (w ∷ []) ∷ []) → r ≡ plus s p
-      → width ≡ varyingWidth (drop at ws) → goal ≡ plus r (summaryOf (varyings (k - 1) (drop (at + width) ws)))
+      → width ≡ varyingWidth (w ∷ []) → goal ≡ plus r (summaryOf (varyings (k - 1) (drop (at + width) ws)))
   summary-onward w p r width h d e f x =
       let part : p ≡ summaryOf (varying (drop at ws) ∷ []) = e ∙ first-summary ws at w d in
       let others : List Varying = varyings (k - 1) (drop (at + width) ws) in
-      inv ∙ rw (varyings-left ws k at h, ← x) (plus-more s (varying (drop at ws)) others ∙ rw (← part, f))
+      inv ∙ rw (varyings-left ws k at h, ← width-there ws at w d, ← x) (plus-more s (varying (drop at ws)) others ∙ rw (← part, f))
 
   pub summary-ended : k ≡ 0 → s ≡ goal
   summary-ended h = sym (inv ∙ rw (varyings-none (drop at ws) k h) (plus-end s))
@@ -245,10 +254,10 @@ module _ (number past limit : ℕ) (ws : List ℕ) (k at : ℕ) (goal : Answer) 
     unfolding locationUses
     locations-refused n = sym (inv ∙ rw (varyings-left ws k at h, ← use-is, ne-eqb (a .number) 0 n))
 
-    pub locations-onward : (width : ℕ) → a .number ≡ 0 → width ≡ varyingWidth (drop at ws)
+    pub locations-onward : (width : ℕ) → a .number ≡ 0 → width ≡ varyingWidth (w ∷ [])
         → goal ≡ locationUses number past limit (varyings (k - 1) (drop (at + width) ws))
     unfolding locationUses
-    locations-onward width z x = inv ∙ rw (varyings-left ws k at h, ← use-is, eq-eqb (a .number) 0 z, x)
+    locations-onward width z x = inv ∙ rw (varyings-left ws k at h, ← use-is, eq-eqb (a .number) 0 z, ← width-there ws at w d, x)
 
   pub locations-ended : (a : Answer) → k ≡ 0 → a ≡ accepted → a ≡ goal
   unfolding locationUses

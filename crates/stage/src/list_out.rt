@@ -15,16 +15,14 @@ use crate::inputs::either;
 use crate::types::InputWalk;
 use crate::types::Summary;
 use interface::parts::outputs_counted;
-use interface::reads::varying_at;
-use interface::reads::varying_width;
 use interface::types::EntryParts;
 use interface::types::ShaderStage;
-use interface::types::Varying;
 use lists::list_out::begin_out;
-use lists::list_out::insert_out;
+use lists::list_out::insert_words;
 use lists::types::PrimitiveIndex;
-use varying::Located;
 use varying::Payload;
+use word::content;
+use word::kind;
 use word::word;
 
 // Whether a mesh stage writes a primitive index; other stages have none.
@@ -45,23 +43,7 @@ fn primitive_out(stage: ShaderStage, written: bool) -> PrimitiveIndex
     }
 }
 
-// One output: a local one is put into its place, a built-in one is passed over.
-fn hand_on(out: &mut [u32], v: Varying)
-    requires { ⌜ (outFiled (now out) ≡ true) × (outputHeld v ≡ true) ⌝ }
-    requires { ⌜ (length (decodeStage (now out) .varyings) + isLocal v ≤ 63) × (2 * isLocal v ≤ length (decodeStage (now out) .room)) ⌝ }
-    ensures { λ _. ⌜ decodeStage (now (out .exit)) ≡ handed v (decodeStage (now (out .entry))) ⌝ }
-    ensures { λ _. ⌜ outFiled (now (out .exit)) ≡ true ⌝ }
-{
-    match v {
-        Varying::Local { location, iv } => {
-            let var = Located { location, var: iv };
-            insert_out(out, var);
-        }
-        Varying::BuiltIn { built_in: _ } => {}
-    }
-}
-
-// The output at a position, handed on; the answer is where the next one begins.
+// The output at a position: a local one is put into its place, a built-in one is passed over. The answer is where the next one begins.
 fn hand_next(pack: &[u32], at: usize, out: &mut [u32]) -> usize
     requires { ⌜ at < 2 ^ 41 ⌝ }
     requires { ⌜ (outFiled (now out) ≡ true) × (outputHeld (varying (drop at (now pack))) ≡ true) ⌝ }
@@ -72,9 +54,12 @@ fn hand_next(pack: &[u32], at: usize, out: &mut [u32]) -> usize
     ensures { λ r. ⌜ r ≡ at + varyingWidth (drop at (now (pack .entry))) ⌝ }
     ensures { λ r. ⌜ r ≤ at + 2 ⌝ }
 {
-    let v = varying_at(pack, at);
-    hand_on(out, v);
-    at + varying_width(pack, at)
+    let w = word(pack, at);
+    if kind(w) == 12 {
+        insert_words(out, content(w), word(pack, at + 1));
+        return at + 2;
+    }
+    at + 1
 }
 
 // The outputs from a position on, by rising location, behind a payload and a primitive index.

@@ -5,7 +5,7 @@ ghost use mathlib.Core.List.{[], _∷_};
 ghost use Prim.Native.Nat.{_+_, _*_, _/_, _<_, _≤_, _^_};
 ghost use lib.ListN.{drop};
 ghost use Rattle.interface.specs.Format.{builtInOf};
-ghost use Rattle.interface.specs.Reads.{varying, varyings, standing};
+ghost use Rattle.interface.specs.Reads.{varying, varyingWidth, varyings, standing};
 ghost use Rattle.interface.specs.declared.types.Varying.the-variants as Var;
 ghost use Rattle.interface.specs.Parts.{Placed};
 ghost use Rattle.stage.specs.Meaning.{both};
@@ -15,7 +15,6 @@ use crate::inputs::either;
 use crate::types::Summary;
 use interface::parts::inputs_counted;
 use interface::parts::outputs_counted;
-use interface::reads::varying_width;
 use interface::types::EntryParts;
 use interface::types::Limits;
 use interface::types::ShaderStage;
@@ -80,6 +79,17 @@ fn first_summary(w: u32) -> Summary
     built_in_summary(w)
 }
 
+// How many words a varying takes, by its first word.
+fn first_width(w: u32) -> usize
+    ensures { λ r. ⌜ r ≡ varyingWidth (w ∷ []) ⌝ }
+    ensures { λ r. ⌜ r ≤ 2 ⌝ }
+{
+    if kind(w) == 12 {
+        return 2;
+    }
+    1
+}
+
 // Two summaries as one.
 fn joined(a: Summary, b: Summary) -> Summary
     requires { ⌜ (a .locals < 2 ^ 31) × (a .«clip_places» < 2 ^ 31) × (a .«built_in_places» < 2 ^ 31) ⌝ }
@@ -111,9 +121,10 @@ pub(crate) fn summary(pack: &[u32], from: usize, n: usize) -> Summary
     let mut at = from;
     let mut left = n;
     while left != 0 {
-        let part = first_summary(word(pack, at));
+        let w = word(pack, at);
+        let part = first_summary(w);
         s = joined(s, part);
-        at += varying_width(pack, at);
+        at += first_width(w);
         left -= 1;
     }
     s
@@ -162,7 +173,7 @@ pub(crate) fn location_uses(
         if a.number != 0 {
             return a;
         }
-        at += varying_width(pack, at);
+        at += first_width(w);
         left -= 1;
     }
     Answer::accepted()

@@ -97,7 +97,7 @@ var-bits w h =
       width = search (first, second) depth 9;
     }
 
-flag-back : (b : ℕ) → b < 2 → pick (yes (eqb b 1)) 1 0 ≡ b
+pub flag-back : (b : ℕ) → b < 2 → pick (yes (eqb b 1)) 1 0 ≡ b
 unfolding yes
 flag-back b h = eqb-true (pick (eqb b 1) 1 0) b (below-all 2 (λ c. eqb (pick (eqb c 1) 1 0) c) refl b h)
 

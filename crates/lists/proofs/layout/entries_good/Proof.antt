@@ -1,6 +1,6 @@
-use Prim.Native.Nat.{_+_, _*_, _<_, _^_}
+use Prim.Native.Nat.{_+_, _*_, _≤_}
 use mathlib.Core.Path.{_≡_}
-use lib.ListN.{drop}
+use lib.ListN.{length, drop}
 use Rattle.lists.specs.Format.{groupsOf, countOf, each, entryGood}
 use Rattle.lists.proofs.LayoutWays.{good-begins}
 use Rattle.lists.proofs.Ways.{each-fails, each-onward, each-ended}
@@ -10,7 +10,7 @@ use Rattle.lists.proofs.layout.entries_good.Tie as tie
 
 abbrev Inv-loop : tie.InvT-loop
 Inv-loop l bound at₀ left₀ at left =
-    (at + 4 * left < 2 ^ 60) × (each 4 (entryGood (groupsOf l)) (countOf l) (drop 1 l) ≡ each 4 (entryGood bound) left (drop at l))
+    (at + 4 * left ≤ length l) × (each 4 (entryGood (groupsOf l)) (countOf l) (drop 1 l) ≡ each 4 (entryGood bound) left (drop at l))
 
 abbrev μ-loop : tie.MeasureT-loop
 μ-loop l bound at₀ left₀ at left = left

@@ -1,6 +1,6 @@
 use Rattle.lists.proofs.Ways.{short-passes, test-fails, test-passes}
 use Rattle.lists.specs.Format.{layoutFiled}
-use Rattle.lists.proofs.LayoutWays.{entries-distinct}
+use Rattle.lists.proofs.LayoutWays.{head-holds, entries-distinct}
 use Rattle.word.proofs.Tests.{tests}
 use borrow.Author.Needs.{needs}
 use Rattle.lists.proofs.layout.layout_filed.Statement.{statement}
@@ -14,7 +14,7 @@ layout-filed-spec =
     (λ c. search tests)  -- returns
     (λ c κs. search needs)  -- layout-head-requires
     (λ c. search (short-passes, test-fails))  -- returns-2
-    (λ c κs. search needs)  -- entries-good-requires
+    (λ c κs. search head-holds)  -- entries-good-requires
     (λ c. search (short-passes, test-fails, test-passes))  -- returns-3
-    (λ c κs. search needs)  -- distinct-places-requires
+    (λ c κs. (search needs, search needs, search head-holds))  -- distinct-places-requires
     (λ c. search (short-passes, test-passes, entries-distinct)))  -- returns-4

@@ -1,4 +1,4 @@
-use Rattle.lists.proofs.OutWords.{interpolation-scaled, sampling-scaled, flag-sum, rest-sum, var-sum, var-is}
+use Rattle.lists.proofs.OutWords.{var-first, var-other}
 use borrow.Author.Needs.{needs}
 use Rattle.lists.proofs.out_words.var_word.Statement.{statement}
 use Rattle.lists.proofs.out_words.var_word.Tie as tie
@@ -7,11 +7,12 @@ pub var-word-spec : {M : Type 1} → statement M
 var-word-spec =
     tie.close
     (tie.spec
-    (λ c. search interpolation-scaled)  -- mul-rest
-    (λ c. search sampling-scaled)  -- mul-rest-2
-    (λ c κs. search needs)  -- per-primitive-bit-requires
-    (λ c. search flag-sum)  -- add-rest
-    (λ c. search rest-sum)  -- add-rest-2
-    (λ c κs. search needs)  -- type-word-requires
-    (λ c. search var-sum)  -- add-result
-    (λ c. search var-is))  -- returns
+    (λ c. search needs)  -- mul-rest
+    (λ c. search needs)  -- add-rest
+    (λ c. search needs)  -- mul-rest-2
+    (λ c. search needs)  -- add-rest-2
+    (λ c. search needs)  -- add-result
+    (λ c. search var-first)  -- returns
+    (λ c. search needs)  -- sub-result
+    (λ c. search needs)  -- add-result-2
+    (λ c. search var-other))  -- returns-2

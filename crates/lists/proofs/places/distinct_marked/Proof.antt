@@ -5,7 +5,7 @@ use lib.ListN.{length, drop}
 use Rattle.lists.specs.Meaning.{distinctPlaces, every}
 use Rattle.lists.specs.Marks.{marked}
 use Rattle.lists.specs.Format.{places}
-use Rattle.lists.proofs.MarkLaws.{records-fit, end-fits, record-fits, record-starts, marks-begin, marked-begins, marks-onward, marked-twice, marked-onward, marked-ended}
+use Rattle.lists.proofs.MarkLaws.{records-fit, end-fits, record-fits, record-within, behind-within, record-starts, marks-begin, marked-begins, marks-onward, marked-twice, marked-onward, marked-ended}
 use borrow.Author.Needs.{needs}
 use Rattle.lists.proofs.places.distinct_marked.Statement.{statement}
 use Rattle.lists.proofs.places.distinct_marked.Tie as tie
@@ -29,9 +29,10 @@ distinct-marked-spec =
     (λ c. search (end-fits, needs))  -- add-at
     (λ c. (search needs, search (end-fits, needs), search needs, search needs, search marks-begin, search marked-begins))  -- loop-holds
     (λ c. search record-fits)  -- sub-at
-    (λ c κs. search needs)  -- place-at-requires
+    (λ c. search needs)  -- mul-content
+    (λ c. search record-within)  -- shared-slice-read-content
     (λ c. search needs)  -- sub-has-marked
-    (λ c κs. search needs)  -- has-marked-requires
+    (λ c κs. (search needs, ((search needs, search behind-within, search needs), search needs)))  -- has-marked-requires
     (λ c. search marked-twice)  -- returns
     (λ c κs. search needs)  -- slot-of-requires
     (λ c. search needs)  -- array-write-marks

@@ -7,7 +7,7 @@ pub has-place-spec : {M : Type 1} → statement M
 has-place-spec =
     tie.close
     (tie.spec
-    (λ c κs. search needs)  -- find-place-requires
+    (λ c κs. search needs)  -- find-within-requires
     (λ c. search needs)  -- enum-told
     (λ c. search needs)  -- enum-told-2
     (λ c. search place-found)  -- returns

@@ -8,9 +8,11 @@ pub size-good-spec : {M : Type 1} → statement M
 size-good-spec =
     tie.close
     (tie.spec
-    (λ c κs. search needs)  -- word-requires
+    (λ c. search needs)  -- mul-if1
+    (λ c. search needs)  -- shared-slice-read-if1
     (λ c. search size-no-place)  -- returns
-    (λ c. search needs)  -- add-word
-    (λ c κs. search needs)  -- word-requires-2
+    (λ c. search needs)  -- add-size
+    (λ c. search needs)  -- mul-size
+    (λ c. search needs)  -- shared-slice-read-size
     (λ c. search (size-is, tests))  -- returns-2
     (λ c. search (size-is, tests)))  -- returns-3

@@ -1,6 +1,6 @@
 use Rattle.lists.proofs.Ways.{short-passes, test-fails, test-passes}
 use Rattle.lists.specs.Format.{sizesFiled}
-use Rattle.lists.proofs.SizeWays.{sizes-distinct}
+use Rattle.lists.proofs.SizeWays.{head-holds, sizes-distinct}
 use Rattle.word.proofs.Tests.{tests}
 use borrow.Author.Needs.{needs}
 use Rattle.lists.proofs.sizes.sizes_filed.Statement.{statement}
@@ -14,7 +14,7 @@ sizes-filed-spec =
     (λ c. search tests)  -- returns
     (λ c κs. search needs)  -- sizes-head-requires
     (λ c. search (short-passes, test-fails))  -- returns-2
-    (λ c κs. search needs)  -- sizes-good-requires
+    (λ c κs. search head-holds)  -- sizes-good-requires
     (λ c. search (short-passes, test-fails, test-passes))  -- returns-3
-    (λ c κs. search needs)  -- distinct-places-requires
+    (λ c κs. (search needs, search needs, search head-holds))  -- distinct-places-requires
     (λ c. search (short-passes, test-passes, sizes-distinct)))  -- returns-4

@@ -1,6 +1,6 @@
-use Prim.Native.Nat.{_+_, _*_, _<_, _^_}
+use Prim.Native.Nat.{_+_, _*_, _≤_}
 use mathlib.Core.Path.{_≡_}
-use lib.ListN.{drop}
+use lib.ListN.{length, drop}
 use Rattle.lists.specs.Format.{countOf, each, sizeGood}
 use Rattle.lists.proofs.Ways.{each-begins, each-fails, each-onward, each-ended}
 use borrow.Author.Needs.{needs}
@@ -8,7 +8,7 @@ use Rattle.lists.proofs.sizes.sizes_good.Statement.{statement}
 use Rattle.lists.proofs.sizes.sizes_good.Tie as tie
 
 abbrev Inv-loop : tie.InvT-loop
-Inv-loop l at₀ left₀ at left = (at + 2 * left < 2 ^ 60) × (each 2 sizeGood (countOf l) (drop 1 l) ≡ each 2 sizeGood left (drop at l))
+Inv-loop l at₀ left₀ at left = (at + 2 * left ≤ length l) × (each 2 sizeGood (countOf l) (drop 1 l) ≡ each 2 sizeGood left (drop at l))
 
 abbrev μ-loop : tie.MeasureT-loop
 μ-loop l at₀ left₀ at left = left

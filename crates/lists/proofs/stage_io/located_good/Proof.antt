@@ -7,10 +7,12 @@ pub located-good-spec : {M : Type 1} → statement M
 located-good-spec =
     tie.close
     (tie.spec
-    (λ c κs. search needs)  -- word-requires
+    (λ c. search needs)  -- mul-location-filed
+    (λ c. search needs)  -- shared-slice-read-location-filed
     (λ c κs. search needs)  -- location-filed-requires
-    (λ c. search needs)  -- add-word
-    (λ c κs. search needs)  -- word-requires-2
+    (λ c. search needs)  -- add-var-filed
+    (λ c. search needs)  -- mul-var-filed
+    (λ c. search needs)  -- shared-slice-read-var-filed
     (λ c κs. search needs)  -- var-filed-requires
     (λ c. search located-is)  -- returns
     (λ c. search located-not))  -- returns-2

@@ -1,6 +1,6 @@
-use Prim.Native.Nat.{_<_, _+_, _*_, _^_}
+use Prim.Native.Nat.{_≤_, _+_, _*_}
 use mathlib.Core.Path.{_≡_}
-use lib.ListN.{drop}
+use lib.ListN.{length, drop}
 use Rattle.lists.specs.Meaning.{rising}
 use Rattle.lists.specs.Format.{readVaryings}
 use Rattle.lists.proofs.StageWays.{rising-falls, rising-onward, rising-ended}
@@ -9,7 +9,7 @@ use Rattle.lists.proofs.stage_io.rises.Statement.{statement}
 use Rattle.lists.proofs.stage_io.rises.Tie as tie
 
 abbrev Inv-loop : tie.InvT-loop
-Inv-loop l n at₀ left₀ at left = (at + 2 * left < 2 ^ 60) × (rising (readVaryings n (drop 2 l)) ≡ rising (readVaryings left (drop at l)))
+Inv-loop l n at₀ left₀ at left = (at + 2 * left ≤ length l) × (rising (readVaryings n (drop 2 l)) ≡ rising (readVaryings left (drop at l)))
 
 abbrev μ-loop : tie.MeasureT-loop
 μ-loop l n at₀ left₀ at left = left
@@ -21,9 +21,11 @@ rises-spec =
     Inv-loop
     μ-loop
     (λ c. (search needs, search needs))  -- loop-holds
-    (λ c. search needs)  -- add-word
-    (λ c κs. search needs)  -- location-at-requires
-    (λ c κs. search needs)  -- location-at-requires-2
+    (λ c. search needs)  -- add-if1
+    (λ c. search needs)  -- mul-if1
+    (λ c. search needs)  -- shared-slice-read-if1
+    (λ c. search needs)  -- mul-if1-2
+    (λ c. search needs)  -- shared-slice-read-if1-2
     (λ c. search rising-falls)  -- returns
     (λ c. search needs)  -- add-at
     (λ c. search needs)  -- sub-left

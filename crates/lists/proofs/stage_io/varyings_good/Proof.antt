@@ -1,6 +1,6 @@
-use Prim.Native.Nat.{_<_, _+_, _*_, _^_}
+use Prim.Native.Nat.{_≤_, _+_, _*_}
 use mathlib.Core.Path.{_≡_}
-use lib.ListN.{drop}
+use lib.ListN.{length, drop}
 use Rattle.lists.specs.Format.{countOf, each, locatedGood}
 use Rattle.lists.proofs.Ways.{each-begins, each-fails, each-onward, each-ended}
 use borrow.Author.Needs.{needs}
@@ -8,7 +8,7 @@ use Rattle.lists.proofs.stage_io.varyings_good.Statement.{statement}
 use Rattle.lists.proofs.stage_io.varyings_good.Tie as tie
 
 abbrev Inv-loop : tie.InvT-loop
-Inv-loop l at₀ left₀ at left = (at + 2 * left < 2 ^ 60) × (each 2 locatedGood (countOf l) (drop 2 l) ≡ each 2 locatedGood left (drop at l))
+Inv-loop l at₀ left₀ at left = (at + 2 * left ≤ length l) × (each 2 locatedGood (countOf l) (drop 2 l) ≡ each 2 locatedGood left (drop at l))
 
 abbrev μ-loop : tie.MeasureT-loop
 μ-loop l at₀ left₀ at left = left

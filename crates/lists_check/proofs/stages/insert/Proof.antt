@@ -18,8 +18,7 @@ insert-spec =
     (λ c κs. search needs)  -- nothing-requires-3
     (λ c. search needs)  -- same-length-3
     (λ c. search needs)  -- returns-3
-    (λ c κs. search needs)  -- var-of-requires
-    (λ c κs. ((list-out _ (search passed), search located-fits), (variables-few _ (search passed), room-enough _ (search passed))))  -- insert-out-requires
+    (λ c κs. ((list-out _ (search passed), search located-fits), (variables-few _ (search passed), room-enough _ (search passed))))  -- insert-words-requires
     (λ c κs. search needs)  -- yes-no-requires
     (λ c. search needs)  -- same-length-4
     (λ c. search needs))  -- returns-4

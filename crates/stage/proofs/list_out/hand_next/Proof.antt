@@ -1,4 +1,4 @@
-use Rattle.stage.proofs.ListOutLaws.{same-held, same-few, same-room, same-handed}
+use Rattle.stage.proofs.ListOutLaws.{local-held, local-few, local-roomy, local-handed, local-wide, built-in-handed, built-in-wide}
 use borrow.Author.Needs.{needs}
 use Rattle.stage.proofs.list_out.hand_next.Statement.{statement}
 use Rattle.stage.proofs.list_out.hand_next.Tie as tie
@@ -7,9 +7,14 @@ pub hand-next-spec : {M : Type 1} → statement M
 hand-next-spec =
     tie.close
     (tie.spec
-    (λ c κs. search needs)  -- varying-at-requires
-    (λ c κs. ((search needs, search same-held), (search same-few, search same-room)))  -- hand-on-requires
-    (λ c κs. search needs)  -- varying-width-requires
+    (λ c κs. search needs)  -- word-requires
+    (λ c κs. search needs)  -- kind-requires
+    (λ c κs. search needs)  -- content-requires
+    (λ c. search needs)  -- add-word
+    (λ c κs. search needs)  -- word-requires-2
+    (λ c κs. ((search needs, search local-held), (search local-few, search local-roomy)))  -- insert-words-requires
     (λ c. search needs)  -- add-result
     (λ c. search needs)  -- same-length
-    (λ c. (search same-handed, search needs)))  -- returns
+    (λ c. (search local-handed, (search needs, (search local-wide, search needs))))  -- returns
+    (λ c. search needs)  -- add-result-2
+    (λ c. (search built-in-handed, (search needs, (search built-in-wide, search needs)))))  -- returns-2

@@ -26,7 +26,7 @@ summary-spec =
     (λ c κs. search needs)  -- word-requires
     (λ c κs. search needs)  -- first-summary-requires
     (λ c κs. (search needs, (search part-locals, search part-clip, search part-built-in)))  -- joined-requires
-    (λ c κs. search needs)  -- varying-width-requires
+    (λ c κs. search needs)  -- first-width-requires
     (λ c. search needs)  -- add-at
     (λ c. search needs)  -- sub-left
     (λ c. search needs)  -- loop-less

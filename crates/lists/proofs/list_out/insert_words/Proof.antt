@@ -1,0 +1,17 @@
+use Rattle.lists.proofs.OutStores.{located-below, located-filed, out-fits, out-good, out-rises, head-sum, out-first, out-inserted, inserted-decoded, inserted-filed}
+use borrow.Author.Needs.{needs}
+use Rattle.lists.proofs.list_out.insert_words.Statement.{statement}
+use Rattle.lists.proofs.list_out.insert_words.Tie as tie
+
+pub insert-words-spec : {M : Type 1} → statement M
+insert-words-spec =
+    tie.close
+    (tie.spec
+    (λ c κs. search needs)  -- count-requires
+    (λ c κs. search needs)  -- word-requires
+    (λ c κs. search needs)  -- var-word-requires
+    (λ c κs. ((search out-fits, search needs, search out-good), (search located-below, search located-filed, search out-rises)))  -- place-last-requires
+    (λ c. search head-sum)  -- add-out
+    (λ c. search out-first)  -- slice-write-out
+    (λ c. search needs)  -- same-length
+    (λ c. (search out-inserted, (search (inserted-decoded, out-inserted), search (inserted-filed, out-inserted)))))  -- returns
