@@ -35,7 +35,7 @@ four (a ∷ b ∷ c ∷ d ∷ ws) h = refl
 
 -- ---- sizes
 
-size-written : (w : ℕ) → sizeFiled w ≡ true → ofKind 6 (contentOf w) ≡ w
+pub size-written : (w : ℕ) → sizeFiled w ≡ true → ofKind 6 (contentOf w) ≡ w
 size-written w h = let k : kindOf w ≡ 6 = search (eqb-true, first) in omega arith
 
 size-kept : (ws : List ℕ) → sizeGood ws ≡ true → sizeHeld (readSize ws) ≡ true

@@ -2,34 +2,59 @@
 use Prim.Native.Nat.{ℕ, suc, _+_, _*_, _^_, _<_, _≤_}
 use native.Mathlib.Omega.{arith}
 use mathlib.Core.Path.{_≡_, refl, sym, ap, _∙_}
-use mathlib.Core.Bool.{true, false}
+use mathlib.Core.Bool.{Bool, true, false}
 use mathlib.Core.List.{List, [], _∷_, _++_}
 use lib.ListN.{length, drop, getD, set, length-append, length-drop}
+use lib.Seq.{drop-drop}
 use borrow.Author.Tests.{ltb-true, le-leb, lt-leb}
 use Rattle.word.specs.Words.{wordAt, kindOf, contentOf, bits, ofKind}
-use Rattle.resource.specs.Format.{placeWord, bindingCode, leastSize, entryWords, entryOf, entryHeld}
+use Rattle.word.specs.Choice.{pick}
+use Rattle.resource.specs.Format.{placeWord, bindingCode, leastSize, entryFiled, entryWords, entryOf, entryHeld, entryFiledAt, entryAt}
 use Rattle.resource.specs.declared.types.BindGroupLayoutEntry.{BindGroupLayoutEntry}
-use Rattle.word.proofs.Truth.{second}
-use Rattle.lists.specs.Meaning.{entryHas, entryNth, emptyEntry, fits, pushed, joinBit, seenBy, joinAt, joined}
+use Rattle.resource.proofs.EntryFormat.{entry-filed, entry-read as entry-again, entry-back}
+use Rattle.word.proofs.Truth.{first, second}
+use Rattle.lists.specs.Meaning.{Layout, entryHas, entryNth, emptyEntry, fits, pushed, joinBit, seenBy, joinAt, joined}
 use Rattle.lists.specs.Format.{put, past, each, flat, countOf, groupsOf, readEntry, readEntries, entryGood, entryFits}
 use Rattle.lists.specs.Format.{layoutFiled, decodeLayout, encodeLayout, layoutGood}
-use Rattle.lists.proofs.Words.{put-put, put-next, there}
-use Rattle.lists.proofs.Records.{read-length, room-length, flat-read, put-last, set-flat}
+use Rattle.lists.proofs.Words.{put-next, here, there}
+use Rattle.lists.proofs.Records.{read-length, room-length, each-nth, flat-read, put-last, set-flat}
 use Rattle.lists.proofs.Forms.{entry-form}
 use Rattle.lists.proofs.LayoutLists.{Filed, filed, encode-decode, decode-encode, filed-encode, good-decode}
 use Rattle.lists.proofs.LayoutLaws.{nth-getD, joined-set, length-join, good-pushed, good-joined}
-use Rattle.lists.proofs.LayoutWays.{entries-counted, nth-read}
+use Rattle.lists.proofs.LayoutWays.{entries-counted, nth-read, entry-read}
 
 -- ---- an entry stored
 
-pub entry-stored : (l m k : List ℕ) (at p t s : ℕ) (e : BindGroupLayoutEntry) → at + 4 ≤ length l → p ≡ placeWord (e .bind) → t ≡ ofKind 18 (bindingCode (e .ty))
-    → m ≡ put l at (p ∷ t ∷ []) → s ≡ ofKind 6 (leastSize (e .ty)) → k ≡ put m (at + 2) (s ∷ (0x98000000 + e .visibility) ∷ []) → k ≡ put l at (entryWords e)
-unfolding entryWords
-entry-stored l m k at p t s e h hp ht hm hs hk =
-    hk ∙ rw (hm, put-put l at (p ∷ t ∷ []) (s ∷ (0x98000000 + e .visibility) ∷ []) (omega arith), hp, ht, hs)
+pub entry-stored : (l m : List ℕ) (at p t s v : ℕ) → entryFiled p t s v ≡ true → m ≡ put l at (p ∷ t ∷ s ∷ v ∷ [])
+    → m ≡ put l at (entryWords (entryOf p t s v))
+entry-stored l m at p t s v f h = rw (entry-back p t s v f) h
 
 pub seen-sum : (e : BindGroupLayoutEntry) → entryHeld e ≡ true → 0x98000000 + e .visibility < 2 ^ 32
 seen-sum e h = let v : e .visibility < 32 = search (ltb-true, second) in omega arith
+
+-- the words of an entry that the list can hold
+module _ (g p t s : ℕ) (e : BindGroupLayoutEntry) (h : entryFits g e ≡ true) (ep : p ≡ placeWord (e .bind)) (et : t ≡ ofKind 18 (bindingCode (e .ty)))
+    (es : s ≡ ofKind 6 (leastSize (e .ty))) where
+  pub words-filed : entryFiled p t s (0x98000000 + e .visibility) ≡ true
+  words-filed = rw (ep, et, es) (entry-filed e (search first))
+
+  words-mean : entryOf p t s (0x98000000 + e .visibility) ≡ e
+  words-mean = rw (ep, et, es) (entry-again e (search first))
+
+  pub words-fit : entryFits g (entryOf p t s (0x98000000 + e .visibility)) ≡ true
+  words-fit = rw words-mean h
+
+  pub words-new : (others : List BindGroupLayoutEntry) → entryHas (e .bind) others ≡ false
+      → entryHas (entryOf p t s (0x98000000 + e .visibility) .bind) others ≡ false
+  words-new others n = rw words-mean n
+
+  module _ (r : Bool) (L : Layout) where
+    pub words-encoded : (ws : List ℕ) → ws ≡ encodeLayout (pick r (pushed L (entryOf p t s (0x98000000 + e .visibility))) L)
+        → ws ≡ encodeLayout (pick r (pushed L e) L)
+    words-encoded ws f = rw words-mean at f
+
+    pub words-pushed : (M : Layout) → M ≡ pick r (pushed L (entryOf p t s (0x98000000 + e .visibility))) L → M ≡ pick r (pushed L e) L
+    words-pushed M f = rw words-mean at f
 
 -- ---- a new entry
 
@@ -78,7 +103,19 @@ module _ (ws ws′ : List ℕ) (e : BindGroupLayoutEntry) (n w : ℕ) (f : layou
     pub push-filed : layoutFiled (set ws′ 0 (w + 1)) ≡ true
     push-filed = rw push-stored (filed-encode (pushed (decodeLayout ws) e) push-good)
 
--- ---- a stage joined
+-- ---- the words of an entry
+
+module _ (l : List ℕ) (i : ℕ) (h : i < length (decodeLayout l .entries)) where
+  pub entry-there : entryNth (decodeLayout l .entries) i ≡ entryAt l (1 + 4 * i)
+  entry-there = sym (entry-read l i (countOf l) refl (entryAt l (1 + 4 * i)) (rw entries-counted at h) refl)
+
+  pub entry-filed-there : layoutFiled l ≡ true → entryFiledAt l (1 + 4 * i) ≡ true
+  entry-filed-there f =
+      let t : entryGood (groupsOf l) (drop (4 * i) (drop 1 l)) ≡ true = each-nth 4 (entryGood (groupsOf l)) (countOf l) i (drop 1 l) (filed l f .good) (rw entries-counted at h) in
+      let q : entryFiledAt (drop (4 * i) (drop 1 l)) 0 ≡ true = search first in
+      rw (drop-drop (4 * i) 1 l, here l (1 + 4 * i), there l (1 + 4 * i) 1, there l (1 + 4 * i) 2, there l (1 + 4 * i) 3) at q
+
+-- ---- positions of an entry's words
 
 module _ (l : List ℕ) (i : ℕ) (f : layoutFiled l ≡ true) (h : i < length (decodeLayout l .entries)) where
   pub index-inside : 4 * i + 4 < length l
@@ -92,6 +129,21 @@ module _ (l : List ℕ) (i : ℕ) (f : layoutFiled l ≡ true) (h : i < length (
 
   pub index-bytes : (4 * i + 4) * 4 < 2 ^ 64
   index-bytes = omega (arith, filed l f .holds, filed l f .short, entries-counted l)
+
+  pub entry-placed : 1 + 4 * i < 2 ^ 64
+  entry-placed = omega (arith, index-placed)
+
+  module _ (k : ℕ) (n : k < 4) where
+    pub word-inside : 1 + 4 * i + k < length l
+    word-inside = omega (arith, index-inside)
+
+    pub word-placed : 1 + 4 * i + k < 2 ^ 64
+    word-placed = omega (arith, index-placed)
+
+    pub word-bytes : (1 + 4 * i + k) * 4 < 2 ^ 64
+    word-bytes = omega (arith, index-bytes)
+
+-- ---- a stage joined
 
 seen-words : (s : ℕ) (e : BindGroupLayoutEntry) → entryWords (seenBy s e) ≡ set (entryWords e) 3 (ofKind 19 (joinBit s (e .visibility)))
 unfolding entryWords

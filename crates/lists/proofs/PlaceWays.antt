@@ -8,7 +8,7 @@ use mathlib.Core.List.{List, [], _∷_}
 use lib.ListN.{drop}
 use borrow.Author.Tests.{eq-eqb}
 use Rattle.word.specs.Choice.{pick}
-use Rattle.word.specs.Words.{wordAt, bits}
+use Rattle.word.specs.Words.{wordAt, contentOf, bits}
 use Rattle.word.proofs.Truth.{by-test}
 use Rattle.resource.specs.Format.{placeOf, placeWord, placeHeld}
 use Rattle.resource.specs.declared.types.ResourceBinding.{ResourceBinding}
@@ -117,13 +117,23 @@ module _ (width n m : ℕ) (w : width ≤ 4) (h : n < 2 ^ 32) (k : 2 ^ 60 ≤ m)
   pub sought-end-fits : (from : ℕ) → from < 2 ^ 32 → from + width * n < m
   sought-end-fits from f = let q : width * n ≤ 4 * n = mul-le-mul-right n w in omega arith
 
--- a place that a word holds is the one that its content tells
+-- a place is the one that its word tells, and a word tells the place that its content tells
+module _ (ps : List ResourceBinding) (r : Found) (w : ℕ) where
+  pub content-tells : (c : ℕ) → c ≡ contentOf w → r ≡ placeFrom (placeOf c) ps 0 → r ≡ placeFrom (placeOf w) ps 0
+  content-tells c e f =
+      let g : bits 26 23 c ≡ bits 26 23 w = omega arith in
+      let n : bits 22 0 c ≡ bits 22 0 w = omega arith in
+      rw (g, n) at f
+
+  pub word-tells : (place : ResourceBinding) → place ≡ placeOf w → r ≡ placeFrom place ps 0 → r ≡ placeFrom (placeOf w) ps 0
+  word-tells place e f = rw (← e) f
+
 module _ (place : ResourceBinding) (b : Bool) (h : b ≡ placeHeld place) (t : b ≡ true) where
   pub held-told : placeHeld place ≡ true
   held-told = sym h ∙ t
 
-  pub content-tells : (ps : List ResourceBinding) (r : Found) (w : ℕ) → w ≡ placeWord place → r ≡ placeFrom (placeOf (w % 0x800_0000)) ps 0 → r ≡ placeFrom place ps 0
-  content-tells ps r w e f = f ∙ ap (λ q. placeFrom q ps 0) (content-place w ∙ (ap placeOf e ∙ place-read place held-told))
+  pub place-told : (ps : List ResourceBinding) (r : Found) (w : ℕ) → w ≡ placeWord place → r ≡ placeFrom (placeOf w) ps 0 → r ≡ placeFrom place ps 0
+  place-told ps r w e f = f ∙ ap (λ q. placeFrom q ps 0) (ap placeOf e ∙ place-read place held-told)
 
 -- ---- a place among others
 

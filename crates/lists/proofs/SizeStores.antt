@@ -2,23 +2,26 @@
 use Prim.Native.Nat.{ℕ, suc, _+_, _-_, _*_, _^_, _<_, _≤_, max}
 use native.Mathlib.Omega.{arith}
 use mathlib.Core.Path.{_≡_, sym, ap, _∙_}
-use mathlib.Core.Bool.{true, false}
+use mathlib.Core.Bool.{Bool, true, false}
 use mathlib.Core.List.{List, [], _∷_, _++_}
 use lib.ListN.{length, drop, getD, set, length-append, length-drop, length-map}
-use borrow.Author.Tests.{eqb-true, le-leb, lt-leb}
+use lib.Dec.{eqb}
+use borrow.Author.Tests.{eqb-true, eqb-false, ne-eqb, not-true, le-leb, lt-leb}
 use Rattle.word.specs.Words.{wordAt, kindOf, contentOf, bits, ofKind}
-use Rattle.resource.specs.Format.{placeWord, placeHeld}
+use Rattle.resource.specs.Format.{placeFiled, placeOf, placeWord, placeHeld, sizeFiled}
 use Rattle.resource.specs.declared.types.ResourceBinding.{ResourceBinding}
+use Rattle.resource.proofs.ReadLaws.{place-held}
+use Rattle.resource.proofs.EntryFormat.{place-filed, place-read, place-back}
 use Rattle.word.proofs.Truth.{first, second}
-use Rattle.lists.specs.Meaning.{placeFrom, sizePlaces, sizeHas, sizeRecord, sizeFits, recorded}
+use Rattle.lists.specs.Meaning.{Sizes, placeFrom, sizePlaces, sizeHas, sizeRecord, sizeFits, recorded}
 use Rattle.lists.specs.Format.{put, past, records, each, flat, countOf, places, readSize, readSizes, sizeGood, sizeWords}
-use Rattle.lists.specs.Format.{sizesFiled, decodeSizes, encodeSizes}
+use Rattle.lists.specs.Format.{sizesFiled, decodeSizes, encodeSizes, sizesGood}
 use Rattle.lists.specs.declared.types.SizeRecord.{SizeRecord}
 use Rattle.lists.specs.declared.types.Found.{Found}
 use Rattle.lists.specs.declared.types.Found.the-variants.{At, Nothing}
 use Rattle.lists.proofs.Words.{put-next, there}
 use Rattle.lists.proofs.Records.{read-length, room-length, nth-record, each-nth, flat-read, put-last, set-flat}
-use Rattle.lists.proofs.Forms.{size-form}
+use Rattle.lists.proofs.Forms.{size-written, size-form}
 use Rattle.lists.proofs.PlaceLaws.{FoundAt, found-there}
 use Rattle.lists.proofs.PlaceWays.{place-found, place-lacks}
 use Rattle.lists.proofs.SizeLists.{Filed, filed, encode-decode, decode-encode, filed-encode, good-decode}
@@ -108,13 +111,13 @@ size-kind s i f k =
     let z : 1 + (2 * i + 1) ≡ 2 * i + 2 = omega arith in
     rw (there (drop 1 s) (2 * i) 1, there s 1 (2 * i + 1), z) at q
 
-pub size-raised : (s s′ : List ℕ) (place : ResourceBinding) (size n i : ℕ) (r : Found) → sizesFiled s ≡ true → n ≡ countOf s
-    → r ≡ placeFrom place (places 2 n (drop 1 s)) 0 → r ≡ At i → s′ ≡ set s (2 * i + 2) (max (wordAt s (2 * i + 2)) (0x30000000 + size))
-    → s′ ≡ encodeSizes (recorded place size (decodeSizes s))
-size-raised s s′ place size n i r f en er h e =
-    let b : i < countOf s = rw (← en) (size-below s place n r en er i h) in
-    let m : max (wordAt s (2 * i + 2)) (0x30000000 + size) ≡ ofKind 6 (max (contentOf (wordAt s (2 * i + 2))) size) = omega (arith, size-kind s i f b) in
-    e ∙ rw m (raised-words s place i size f (size-there s place n r en er i h) b (size-has s place n r en er i h))
+pub size-raised : (s s′ : List ℕ) (p z n i : ℕ) (r : Found) → sizesFiled s ≡ true → sizeFiled z ≡ true → n ≡ countOf s
+    → r ≡ placeFrom (placeOf p) (places 2 n (drop 1 s)) 0 → r ≡ At i → s′ ≡ set s (2 * i + 2) (max (wordAt s (2 * i + 2)) z)
+    → s′ ≡ encodeSizes (recorded (placeOf p) (contentOf z) (decodeSizes s))
+size-raised s s′ p z n i r f fz en er h e =
+    let b : i < countOf s = rw (← en) (size-below s (placeOf p) n r en er i h) in
+    let m : max (wordAt s (2 * i + 2)) z ≡ ofKind 6 (max (contentOf (wordAt s (2 * i + 2))) (contentOf z)) = omega (arith, size-kind s i f b, size-written z fz) in
+    e ∙ rw m (raised-words s (placeOf p) i (contentOf z) f (size-there s (placeOf p) n r en er i h) b (size-has s (placeOf p) n r en er i h))
 
 -- ---- a new record
 
@@ -152,20 +155,57 @@ pushed-words (w ∷ ws) place size f h =
     let head : ofKind 20 (n + 1) ≡ w + 1 = omega arith in
     rw (put-next w ws (2 * n) (sizeWords (sizeRecord place size)), c, head, put-last size-form n ws (omega arith) (t .good) (sizeRecord place size))
 
-pub push-stored : (s s′ : List ℕ) (place : ResourceBinding) (size n w p : ℕ) → sizesFiled s ≡ true → n ≡ countOf s → sizeHas place (decodeSizes s .records) ≡ false
-    → w ≡ wordAt s 0 → 1 + 2 * n + 2 ≤ length s → p ≡ placeWord place → s′ ≡ put s (1 + 2 * n) (p ∷ (0x30000000 + size) ∷ [])
-    → set s′ 0 (w + 1) ≡ encodeSizes (recorded place size (decodeSizes s))
+pub push-stored : (s s′ : List ℕ) (p z n w : ℕ) → sizesFiled s ≡ true → n ≡ countOf s → placeFiled p ≡ true → sizeFiled z ≡ true
+    → sizeHas (placeOf p) (decodeSizes s .records) ≡ false → w ≡ wordAt s 0 → 1 + 2 * n + 2 ≤ length s → s′ ≡ put s (1 + 2 * n) (p ∷ z ∷ [])
+    → set s′ 0 (w + 1) ≡ encodeSizes (recorded (placeOf p) (contentOf z) (decodeSizes s))
 unfolding recorded
-push-stored s s′ place size n w p f en new ew h ep e =
-    rw (new, le-leb 2 (length (decodeSizes s .room)) (omega (arith, room-is s place size n f en new)), e, ep, ew, en)
-    (pushed-words s place size f (rw en at h))
+push-stored s s′ p z n w f en fp fz new ew h e =
+    let q : s′ ≡ put s (1 + 2 * countOf s) (sizeWords (sizeRecord (placeOf p) (contentOf z))) = rw (place-back p fp, size-written z fz, ← en) e in
+    rw (new, le-leb 2 (length (decodeSizes s .room)) (omega (arith, room-is s (placeOf p) (contentOf z) n f en new)), q, ew)
+    (pushed-words s (placeOf p) (contentOf z) f (rw en at h))
 
 -- ---- what holds of the words after either
 
-module _ (s s′ : List ℕ) (place : ResourceBinding) (size : ℕ) (f : sizesFiled s ≡ true) (p : placeHeld place ≡ true) (o : 1 ≤ size) (l : size < 2 ^ 27)
-    (e : s′ ≡ encodeSizes (recorded place size (decodeSizes s))) where
-  pub record-decoded : decodeSizes s′ ≡ recorded place size (decodeSizes s)
-  record-decoded = rw e (decode-encode (recorded place size (decodeSizes s)) (good-recorded place size (decodeSizes s) (good-decode s f) p o l))
+module _ (s s′ : List ℕ) (p z : ℕ) (f : sizesFiled s ≡ true) (fz : sizeFiled z ≡ true)
+    (e : s′ ≡ encodeSizes (recorded (placeOf p) (contentOf z) (decodeSizes s))) where
+  record-good : sizesGood (recorded (placeOf p) (contentOf z) (decodeSizes s)) ≡ true
+  record-good =
+      let n : contentOf z ≡ 0 → ⊥ = eqb-false (contentOf z) 0 (not-true (eqb (contentOf z) 0) (search second)) in
+      good-recorded (placeOf p) (contentOf z) (decodeSizes s) (good-decode s f) (place-held p) (omega arith) (omega arith)
+
+  pub record-decoded : decodeSizes s′ ≡ recorded (placeOf p) (contentOf z) (decodeSizes s)
+  record-decoded = rw e (decode-encode (recorded (placeOf p) (contentOf z) (decodeSizes s)) record-good)
 
   pub record-filed : sizesFiled s′ ≡ true
-  record-filed = rw e (filed-encode (recorded place size (decodeSizes s)) (good-recorded place size (decodeSizes s) (good-decode s f) p o l))
+  record-filed = rw e (filed-encode (recorded (placeOf p) (contentOf z) (decodeSizes s)) record-good)
+
+pub raised-filed : (s s′ : List ℕ) (p z n i : ℕ) (r : Found) → sizesFiled s ≡ true → sizeFiled z ≡ true → n ≡ countOf s
+    → r ≡ placeFrom (placeOf p) (places 2 n (drop 1 s)) 0 → r ≡ At i → s′ ≡ set s (2 * i + 2) (max (wordAt s (2 * i + 2)) z) → sizesFiled s′ ≡ true
+raised-filed s s′ p z n i r f fz en er h e = record-filed s s′ p z f fz (size-raised s s′ p z n i r f fz en er h e)
+
+-- ---- the words of a place and a size
+
+module _ (place : ResourceBinding) (size p : ℕ) (h : placeHeld place ≡ true) (o : 1 ≤ size) (l : size < 2 ^ 27) (e : p ≡ placeWord place) where
+  pub place-word-filed : placeFiled p ≡ true
+  place-word-filed = rw e (place-filed place h)
+
+  pub size-word-filed : sizeFiled (0x30000000 + size) ≡ true
+  size-word-filed =
+      let k : kindOf (0x30000000 + size) ≡ 6 = omega arith in
+      rw (k, ne-eqb (contentOf (0x30000000 + size)) 0 (λ z. omega arith))
+
+  place-is : placeOf p ≡ place
+  place-is = rw e (place-read place h)
+
+  size-is : contentOf (0x30000000 + size) ≡ size
+  size-is = omega arith
+
+  module _ (S : Sizes) where
+    pub words-fit : (r : Bool) → r ≡ sizeFits (placeOf p) S → r ≡ sizeFits place S
+    words-fit r f = rw place-is at f
+
+    pub words-encoded : (s : List ℕ) → s ≡ encodeSizes (recorded (placeOf p) (contentOf (0x30000000 + size)) S) → s ≡ encodeSizes (recorded place size S)
+    words-encoded s f = rw (place-is, size-is) at f
+
+    pub words-recorded : (T : Sizes) → T ≡ recorded (placeOf p) (contentOf (0x30000000 + size)) S → T ≡ recorded place size S
+    words-recorded T f = rw (place-is, size-is) at f

@@ -46,6 +46,10 @@ put-put l at p q h =
     let e : at + length (p ++ q) ≡ at + length p + length q = rw length-append (omega arith) in
     rw (take-put l at p k, c, e, append-assoc (take at l) p (q ++ drop (at + length p + length q) l), append-assoc p q (drop (at + length p + length q) l))
 
+pub stored-four : (l m k : List ℕ) (at a b c d : ℕ) → at + 4 ≤ length l → m ≡ put l at (a ∷ b ∷ []) → k ≡ put m (at + 2) (c ∷ d ∷ [])
+    → k ≡ put l at (a ∷ b ∷ c ∷ d ∷ [])
+stored-four l m k at a b c d h hm hk = hk ∙ rw (hm, put-put l at (a ∷ b ∷ []) (c ∷ d ∷ []) (omega arith))
+
 pub put-next : (w : ℕ) (l : List ℕ) (at : ℕ) (p : List ℕ) → put (w ∷ l) (1 + at) p ≡ w ∷ put l at p
 unfolding put
 put-next w l at p =

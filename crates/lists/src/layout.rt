@@ -4,14 +4,16 @@ ghost use mathlib.Core.Bool.{true, false};
 ghost use Prim.Native.Nat.{_+_, _*_, _<_, _≤_};
 ghost use lib.ListN.{length, drop};
 ghost use Rattle.word.specs.Choice.{pick};
-ghost use Rattle.resource.specs.Format.{entryHeld, entryWords};
+ghost use Rattle.word.specs.Words.{wordAt};
+ghost use Rattle.resource.specs.Format.{placeOf, entryFiled, entryOf};
 ghost use Rattle.lists.specs.Meaning.{findEntry, foundBelow, entryNth, entryHas, fits, pushed, joined};
-ghost use Rattle.lists.specs.Format.{countOf, groupsOf, each, put, entryGood, entryFits, layoutHead, layoutFiled, decodeLayout, encodeLayout};
+ghost use Rattle.lists.specs.Format.{countOf, groupsOf, each, entryGood, entryFits, layoutHead, layoutFiled, decodeLayout, encodeLayout};
 use crate::heads::count;
 use crate::heads::groups;
 use crate::places::distinct_places;
 use crate::places::find_place;
-use crate::stores::store_two;
+use crate::places::find_word;
+use crate::stores::store_four;
 use crate::types::Found;
 use crate::visibility::join_bit;
 use resource::binding_codes::binding_word;
@@ -97,6 +99,14 @@ pub fn find_entry(l: &[u32], place: ResourceBinding) -> Found
     find_place(l, 1, count(l), 4, place)
 }
 
+// The position of the entry at the place that a word tells.
+pub fn find_entry_word(l: &[u32], place: u32) -> Found
+    ensures { λ r. ⌜ r ≡ findEntry (placeOf place) (decodeLayout (now (l .entry))) ⌝ }
+    ensures { λ r. ⌜ foundBelow (length (decodeLayout (now (l .entry)) .entries)) r ≡ true ⌝ }
+{
+    find_word(l, 1, count(l), 4, place)
+}
+
 // The entry at a position; past the last, one that serves nothing.
 pub fn entry(l: &[u32], index: usize) -> BindGroupLayoutEntry
     ensures { λ r. ⌜ r ≡ entryNth (decodeLayout (now (l .entry)) .entries) index ⌝ }
@@ -115,17 +125,37 @@ pub fn entry(l: &[u32], index: usize) -> BindGroupLayoutEntry
     }
 }
 
-// An entry's four words stored at a position.
-fn store_entry(l: &mut [u32], at: usize, e: BindGroupLayoutEntry)
-    requires { ⌜ at + 4 ≤ length (now l) ⌝ }
-    requires { ⌜ entryHeld e ≡ true ⌝ }
-    ensures { λ _. ⌜ now (l .exit) ≡ put (now (l .entry)) at (entryWords e) ⌝ }
+// One of the four words of the entry at a position.
+pub fn entry_word(l: &[u32], index: usize, k: usize) -> u32
+    requires { ⌜ layoutFiled (now l) ≡ true ⌝ }
+    requires { ⌜ (index < length (decodeLayout (now l) .entries)) × (k < 4) ⌝ }
+    ensures { λ r. ⌜ r ≡ wordAt (now (l .entry)) (1 + 4 * index + k) ⌝ }
 {
-    let bind = e.bind;
-    let ty = e.ty;
-    let visibility = 0x9800_0000 + e.visibility;
-    store_two(l, at, place_word(bind), binding_word(ty));
-    store_two(l, at + 2, least_word(ty), visibility);
+    l[1 + 4 * index + k]
+}
+
+// A new entry of four words at the end, or nothing where the free room is too small.
+pub fn push_words(l: &mut [u32], place: u32, ty: u32, least: u32, visibility: u32) -> bool
+    requires { ⌜ layoutFiled (now l) ≡ true ⌝ }
+    requires { ⌜ entryFiled place ty least visibility ≡ true ⌝ }
+    requires { ⌜ entryFits (decodeLayout (now l) .groups) (entryOf place ty least visibility) ≡ true ⌝ }
+    requires { ⌜ entryHas (entryOf place ty least visibility .bind) (decodeLayout (now l) .entries) ≡ false ⌝ }
+    ensures { λ r. ⌜ r ≡ fits 4 (decodeLayout (now (l .entry)) .room) ⌝ }
+    ensures { λ r. ⌜ now (l .exit)
+        ≡ encodeLayout (pick r (pushed (decodeLayout (now (l .entry))) (entryOf place ty least visibility)) (decodeLayout (now (l .entry)))) ⌝ }
+    ensures { λ r. ⌜ decodeLayout (now (l .exit))
+        ≡ pick r (pushed (decodeLayout (now (l .entry))) (entryOf place ty least visibility)) (decodeLayout (now (l .entry))) ⌝ }
+    ensures { λ r. ⌜ layoutFiled (now (l .exit)) ≡ true ⌝ }
+{
+    let n = count(l);
+    let at = 1 + 4 * n;
+    if l.len() < at + 4 {
+        return false;
+    }
+    let head = word(l, 0);
+    store_four(l, at, place, ty, least, visibility);
+    l[0] = head + 1;
+    true
 }
 
 // A new entry at the end, or nothing where the free room is too small.
@@ -138,15 +168,16 @@ pub fn push_entry(l: &mut [u32], e: BindGroupLayoutEntry) -> bool
     ensures { λ r. ⌜ decodeLayout (now (l .exit)) ≡ pick r (pushed (decodeLayout (now (l .entry))) e) (decodeLayout (now (l .entry))) ⌝ }
     ensures { λ r. ⌜ layoutFiled (now (l .exit)) ≡ true ⌝ }
 {
-    let n = count(l);
-    let at = 1 + 4 * n;
-    if l.len() < at + 4 {
-        return false;
-    }
-    let head = word(l, 0);
-    store_entry(l, at, e);
-    l[0] = head + 1;
-    true
+    let bind = e.bind;
+    let ty = e.ty;
+    let visibility = 0x9800_0000 + e.visibility;
+    push_words(
+        l,
+        place_word(bind),
+        binding_word(ty),
+        least_word(ty),
+        visibility,
+    )
 }
 
 // A stage's bit joined to the visibility of the entry at a position.

@@ -13,6 +13,7 @@ use crate::types::Found;
 use resource::resource_words::place_of;
 use resource::resource_words::place_word;
 use resource::types::ResourceBinding;
+use word::content;
 use word::word;
 
 fn same_place(a: ResourceBinding, b: ResourceBinding) -> bool
@@ -72,6 +73,20 @@ fn find_within(l: &[u32], from: usize, n: usize, width: usize, content: u32) -> 
     Found::Nothing
 }
 
+// Which of the records from a position on has the place that a word tells.
+pub(crate) fn find_word(l: &[u32], from: usize, n: usize, width: usize, place: u32) -> Found
+    requires { ⌜ (from < 2 ^ 32) × (n < 2 ^ 32) × (width ≤ 4) ⌝ }
+    ensures { λ r. ⌜ r ≡ placeFrom (placeOf place) (places width n (drop from (now (l .entry)))) 0 ⌝ }
+    ensures { λ r. ⌜ foundBelow n r ≡ true ⌝ }
+{
+    if 0 < width {
+        if from + width * n <= l.len() {
+            return find_within(l, from, n, width, content(place));
+        }
+    }
+    find_plain(l, from, n, width, place_of(place))
+}
+
 // Which of the records from a position on has the place.
 pub(crate) fn find_place(
     l: &[u32],
@@ -84,12 +99,8 @@ pub(crate) fn find_place(
     ensures { λ r. ⌜ r ≡ placeFrom place (places width n (drop from (now (l .entry)))) 0 ⌝ }
     ensures { λ r. ⌜ foundBelow n r ≡ true ⌝ }
 {
-    if 0 < width {
-        if from + width * n <= l.len() {
-            if place_held(place) {
-                return find_within(l, from, n, width, place_word(place) % 0x800_0000);
-            }
-        }
+    if place_held(place) {
+        return find_word(l, from, n, width, place_word(place));
     }
     find_plain(l, from, n, width, place)
 }

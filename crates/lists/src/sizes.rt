@@ -3,12 +3,13 @@ ghost use mathlib.Core.Path.{_≡_};
 ghost use mathlib.Core.Bool.{true, false};
 ghost use Prim.Native.Nat.{_+_, _*_, _<_, _≤_, _^_};
 ghost use lib.ListN.{length, drop};
-ghost use Rattle.resource.specs.Format.{placeHeld};
+ghost use Rattle.word.specs.Words.{contentOf};
+ghost use Rattle.resource.specs.Format.{placeFiled, placeOf, placeHeld, sizeFiled};
 ghost use Rattle.lists.specs.Meaning.{sizeHas, sizeFits, recorded};
 ghost use Rattle.lists.specs.Format.{countOf, each, sizeGood, sizesHead, sizesFiled, decodeSizes, encodeSizes};
 use crate::heads::count;
 use crate::places::distinct_places;
-use crate::places::find_place;
+use crate::places::find_word;
 use crate::stores::raise_word;
 use crate::stores::store_two;
 use crate::types::Found;
@@ -75,13 +76,12 @@ pub fn sizes_filed(l: &[u32]) -> bool
 }
 
 // A new record at the end, or nothing where the free room is too small.
-fn push_size(s: &mut [u32], place: ResourceBinding, size: u64) -> bool
+fn push_size(s: &mut [u32], place: u32, size: u32) -> bool
     requires { ⌜ sizesFiled (now s) ≡ true ⌝ }
-    requires { ⌜ placeHeld place ≡ true ⌝ }
-    requires { ⌜ (1 ≤ size) × (size < 2 ^ 27) ⌝ }
-    requires { ⌜ sizeHas place (decodeSizes (now s) .records) ≡ false ⌝ }
-    ensures { λ r. ⌜ r ≡ sizeFits place (decodeSizes (now (s .entry))) ⌝ }
-    ensures { λ r. ⌜ now (s .exit) ≡ encodeSizes (recorded place size (decodeSizes (now (s .entry)))) ⌝ }
+    requires { ⌜ (placeFiled place ≡ true) × (sizeFiled size ≡ true) ⌝ }
+    requires { ⌜ sizeHas (placeOf place) (decodeSizes (now s) .records) ≡ false ⌝ }
+    ensures { λ r. ⌜ r ≡ sizeFits (placeOf place) (decodeSizes (now (s .entry))) ⌝ }
+    ensures { λ r. ⌜ now (s .exit) ≡ encodeSizes (recorded (placeOf place) (contentOf size) (decodeSizes (now (s .entry)))) ⌝ }
 {
     let n = count(s);
     let at = 1 + 2 * n;
@@ -89,9 +89,27 @@ fn push_size(s: &mut [u32], place: ResourceBinding, size: u64) -> bool
         return false;
     }
     let head = word(s, 0);
-    store_two(s, at, place_word(place), 0x3000_0000 + size as u32);
+    store_two(s, at, place, size);
     s[0] = head + 1;
     true
+}
+
+// A size recorded at a place, by the words of both: the larger where the place has a record, else a new one where there is room.
+pub fn record_words(s: &mut [u32], place: u32, size: u32) -> bool
+    requires { ⌜ sizesFiled (now s) ≡ true ⌝ }
+    requires { ⌜ (placeFiled place ≡ true) × (sizeFiled size ≡ true) ⌝ }
+    ensures { λ r. ⌜ r ≡ sizeFits (placeOf place) (decodeSizes (now (s .entry))) ⌝ }
+    ensures { λ r. ⌜ now (s .exit) ≡ encodeSizes (recorded (placeOf place) (contentOf size) (decodeSizes (now (s .entry)))) ⌝ }
+    ensures { λ r. ⌜ decodeSizes (now (s .exit)) ≡ recorded (placeOf place) (contentOf size) (decodeSizes (now (s .entry))) ⌝ }
+    ensures { λ r. ⌜ sizesFiled (now (s .exit)) ≡ true ⌝ }
+{
+    match find_word(s, 1, count(s), 2, place) {
+        Found::At { index } => {
+            raise_word(s, 2 * index + 2, size);
+            true
+        }
+        Found::Nothing => push_size(s, place, size),
+    }
 }
 
 // A size recorded at a place: the larger where it has a record, else a new one where there is room.
@@ -104,12 +122,5 @@ pub fn record_size(s: &mut [u32], place: ResourceBinding, size: u64) -> bool
     ensures { λ r. ⌜ decodeSizes (now (s .exit)) ≡ recorded place size (decodeSizes (now (s .entry))) ⌝ }
     ensures { λ r. ⌜ sizesFiled (now (s .exit)) ≡ true ⌝ }
 {
-    let n = count(s);
-    match find_place(s, 1, n, 2, place) {
-        Found::At { index } => {
-            raise_word(s, 2 * index + 2, 0x3000_0000 + size as u32);
-            true
-        }
-        Found::Nothing => push_size(s, place, size),
-    }
+    record_words(s, place_word(place), 0x3000_0000 + size as u32)
 }

@@ -15,6 +15,15 @@ pub(crate) fn store_two(l: &mut [u32], at: usize, first: u32, second: u32)
     l[at + 1] = second;
 }
 
+// Four words stored at a position.
+pub(crate) fn store_four(l: &mut [u32], at: usize, a: u32, b: u32, c: u32, d: u32)
+    requires { ⌜ at + 4 ≤ length (now l) ⌝ }
+    ensures { λ _. ⌜ now (l .exit) ≡ put (now (l .entry)) at (a ∷ b ∷ c ∷ d ∷ []) ⌝ }
+{
+    store_two(l, at, a, b);
+    store_two(l, at + 2, c, d);
+}
+
 // The larger of a word and the one at a position stored there.
 pub(crate) fn raise_word(l: &mut [u32], at: usize, w: u32)
     requires { ⌜ at < length (now l) ⌝ }

@@ -3,7 +3,7 @@ ghost use mathlib.Core.Path.{_≡_};
 ghost use mathlib.Core.Bool.{true};
 ghost use Prim.Native.Nat.{_≤_};
 ghost use Rattle.word.specs.Words.{ofKind};
-ghost use Rattle.resource.specs.Format.{flag, bufferCode, samplerCode, sampleCode, accessCode, bindingCode, leastSize, sameBinding, formatHeld};
+ghost use Rattle.resource.specs.Format.{flag, bufferCode, samplerCode, sampleCode, accessCode, bindingCode, leastSize, formatHeld};
 use crate::texture_uses::view_code;
 use crate::types::BindingType;
 use crate::types::BufferBindingType;
@@ -118,13 +118,6 @@ pub fn least_size(ty: BindingType) -> u64
         BindingType::ExternalTexture => 0,
         BindingType::AccelerationStructure { .. } => 0,
     }
-}
-
-// Whether two binding types are the same in every bit and in their least size.
-pub fn same_binding(a: BindingType, b: BindingType) -> bool
-    ensures { λ r. ⌜ r ≡ sameBinding a b ⌝ }
-{
-    binding_code(a) == binding_code(b) && least_size(a) == least_size(b)
 }
 
 // The type word of a binding type that words can hold.

@@ -1,57 +1,93 @@
 -- The ways through an entry point's resources, one after the other.
 use Prim.Native.Nat.{ℕ, _+_, _-_, _<_, _≤_}
-use mathlib.Core.Path.{_≡_, sym, _∙_}
-use mathlib.Core.Bool.{Bool, true, false}
+use native.Mathlib.Omega.{arith}
+use mathlib.Core.Path.{_≡_, refl, sym, ap, _∙_}
+use mathlib.Core.Bool.{Bool, true, false, _&&_}
 use mathlib.Core.List.{List, _∷_}
-use lib.Dec.{ltb}
+use lib.Dec.{eqb, ltb}
 use lib.ListN.{length, take, drop}
 use borrow.Author.Tests.{eq-eqb, ne-eqb, ltb-true}
-use Rattle.word.specs.Words.{wordAt, contentOf}
+use Rattle.word.specs.Words.{wordAt, contentOf, bits}
 use Rattle.word.specs.Answers.{accepted}
 use Rattle.word.specs.declared.answer.Answer.{Answer}
 use Rattle.word.proofs.Tests.{yes-true, yes-false}
-use Rattle.resource.specs.Format.{resourceAt, resourceHeld}
-use Rattle.resource.specs.declared.types.Resource.{Resource}
+use Rattle.word.proofs.Truth.{second, by-test}
+use Rattle.resource.specs.Rules.{derivedTexture, deriveBindingType}
+use Rattle.resource.specs.Format.{placeOf, placeHeld, typeCode, resourceTypeOf, resource, typeHeld}
 use Rattle.lists.specs.Meaning.{every, Layout, Sizes}
 use Rattle.lists.proofs.Records.{first-passes, rest-passes}
-use Rattle.interface.specs.Format.{contents, pairOf, pairsOf}
+use Rattle.interface.specs.Format.{contents, pairsOf}
 use Rattle.interface.specs.declared.types.ShaderStage.{ShaderStage}
 use Rattle.interface.specs.declared.types.SamplingPair.{SamplingPair}
 use Rattle.stage.specs.Meaning.{State, state}
 use Rattle.stage.specs.Given.{resourceTable, eachHeld, eachBelow}
 use Rattle.stage.specs.Resources.{namedTexture, provideStep, deriveStep, resourceStep, resourceSteps}
-use Rattle.stage.proofs.ResourceParts.{contents-cons, contents-none, pairs-cons, pairs-none, nth-at, nth-held}
+use Rattle.stage.proofs.ResourceParts.{contents-cons, contents-none, pairs-cons, pairs-none, nth-at, nth-held, held-inside}
 
 -- ---- the texture that a pair names
 
 module _ (ws : List ℕ) (k at i : ℕ) (goal : Bool) (inv : goal ≡ namedTexture i (pairsOf (take k (drop at ws)))) where
-  module _ (p : SamplingPair) (n : k ≡ 0 → ⊥) (h : at + k ≤ length ws) (e : p ≡ pairOf (wordAt ws at)) where
-    pub named-here : p .texture ≡ i → true ≡ goal
+  module _ (n : k ≡ 0 → ⊥) (h : at + k ≤ length ws) where
+    pub named-here : bits 15 8 (wordAt ws at) ≡ i → true ≡ goal
     unfolding namedTexture
-    named-here t = sym (inv ∙ rw (pairs-cons ws k at n h, eq-eqb (pairOf (wordAt ws at) .texture) i (rw e at t)))
+    named-here t = sym (inv ∙ rw (pairs-cons ws k at n h, eq-eqb (bits 15 8 (wordAt ws at)) i t))
 
-    pub named-onward : (p .texture ≡ i → ⊥) → goal ≡ namedTexture i (pairsOf (take (k - 1) (drop (at + 1) ws)))
+    pub named-onward : (bits 15 8 (wordAt ws at) ≡ i → ⊥) → goal ≡ namedTexture i (pairsOf (take (k - 1) (drop (at + 1) ws)))
     unfolding namedTexture
-    named-onward t = inv ∙ rw (pairs-cons ws k at n h, ne-eqb (pairOf (wordAt ws at) .texture) i (rw e at t))
+    named-onward t = inv ∙ rw (pairs-cons ws k at n h, ne-eqb (bits 15 8 (wordAt ws at)) i t)
 
   pub named-ended : k ≡ 0 → false ≡ goal
   unfolding namedTexture
   named-ended z = sym (inv ∙ rw (pairs-none (drop at ws) k z))
 
+-- only a sampled texture derives by its name
+sampled-alone : (w size : ℕ) (b : Bool) → deriveBindingType (resourceTypeOf w size) (eqb (typeCode w) 2 && b) ≡ deriveBindingType (resourceTypeOf w size) b
+unfolding resourceTypeOf deriveBindingType derivedTexture
+sampled-alone w size b =
+    by-test (eqb (typeCode w) 0) (λ t. rw t refl) λ n0.
+    by-test (eqb (typeCode w) 1) (λ t. rw (n0, t) refl) λ n1.
+    by-test (eqb (typeCode w) 2) (λ t. rw (n0, n1, t) refl) λ n2.
+    by-test (eqb (typeCode w) 3) (λ t. rw (n0, n1, n2, t) refl) λ n3.
+    by-test (eqb (typeCode w) 4) (λ t. rw (n0, n1, n2, n3, t) refl) λ n4.
+    by-test (eqb (typeCode w) 5) (λ t. rw (n0, n1, n2, n3, n4, t) refl) (λ n5. rw (n0, n1, n2, n3, n4, n5) refl)
+
+step-sampled : (stage : ShaderStage) (place w size : ℕ) (b : Bool) (L : Layout) (S : Sizes)
+    → deriveStep stage (eqb (typeCode w) 2 && b) (resource place w size) L S ≡ deriveStep stage b (resource place w size) L S
+unfolding deriveStep
+step-sampled stage place w size b L S = rw (sampled-alone w size b)
+
 -- ---- one resource
 
-pub held-there : (ws offsets : List ℕ) (i o : ℕ) (r : Resource) → eachHeld (resourceTable ws offsets) ≡ true → i < length (resourceTable ws offsets) → o ≡ wordAt offsets i
-    → r ≡ resourceAt ws o → resourceHeld r ≡ true
-held-there ws offsets i o r h k q e = rw (e, q) (nth-held ws offsets i k h)
+module _ (ws offsets : List ℕ) (i o : ℕ) (h : eachHeld (resourceTable ws offsets) ≡ true) (k : i < length (resourceTable ws offsets)) (q : o ≡ wordAt offsets i) where
+  typed-there : typeHeld (resourceTypeOf (wordAt ws (o + 1)) (contentOf (wordAt ws (o + 2)))) ≡ true
+  typed-there =
+      rw q
+      (second (placeHeld (placeOf (wordAt ws (wordAt offsets i))))
+      (typeHeld (resourceTypeOf (wordAt ws (wordAt offsets i + 1)) (contentOf (wordAt ws (wordAt offsets i + 2)))))
+      (nth-held ws offsets i k h))
 
-module _ (ws offsets : List ℕ) (stage : ShaderStage) (derived : Bool) (pairs : List SamplingPair) (i o : ℕ) (r : Resource) (L : Layout) (S : Sizes) (a : Answer)
-    (k : i < length (resourceTable ws offsets)) (q : o ≡ wordAt offsets i) (e : r ≡ resourceAt ws o) where
-  pub step-derived : (M : Layout) (n : Bool) → derived ≡ true → n ≡ namedTexture i pairs → ((S : Sizes) → state a M S ≡ deriveStep stage n r L S)
+  pub held-there : (x : ℕ) → x ≡ wordAt ws (o + 2) → typeHeld (resourceTypeOf (wordAt ws (o + 1)) (contentOf x)) ≡ true
+  held-there x e = rw e typed-there
+
+  pub type-inside : o + 1 < length ws
+  type-inside = held-inside ws o typed-there
+
+  pub place-inside : o < length ws
+  place-inside = omega (arith, type-inside)
+
+module _ (ws offsets : List ℕ) (stage : ShaderStage) (derived : Bool) (pairs : List SamplingPair) (i o x : ℕ) (L : Layout) (S : Sizes) (a : Answer)
+    (k : i < length (resourceTable ws offsets)) (q : o ≡ wordAt offsets i) (e : x ≡ wordAt ws (o + 2)) where
+  pub step-derived : (M : Layout) (n : Bool) → derived ≡ true → n ≡ (eqb (typeCode (wordAt ws (o + 1))) 2 && namedTexture i pairs)
+      → ((S : Sizes) → state a M S ≡ deriveStep stage n (resource (wordAt ws o) (wordAt ws (o + 1)) (contentOf x)) L S)
       → state a M S ≡ resourceStep stage derived (resourceTable ws offsets) pairs i L S
   unfolding resourceStep
-  step-derived M n t p h = rw (yes-true derived t, ← p, nth-at ws offsets i k, ← q, ← e) (h S)
+  step-derived M n t p h =
+      rw (yes-true derived t, nth-at ws offsets i k, ← q, ← e)
+      (h S ∙ (ap (λ b. deriveStep stage b (resource (wordAt ws o) (wordAt ws (o + 1)) (contentOf x)) L S) p
+      ∙ step-sampled stage (wordAt ws o) (wordAt ws (o + 1)) (contentOf x) (namedTexture i pairs) L S))
 
-  pub step-provided : (T : Sizes) → derived ≡ false → state a L T ≡ provideStep stage r L S → state a L T ≡ resourceStep stage derived (resourceTable ws offsets) pairs i L S
+  pub step-provided : (T : Sizes) → derived ≡ false → state a L T ≡ provideStep stage (resource (wordAt ws o) (wordAt ws (o + 1)) (contentOf x)) L S
+      → state a L T ≡ resourceStep stage derived (resourceTable ws offsets) pairs i L S
   unfolding resourceStep
   step-provided T t h = rw (yes-false derived t, nth-at ws offsets i k, ← q, ← e) h
 

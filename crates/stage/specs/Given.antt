@@ -5,7 +5,8 @@ use mathlib.Core.Bool.{Bool, true, _&&_}
 use mathlib.Core.List.{List}
 use lib.Dec.{ltb}
 use lib.ListN.{length, take}
-use Rattle.resource.specs.Format.{resourceHeld, bindingTypeOf}
+use Rattle.word.specs.Words.{ofKind}
+use Rattle.resource.specs.Format.{resourceHeld, bindingTypeOf, bindingCode, leastSize, formatHeld}
 use Rattle.resource.specs.declared.types.Resource.{Resource}
 use Rattle.resource.specs.declared.types.BindingType.{BindingType}
 use Rattle.lists.specs.Meaning.{every}
@@ -36,6 +37,12 @@ pairBelow count p = ltb (p .texture) count && ltb (p .sampler) count
 
 abbrev pub pairsBelow : ℕ → List SamplingPair → Bool
 pairsBelow count ps = every (pairBelow count) ps
+
+-- the words of a binding type that a layout list can hold
+pub record TypeWords (type least : ℕ) (ty : BindingType) : Type 0 where
+  pub held : formatHeld ty ≡ true
+  pub type-word : type ≡ ofKind 18 (bindingCode ty)
+  pub least-word : least ≡ ofKind 6 (leastSize ty)
 
 -- what the check of a pack gives the steps of an entry point: what it names stands among the resources, and can be handed on
 pub record Named (i : Interface) (e : EntryPoint) : Type 0 where

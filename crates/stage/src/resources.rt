@@ -1,193 +1,210 @@
 // The resources of an entry point against a layout: judged where it is provided, recorded where it is derived.
 ghost use mathlib.Core.Path.{_≡_};
-ghost use mathlib.Core.Bool.{true, false};
-ghost use Prim.Native.Nat.{_+_, _<_, _≤_};
+ghost use mathlib.Core.Bool.{true, _&&_};
+ghost use lib.Dec.{eqb};
+ghost use Prim.Native.Nat.{ℕ, _+_, _<_, _≤_};
 ghost use lib.ListN.{length, take, drop};
-ghost use Rattle.resource.specs.Format.{placeHeld, typeHeld, formatHeld, resourceHeld};
-ghost use Rattle.lists.specs.Meaning.{Layout, Sizes, findEntry};
+ghost use Rattle.word.specs.Words.{contentOf};
+ghost use Rattle.resource.specs.Format.{placeOf, typeCode, resourceTypeOf, resource, bindingTypeOf, sameBinding, typeHeld};
+ghost use Rattle.resource.specs.Answers.{bindingAnswer};
+ghost use Rattle.lists.specs.Meaning.{Layout, Sizes, findEntry, entryNth};
 ghost use Rattle.lists.specs.declared.types.Found.the-variants.{Nothing};
 ghost use Rattle.lists.specs.Format.{layoutFiled, sizesFiled, decodeLayout, decodeSizes};
 ghost use Rattle.interface.specs.Format.{contents, pairsOf};
 ghost use Rattle.stage.specs.Meaning.{state};
-ghost use Rattle.stage.specs.Given.{resourceTable, eachHeld, eachBelow};
+ghost use Rattle.stage.specs.Given.{resourceTable, eachHeld, eachBelow, TypeWords};
 ghost use Rattle.stage.specs.Resources.{recordSize, entryUse, providedUse, provideStep, occupied, vacant, placeStep, deriveStep, namedTexture, resourceStep, resourceSteps};
-use interface::reads::pair_at;
 use interface::reads::stage_code;
 use interface::types::ShaderStage;
-use lists::layout::entry;
-use lists::layout::find_entry;
+use lists::layout::entry_word;
+use lists::layout::find_entry_word;
 use lists::layout::group_count;
 use lists::layout::join_visibility;
-use lists::layout::push_entry;
+use lists::layout::push_words;
+use lists::sizes::record_words;
 use lists::types::Found;
 use lists::visibility::sees;
 use lists::visibility::stage_bit;
-use resource::binding_codes::same_binding;
 use resource::check_words::binding_answer;
-use resource::resource_words::resource_at;
-use resource::types::BindGroupLayoutEntry;
-use resource::types::BindingType;
-use resource::types::Derived;
-use resource::types::Resource;
-use resource::types::ResourceBinding;
-use resource::types::ResourceType;
-use resource::uses::use_number;
+use resource::resource_words::place_of;
+use resource::word_rules::derived_least;
+use resource::word_rules::derived_word;
+use resource::word_rules::words_use;
 use word::answer::Answer;
 use word::content;
-use word::index;
 use word::word;
+
+// The answer of a number that names the place of a word.
+fn place_answer(number: u32, place: u32) -> Answer
+    ensures { λ r. ⌜ r ≡ bindingAnswer number (placeOf place) ⌝ }
+{
+    binding_answer(number, place_of(place))
+}
 
 // ---- provided
 
 // Records the size that a buffer asks for; a list without room is 5.
-fn record_size(bind: ResourceBinding, ty: ResourceType, sizes: &mut [u32]) -> Answer
+fn record_size(place: u32, w: u32, size: u32, sizes: &mut [u32]) -> Answer
     requires { ⌜ sizesFiled (now sizes) ≡ true ⌝ }
-    requires { ⌜ placeHeld bind ≡ true ⌝ }
-    requires { ⌜ typeHeld ty ≡ true ⌝ }
-    ensures { λ r. ⌜ ((L : Layout) → state r L (decodeSizes (now (sizes .exit))) ≡ recordSize bind ty L (decodeSizes (now (sizes .entry)))) ⌝ }
+    requires { ⌜ typeHeld (resourceTypeOf w (contentOf size)) ≡ true ⌝ }
+    ensures { λ r. ⌜ ((L : Layout) → state r L (decodeSizes (now (sizes .exit)))
+        ≡ recordSize (placeOf place) (resourceTypeOf w (contentOf size)) L (decodeSizes (now (sizes .entry)))) ⌝ }
     ensures { λ r. ⌜ sizesFiled (now (sizes .exit)) ≡ true ⌝ }
 {
-    match ty {
-        ResourceType::Buffer { size, space: _ } => {
-            if lists::sizes::record_size(sizes, bind, size) {
-                return Answer::accepted();
-            }
-            binding_answer(5, bind)
-        }
-        ResourceType::Sampler { comparison: _ } => Answer::accepted(),
-        ResourceType::Texture {
-            dim: _,
-            arrayed: _,
-            class: _,
-        } => Answer::accepted(),
-        ResourceType::AccelerationStructure { vertex_return: _ } => Answer::accepted(),
+    if w / 0x80_0000 % 16 != 0 {
+        return Answer::accepted();
     }
+    if record_words(
+        sizes,
+        0x2000_0000 + content(place),
+        0x3000_0000 + content(size),
+    ) {
+        return Answer::accepted();
+    }
+    place_answer(5, place)
 }
 
-// Whether an entry serves a resource: 21 where the stage does not see it.
-fn entry_use(stage: ShaderStage, ty: ResourceType, e: BindGroupLayoutEntry) -> u32
-    ensures { λ r. ⌜ r ≡ entryUse stage ty e ⌝ }
+// Whether the entry at a position serves a resource: 21 where the stage does not see it.
+fn entry_use(stage: ShaderStage, w: u32, size: u32, layout: &[u32], index: usize) -> u32
+    requires { ⌜ layoutFiled (now layout) ≡ true ⌝ }
+    requires { ⌜ index < length (decodeLayout (now layout) .entries) ⌝ }
+    ensures { λ r. ⌜ r ≡ entryUse stage (resourceTypeOf w (contentOf size)) (entryNth (decodeLayout (now (layout .entry)) .entries) index) ⌝ }
 {
-    if !sees(e.visibility, stage_code(stage)) {
+    if !sees(content(entry_word(layout, index, 3)), stage_code(stage)) {
         return 21;
     }
-    let entry_ty = e.ty;
-    use_number(ty.check_binding_use(entry_ty))
+    let ty = entry_word(layout, index, 1);
+    let least = entry_word(layout, index, 2);
+    words_use(w, size, ty, least)
 }
 
 // Whether a provided layout serves a resource: 20 where it has no entry at the place.
-fn provided_use(stage: ShaderStage, layout: &[u32], r: Resource) -> Answer
-    ensures { λ a. ⌜ a ≡ providedUse stage (decodeLayout (now (layout .entry))) r ⌝ }
+fn provided_use(stage: ShaderStage, layout: &[u32], place: u32, w: u32, size: u32) -> Answer
+    requires { ⌜ layoutFiled (now layout) ≡ true ⌝ }
+    ensures { λ a. ⌜ a ≡ providedUse stage (decodeLayout (now (layout .entry))) (resource place w (contentOf size)) ⌝ }
 {
-    let bind = r.bind;
-    let ty = r.ty;
-    let found = find_entry(layout, bind);
-    match found {
-        Found::Nothing => binding_answer(20, bind),
-        Found::At { index } => binding_answer(entry_use(stage, ty, entry(layout, index)), bind),
+    match find_entry_word(layout, place) {
+        Found::Nothing => place_answer(20, place),
+        Found::At { index } => place_answer(entry_use(stage, w, size, layout, index), place),
     }
 }
 
 // A resource against a provided layout, its size recorded first.
-fn provide_step(stage: ShaderStage, r: Resource, layout: &[u32], sizes: &mut [u32]) -> Answer
-    requires { ⌜ sizesFiled (now sizes) ≡ true ⌝ }
-    requires { ⌜ resourceHeld r ≡ true ⌝ }
+fn provide_step(
+    stage: ShaderStage,
+    place: u32,
+    w: u32,
+    size: u32,
+    layout: &[u32],
+    sizes: &mut [u32],
+) -> Answer
+    requires { ⌜ (layoutFiled (now layout) ≡ true) × (sizesFiled (now sizes) ≡ true) ⌝ }
+    requires { ⌜ typeHeld (resourceTypeOf w (contentOf size)) ≡ true ⌝ }
     ensures { λ a. ⌜ state a (decodeLayout (now (layout .entry))) (decodeSizes (now (sizes .exit)))
-        ≡ provideStep stage r (decodeLayout (now (layout .entry))) (decodeSizes (now (sizes .entry))) ⌝ }
+        ≡ provideStep stage (resource place w (contentOf size)) (decodeLayout (now (layout .entry))) (decodeSizes (now (sizes .entry))) ⌝ }
     ensures { λ a. ⌜ sizesFiled (now (sizes .exit)) ≡ true ⌝ }
 {
-    let bind = r.bind;
-    let ty = r.ty;
-    let recorded = record_size(bind, ty, sizes);
+    let recorded = record_size(place, w, size, sizes);
     if recorded.number != 0 {
         return recorded;
     }
-    provided_use(stage, layout, r)
+    provided_use(stage, layout, place, w, size)
 }
 
 // ---- derived
 
+// Whether the entry at a position is of a type, by the type's words.
+fn same_type(layout: &[u32], index: usize, ty: u32, least: u32) -> bool
+    requires { ⌜ layoutFiled (now layout) ≡ true ⌝ }
+    requires { ⌜ TypeWords ty least (bindingTypeOf ty (contentOf least)) ⌝ }
+    requires { ⌜ index < length (decodeLayout (now layout) .entries) ⌝ }
+    ensures { λ r. ⌜ r ≡ sameBinding (bindingTypeOf ty (contentOf least)) (entryNth (decodeLayout (now (layout .entry)) .entries) index .ty) ⌝ }
+{
+    if entry_word(layout, index, 1) != ty {
+        return false;
+    }
+    entry_word(layout, index, 2) == least
+}
+
 // A place that has an entry: of the same type it gains the stage's bit, else 29.
 fn occupied(
     stage: ShaderStage,
-    r: Resource,
-    ty: BindingType,
+    place: u32,
+    ty: u32,
+    least: u32,
     index: usize,
     layout: &mut [u32],
 ) -> Answer
     requires { ⌜ layoutFiled (now layout) ≡ true ⌝ }
+    requires { ⌜ TypeWords ty least (bindingTypeOf ty (contentOf least)) ⌝ }
     requires { ⌜ index < length (decodeLayout (now layout) .entries) ⌝ }
-    ensures { λ a. ⌜ ((S : Sizes) → state a (decodeLayout (now (layout .exit))) S ≡ occupied stage r ty index (decodeLayout (now (layout .entry))) S) ⌝ }
+    ensures { λ a. ⌜ ((w size : ℕ) (S : Sizes) → state a (decodeLayout (now (layout .exit))) S
+        ≡ occupied stage (resource place w size) (bindingTypeOf ty (contentOf least)) index (decodeLayout (now (layout .entry))) S) ⌝ }
     ensures { λ a. ⌜ layoutFiled (now (layout .exit)) ≡ true ⌝ }
 {
-    let e = entry(layout, index);
-    let present = e.ty;
-    if same_binding(ty, present) {
+    if same_type(layout, index, ty, least) {
         join_visibility(layout, index, stage_code(stage));
         return Answer::accepted();
     }
-    let bind = r.bind;
-    binding_answer(29, bind)
+    place_answer(29, place)
 }
 
 // A place that has no entry gets one; a list without room is 5.
-fn vacant(stage: ShaderStage, r: Resource, ty: BindingType, layout: &mut [u32]) -> Answer
+fn vacant(stage: ShaderStage, place: u32, ty: u32, least: u32, layout: &mut [u32]) -> Answer
     requires { ⌜ layoutFiled (now layout) ≡ true ⌝ }
-    requires { ⌜ (placeHeld (r .bind) ≡ true) × (formatHeld ty ≡ true) ⌝ }
-    requires { ⌜ r .bind .group < decodeLayout (now layout) .groups ⌝ }
-    requires { ⌜ findEntry (r .bind) (decodeLayout (now layout)) ≡ Nothing ⌝ }
-    ensures { λ a. ⌜ ((S : Sizes) → state a (decodeLayout (now (layout .exit))) S ≡ vacant stage r ty (decodeLayout (now (layout .entry))) S) ⌝ }
+    requires { ⌜ TypeWords ty least (bindingTypeOf ty (contentOf least)) ⌝ }
+    requires { ⌜ placeOf place .group < decodeLayout (now layout) .groups ⌝ }
+    requires { ⌜ findEntry (placeOf place) (decodeLayout (now layout)) ≡ Nothing ⌝ }
+    ensures { λ a. ⌜ ((w size : ℕ) (S : Sizes) → state a (decodeLayout (now (layout .exit))) S
+        ≡ vacant stage (resource place w size) (bindingTypeOf ty (contentOf least)) (decodeLayout (now (layout .entry))) S) ⌝ }
     ensures { λ a. ⌜ layoutFiled (now (layout .exit)) ≡ true ⌝ }
 {
-    let bind = r.bind;
-    let visibility = stage_bit(stage_code(stage));
-    if push_entry(
-        layout,
-        BindGroupLayoutEntry {
-            bind,
-            ty,
-            visibility,
-        },
-    ) {
+    let visibility = 0x9800_0000 + stage_bit(stage_code(stage));
+    if push_words(layout, 0x2000_0000 + content(place), ty, least, visibility) {
         return Answer::accepted();
     }
-    binding_answer(5, bind)
+    place_answer(5, place)
 }
 
-// A derived type at its place.
-fn place_step(stage: ShaderStage, r: Resource, ty: BindingType, layout: &mut [u32]) -> Answer
+// A derived type, by its words, at its place.
+fn place_step(stage: ShaderStage, place: u32, ty: u32, least: u32, layout: &mut [u32]) -> Answer
     requires { ⌜ layoutFiled (now layout) ≡ true ⌝ }
-    requires { ⌜ (placeHeld (r .bind) ≡ true) × (formatHeld ty ≡ true) ⌝ }
-    requires { ⌜ r .bind .group < decodeLayout (now layout) .groups ⌝ }
-    ensures { λ a. ⌜ ((S : Sizes) → state a (decodeLayout (now (layout .exit))) S
-        ≡ placeStep stage r ty (findEntry (r .bind) (decodeLayout (now (layout .entry)))) (decodeLayout (now (layout .entry))) S) ⌝ }
+    requires { ⌜ TypeWords ty least (bindingTypeOf ty (contentOf least)) ⌝ }
+    requires { ⌜ placeOf place .group < decodeLayout (now layout) .groups ⌝ }
+    ensures { λ a. ⌜ ((w size : ℕ) (S : Sizes) → state a (decodeLayout (now (layout .exit))) S
+        ≡ placeStep stage (resource place w size) (bindingTypeOf ty (contentOf least))
+        (findEntry (placeOf place) (decodeLayout (now (layout .entry)))) (decodeLayout (now (layout .entry))) S) ⌝ }
     ensures { λ a. ⌜ layoutFiled (now (layout .exit)) ≡ true ⌝ }
 {
-    let bind = r.bind;
-    let found = find_entry(layout, bind);
-    match found {
-        Found::At { index } => occupied(stage, r, ty, index, layout),
-        Found::Nothing => vacant(stage, r, ty, layout),
+    match find_entry_word(layout, place) {
+        Found::At { index } => occupied(stage, place, ty, least, index, layout),
+        Found::Nothing => vacant(stage, place, ty, least, layout),
     }
 }
 
 // A resource against a layout that is being derived: 20 where the layout has no such group, 24 where no type can be derived.
-fn derive_step(stage: ShaderStage, named: bool, r: Resource, layout: &mut [u32]) -> Answer
+fn derive_step(
+    stage: ShaderStage,
+    named: bool,
+    place: u32,
+    w: u32,
+    size: u32,
+    layout: &mut [u32],
+) -> Answer
     requires { ⌜ layoutFiled (now layout) ≡ true ⌝ }
-    requires { ⌜ resourceHeld r ≡ true ⌝ }
-    ensures { λ a. ⌜ ((S : Sizes) → state a (decodeLayout (now (layout .exit))) S ≡ deriveStep stage named r (decodeLayout (now (layout .entry))) S) ⌝ }
+    requires { ⌜ typeHeld (resourceTypeOf w (contentOf size)) ≡ true ⌝ }
+    ensures { λ a. ⌜ ((S : Sizes) → state a (decodeLayout (now (layout .exit))) S
+        ≡ deriveStep stage named (resource place w (contentOf size)) (decodeLayout (now (layout .entry))) S) ⌝ }
     ensures { λ a. ⌜ layoutFiled (now (layout .exit)) ≡ true ⌝ }
 {
-    let bind = r.bind;
-    let ty = r.ty;
-    if group_count(layout) <= bind.group {
-        return binding_answer(20, bind);
+    if group_count(layout) <= place / 0x80_0000 % 16 {
+        return place_answer(20, place);
     }
-    let derived = ty.derive_binding_type(named);
-    match derived {
-        Derived::Binding { ty: entry_ty } => place_step(stage, r, entry_ty, layout),
-        Derived::WrongBufferAddressSpace => binding_answer(24, bind),
+    let ty = derived_word(w, named);
+    if 0 < ty {
+        return place_step(stage, place, ty, derived_least(w, size), layout);
     }
+    place_answer(24, place)
 }
 
 // ---- each resource in list order
@@ -200,14 +217,24 @@ fn named_texture(pack: &[u32], from: usize, n: usize, texture: u32) -> bool
     let mut at = from;
     let mut left = n;
     while left != 0 {
-        let pair = pair_at(pack, at);
-        if pair.texture == texture {
+        if pack[at] / 256 % 256 == texture {
             return true;
         }
         at += 1;
         left -= 1;
     }
     false
+}
+
+// The same for a sampled texture alone: no other resource derives by its name.
+fn named_sampled(pack: &[u32], from: usize, n: usize, w: u32, texture: u32) -> bool
+    requires { ⌜ from + n ≤ length (now pack) ⌝ }
+    ensures { λ r. ⌜ r ≡ (eqb (typeCode w) 2 && namedTexture texture (pairsOf (take n (drop from (now (pack .entry)))))) ⌝ }
+{
+    if w / 0x80_0000 % 16 != 2 {
+        return false;
+    }
+    named_texture(pack, from, n, texture)
 }
 
 // One resource of the entry point, by its index, in the mode of the call.
@@ -231,11 +258,15 @@ fn resource_step(
         (pairsOf (take «pairs_n» (drop «pairs_at» (now (pack .entry))))) i (decodeLayout (now (layout .entry))) (decodeSizes (now (sizes .entry))) ⌝ }
     ensures { λ a. ⌜ (layoutFiled (now (layout .exit)) ≡ true) × (sizesFiled (now (sizes .exit)) ≡ true) ⌝ }
 {
-    let r = resource_at(pack, index(offsets, i as usize));
+    let at = word(offsets, i as usize) as usize;
+    let place = pack[at];
+    let w = pack[at + 1];
+    let size = word(pack, at + 2);
     if derived {
-        return derive_step(stage, named_texture(pack, pairs_at, pairs_n, i), r, layout);
+        let named = named_sampled(pack, pairs_at, pairs_n, w, i);
+        return derive_step(stage, named, place, w, size, layout);
     }
-    provide_step(stage, r, layout, sizes)
+    provide_step(stage, place, w, size, layout, sizes)
 }
 
 // Each resource of the entry point in list order, up to the first that is refused.

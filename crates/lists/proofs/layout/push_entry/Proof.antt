@@ -1,5 +1,5 @@
-use Rattle.word.proofs.Truth.{first}
-use Rattle.lists.proofs.LayoutStores.{room-lacks, room-fits, words-kept, head-more, push-stored, push-decoded, push-filed}
+use Rattle.word.proofs.Truth.{first, second}
+use Rattle.lists.proofs.LayoutStores.{seen-sum, words-filed, words-fit, words-new, words-encoded, words-pushed}
 use borrow.Author.Needs.{needs}
 use Rattle.lists.proofs.layout.push_entry.Statement.{statement}
 use Rattle.lists.proofs.layout.push_entry.Tie as tie
@@ -8,15 +8,10 @@ pub push-entry-spec : {M : Type 1} → statement M
 push-entry-spec =
     tie.close
     (tie.spec
-    (λ c κs. search needs)  -- count-requires
-    (λ c. search needs)  -- mul-at
-    (λ c. search needs)  -- add-at
-    (λ c. search needs)  -- add-if1
+    (λ c. search (seen-sum, first))  -- add-visibility
+    (λ c κs. search first)  -- place-word-requires
+    (λ c κs. search (first, second))  -- binding-word-requires
+    (λ c κs. search (first, second))  -- least-word-requires
+    (λ c κs. (search needs, (search words-filed, (search words-fit, search words-new))))  -- push-words-requires
     (λ c. search needs)  -- same-length
-    (λ c. (search room-lacks, (search words-kept, (search needs, search needs))))  -- returns
-    (λ c κs. search needs)  -- word-requires
-    (λ c κs. (search needs, search first))  -- store-entry-requires
-    (λ c. search head-more)  -- add-l
-    (λ c. search needs)  -- slice-write-l
-    (λ c. search needs)  -- same-length-2
-    (λ c. (search room-fits, (search push-stored, (search push-decoded, search push-filed)))))  -- returns-2
+    (λ c. (search needs, (search words-encoded, (search words-pushed, search needs)))))  -- returns

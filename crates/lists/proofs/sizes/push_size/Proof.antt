@@ -14,9 +14,6 @@ push-size-spec =
     (λ c. search needs)  -- same-length
     (λ c. (search push-lacks, search push-refused))  -- returns
     (λ c κs. search needs)  -- word-requires
-    (λ c κs. search needs)  -- place-word-requires
-    (λ c. search needs)  -- cast-store-two
-    (λ c. search needs)  -- add-store-two
     (λ c κs. search needs)  -- store-two-requires
     (λ c. search head-more)  -- add-s
     (λ c. search needs)  -- slice-write-s

@@ -22,7 +22,8 @@ named-texture-spec =
     Inv-loop
     μ-loop
     (λ c. search needs)  -- loop-holds
-    (λ c κs. search needs)  -- pair-at-requires
+    (λ c. search needs)  -- mul-if1
+    (λ c. search needs)  -- shared-slice-read-if1
     (λ c. search named-here)  -- returns
     (λ c. search needs)  -- add-at
     (λ c. search needs)  -- sub-left

@@ -7,13 +7,12 @@ pub occupied-spec : {M : Type 1} → statement M
 occupied-spec =
     tie.close
     (tie.spec
-    (λ c κs. search needs)  -- entry-requires
-    (λ c κs. search needs)  -- same-binding-requires
+    (λ c κs. search needs)  -- same-type-requires
     (λ c κs. search needs)  -- stage-code-requires
     (λ c κs. (search needs, (search needs, search needs)))  -- join-visibility-requires
     (λ c κs. search needs)  -- accepted-requires
     (λ c. search needs)  -- same-length
     (λ c. (search occupied-joined, search needs))  -- returns
-    (λ c κs. search needs)  -- binding-answer-requires
+    (λ c κs. search needs)  -- place-answer-requires
     (λ c. search needs)  -- same-length-2
     (λ c. (search occupied-other, search needs)))  -- returns-2

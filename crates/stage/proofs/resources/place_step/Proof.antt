@@ -7,9 +7,9 @@ pub place-step-spec : {M : Type 1} → statement M
 place-step-spec =
     tie.close
     (tie.spec
-    (λ c κs. search needs)  -- find-entry-requires
+    (λ c κs. search needs)  -- find-entry-word-requires
     (λ c. search needs)  -- enum-known-found
-    (λ c κs. search (found-within, needs))  -- occupied-requires
+    (λ c κs. (search needs, (search needs, search found-within)))  -- occupied-requires
     (λ c. search needs)  -- enum-told
     (λ c κs. (search needs, (search needs, (search needs, search found-none))))  -- vacant-requires
     (λ c. search needs)  -- same-length

@@ -1,4 +1,4 @@
-use Rattle.stage.proofs.ResourceLaws.{place-of-held, type-of-held, provide-ended, provide-went}
+use Rattle.stage.proofs.ResourceLaws.{provide-ended, provide-went}
 use borrow.Author.Needs.{needs}
 use Rattle.stage.proofs.resources.provide_step.Statement.{statement}
 use Rattle.stage.proofs.resources.provide_step.Tie as tie
@@ -7,7 +7,7 @@ pub provide-step-spec : {M : Type 1} → statement M
 provide-step-spec =
     tie.close
     (tie.spec
-    (λ c κs. (search needs, (search place-of-held, search type-of-held)))  -- record-size-requires
+    (λ c κs. (search needs, search needs))  -- record-size-requires
     (λ c. search needs)  -- same-length
     (λ c. (search provide-ended, search needs))  -- returns
     (λ c κs. search needs)  -- provided-use-requires

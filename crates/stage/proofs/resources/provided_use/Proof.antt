@@ -1,4 +1,4 @@
-use Rattle.stage.proofs.ResourceLaws.{provided-none, provided-at}
+use Rattle.stage.proofs.ResourceLaws.{found-within, provided-none, provided-at}
 use borrow.Author.Needs.{needs}
 use Rattle.stage.proofs.resources.provided_use.Statement.{statement}
 use Rattle.stage.proofs.resources.provided_use.Tie as tie
@@ -7,12 +7,11 @@ pub provided-use-spec : {M : Type 1} → statement M
 provided-use-spec =
     tie.close
     (tie.spec
-    (λ c κs. search needs)  -- find-entry-requires
+    (λ c κs. search needs)  -- find-entry-word-requires
     (λ c. search needs)  -- enum-told
-    (λ c κs. search needs)  -- binding-answer-requires
+    (λ c κs. search needs)  -- place-answer-requires
     (λ c. search needs)  -- enum-known-found
-    (λ c κs. search needs)  -- entry-requires
-    (λ c κs. search needs)  -- entry-use-requires
-    (λ c κs. search needs)  -- binding-answer-requires-2
+    (λ c κs. (search needs, search found-within))  -- entry-use-requires
+    (λ c κs. search needs)  -- place-answer-requires-2
     (λ c. search provided-none)  -- returns
     (λ c. search provided-at))  -- returns-2

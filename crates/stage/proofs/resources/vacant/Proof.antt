@@ -1,4 +1,4 @@
-use Rattle.stage.proofs.ResourceLaws.{none-there, new-fits, vacant-pushed, vacant-full}
+use Rattle.stage.proofs.ResourceLaws.{new-filed, new-fits, new-lacks, vacant-pushed, vacant-full}
 use borrow.Author.Needs.{needs}
 use Rattle.stage.proofs.resources.vacant.Statement.{statement}
 use Rattle.stage.proofs.resources.vacant.Tie as tie
@@ -9,10 +9,13 @@ vacant-spec =
     (tie.spec
     (λ c κs. search needs)  -- stage-code-requires
     (λ c κs. search needs)  -- stage-bit-requires
-    (λ c κs. (search needs, (search (new-fits, needs), search none-there)))  -- push-entry-requires
+    (λ c. search needs)  -- add-visibility
+    (λ c κs. search needs)  -- content-requires
+    (λ c. search needs)  -- add-push-words
+    (λ c κs. (search needs, (search new-filed, (search new-fits, search new-lacks))))  -- push-words-requires
     (λ c κs. search needs)  -- accepted-requires
     (λ c. search needs)  -- same-length
     (λ c. (search vacant-pushed, search needs))  -- returns
-    (λ c κs. search needs)  -- binding-answer-requires
+    (λ c κs. search needs)  -- place-answer-requires
     (λ c. search needs)  -- same-length-2
     (λ c. (search vacant-full, search needs)))  -- returns-2

@@ -1,0 +1,21 @@
+use Rattle.lists.proofs.SizeStores.{index-inside, index-scaled, index-placed, size-lacks, size-fits, size-raised, record-decoded, record-filed, raised-filed}
+use borrow.Author.Needs.{needs}
+use Rattle.lists.proofs.sizes.record_words.Statement.{statement}
+use Rattle.lists.proofs.sizes.record_words.Tie as tie
+
+pub record-words-spec : {M : Type 1} → statement M
+record-words-spec =
+    tie.close
+    (tie.spec
+    (λ c κs. search needs)  -- count-requires
+    (λ c κs. search needs)  -- find-word-requires
+    (λ c. search needs)  -- enum-known-index
+    (λ c. search index-scaled)  -- mul-raise-word
+    (λ c. search index-placed)  -- add-raise-word
+    (λ c κs. search index-inside)  -- raise-word-requires
+    (λ c. search needs)  -- enum-told
+    (λ c κs. (search needs, (search needs, search size-lacks)))  -- push-size-requires
+    (λ c. search needs)  -- same-length
+    (λ c. (search size-fits, (search size-raised, (search (record-decoded, size-raised), search raised-filed))))  -- returns
+    (λ c. search needs)  -- same-length-2
+    (λ c. (search needs, (search needs, (search record-decoded, search record-filed)))))  -- returns-2
