@@ -87,7 +87,7 @@ heads-begin ws l heads rs = none
 
 module _ (ws l heads : List ℕ) (rs : List Resource) (i at r n : ℕ) (m : Headed ws (take i heads) (listed (several i (readEntryPoint rs) l)))
     (e : restAt ws at ≡ behind (several i (readEntryPoint rs) l)) (h : 1 ≤ at) (f : restAt ws r ≡ behind (readEntryPoint rs (drop at ws))) (z : r ≡ 0 → ⊥)
-    (q : i < n) (u : n ≤ 16) (s : length heads ≡ 16) where
+    (q : i < n) (u : n ≤ 16) (s : 16 ≤ length heads) where
   pub heads-go : Headed ws (take (i + 1) (set heads i at)) (listed (several (i + 1) (readEntryPoint rs) l))
   heads-go =
       let x : take (i + 1) (set heads i at) ≡ take i heads ++ (at ∷ []) = rw (add-one i) (take-suc-set heads i at (omega arith)) in

@@ -45,8 +45,8 @@ module _ (ws l heads : List ℕ) (rs : List Resource) (n r : ℕ) (e : restAt ws
     pub entries-go : not b ≡ false → restAt ws r ≡ entriesBehind rs n l
     entries-go t = rest-past ws r z ∙ sym (entries-by e ∙ rw (not-false b t))
 
-pub heads-long : (n : ℕ) (heads : List ℕ) → n ≤ 16 → length heads ≡ 16 → length (take n heads) ≡ n
-heads-long n heads h e = length-take-le n heads (omega arith)
+pub heads-long : (n : ℕ) (heads start : List ℕ) → n ≤ 16 → length heads ≡ length start → 16 ≤ length start → length (take n heads) ≡ n
+heads-long n heads start h e l = length-take-le n heads (omega arith)
 
 -- ---- resources and entry points
 
@@ -167,7 +167,7 @@ module _ (ws : List ℕ) (b : Bool) (e : b ≡ torn ws) where
   pack-torn t = rw (← e, t)
 
   module _ (t : b ≡ false) where
-    low : 16 ≤ length ws
+    pub low : 16 ≤ length ws
     unfolding torn
     low = ltb-false (length ws) 16 (neither (ltb (length ws) 16) _ (sym e ∙ t) .0)
 

@@ -1,7 +1,7 @@
 pub mod ReadsChoice
 pub mod ReadsEntry
 pub mod ReadsNames
-pub mod ReadsOffsets
+pub mod CheckPositions
 pub mod ReadsPack
 pub mod ReadsParts
 pub mod ReadsRecords

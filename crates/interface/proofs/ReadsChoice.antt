@@ -1,6 +1,7 @@
 -- The ways of the functions that choose an entry point.
-use Prim.Native.Nat.{ℕ, _+_, _-_, _/_, _%_, _<_, _≤_}
+use Prim.Native.Nat.{ℕ, zero, suc, _+_, _-_, _/_, _%_, _<_, _≤_}
 use native.Mathlib.Omega.{arith}
+use native.Mathlib.Nat.{suc-add}
 use mathlib.Core.Path.{_≡_, refl, sym, _∙_}
 use mathlib.Core.Bool.{Bool, true, false}
 use mathlib.Core.List.{List, [], _∷_}
@@ -8,37 +9,43 @@ use mir.Syntax.{w32}
 use mir.Val.{Fits}
 use borrow.Author.Tests.{lt-ltb, le-ltb, ltb-true}
 use lib.Dec.{eqb, ltb}
-use lib.ListN.{length}
+use lib.ListN.{length, drop, drop-of-length-le}
 use Rattle.word.specs.Choice.{pick}
 use Rattle.word.specs.Words.{wordAt, bits}
 use Rattle.word.specs.Answers.{answer, refused}
 use Rattle.word.specs.declared.answer.Answer.{Answer}
 use Rattle.interface.specs.Meaning.{EntryPoint}
 use Rattle.interface.specs.Format.{stageAt, stageCode, named, sameBytes, Decoded, Torn, Misfiled, Pack, decode, decodedNumber}
-use Rattle.interface.specs.Reads.{nameAt, standing, interfaceOf}
-use Rattle.interface.specs.Rules.{ofStage, findFrom, findEntryPoint, onlyFrom, onlyEntryPoint, onlyAnswer, finalizeName}
-use Rattle.interface.specs.Parts.{recordsFrom, endFrom, workgroupAt, countsAt, inputsAt, partsAt, entryEnd, entryAt, entryCount, entriesAt, met, chosenIn}
+use Rattle.interface.specs.Reads.{nameAt, standing, interfaceOf, entryNth}
+use Rattle.interface.specs.Rules.{ofStage, findFrom, onlyFrom, onlyEntryPoint, onlyAnswer, finalizeName}
+use Rattle.interface.specs.Parts.{recordsFrom, endFrom, workgroupAt, countsAt, inputsAt, partsAt, entryEnd, entryAt, entryCount, entriesAt, Heads, met, chosenIn}
 use Rattle.interface.specs.declared.types.ShaderStage.{ShaderStage}
 use Rattle.interface.specs.declared.types.Chosen.{Chosen}
 use Rattle.interface.specs.declared.types.Chosen.the-variants as Ch
-use Rattle.interface.proofs.ReadsRecords.{records-left, records-none, records-length, end-left}
-use Rattle.interface.proofs.ReadsParts.{past, head-past, outputs-past, varyings-past}
+use Rattle.interface.proofs.ReadsRecords.{records-length, end-left}
+use Rattle.interface.proofs.ReadsParts.{past, head-past, outputs-past, varyings-past, nth-read}
 use Rattle.interface.proofs.ReadsPack.{accepted}
 
 -- ---- an entry point's stage and name
 
-pub stage-read : (ws : List ℕ) (head w a b : ℕ) (s stage : ShaderStage) → w ≡ wordAt ws head → s ≡ stageAt (w / 16777216 % 8) → a ≡ stageCode s → b ≡ stageCode stage
-    → eqb a b ≡ ofStage stage (entryAt ws head)
-unfolding standing partsAt
-stage-read ws head w a b s stage hw hs ha hb = rw (ha, hb, hs, hw)
+module _ (ws heads : List ℕ) (p at : ℕ) (h : decodedNumber (decode ws) ≡ 0) (g : Heads ws heads) (k : p < length (interfaceOf (decode ws) .entries)) (ea : at ≡ wordAt heads p) where
+  abbrev here : EntryPoint
+  here = entryNth (interfaceOf (decode ws) .entries) p
 
-module _ (ws : List ℕ) (head : ℕ) (stage : ShaderStage) (name : List ℕ) (b c : Bool) (e : b ≡ ofStage stage (entryAt ws head)) where
-  pub named-other : b ≡ false → false ≡ named stage name (entryAt ws head)
-  named-other h = rw (← e, h)
+  stands-here : entryAt ws at ≡ here
+  stands-here = nth-read ws heads p at h g ea k (partsAt ws at) refl
 
-  pub named-same : b ≡ true → c ≡ sameBytes (nameAt ws head) name → c ≡ named stage name (entryAt ws head)
+  pub stage-read : (w a b : ℕ) (s stage : ShaderStage) → w ≡ wordAt ws at → s ≡ stageAt (w / 16777216 % 8) → a ≡ stageCode s → b ≡ stageCode stage
+      → eqb a b ≡ ofStage stage here
   unfolding standing partsAt
-  named-same h g = rw (← e, h) g
+  stage-read w a b s stage hw hs ha hb = rw (← stands-here, ha, hb, hs, hw)
+
+  pub named-same : (stage : ShaderStage) (name : List ℕ) (b c : Bool) → b ≡ ofStage stage here → b ≡ true → c ≡ sameBytes (nameAt ws at) name → c ≡ named stage name here
+  unfolding standing partsAt
+  named-same stage name b c e t f = let n : here .name ≡ nameAt ws at = rw (← stands-here) in rw (← e, t, n) f
+
+pub named-other : (e : EntryPoint) (stage : ShaderStage) (name : List ℕ) (b : Bool) → b ≡ ofStage stage e → b ≡ false → false ≡ named stage name e
+named-other e stage name b h f = rw (← h, f)
 
 -- ---- the entry points that are left
 
@@ -50,7 +57,7 @@ module _ (ws : List ℕ) (h : decodedNumber (decode ws) ≡ 0) (left at : ℕ) (
   entries-begin = rw (hl, ha) (accepted ws h .entries)
 
   pub ends-begin : endFrom (entryEnd ws) left at ≤ length ws
-  ends-begin = rw (hl, ha) (accepted ws h .ends)
+  ends-begin = rw (hl, ha) (omega (arith, accepted ws h .ends))
 
 module _ (ws : List ℕ) (left at : ℕ) (ends : endFrom (entryEnd ws) left at ≤ length ws) (h : left ≡ 0 → ⊥) where
   pub ends-onward : (next : ℕ) → next ≡ entryEnd ws at → endFrom (entryEnd ws) (left - 1) next ≤ length ws
@@ -66,39 +73,42 @@ module _ (ws : List ℕ) (left at : ℕ) (ends : endFrom (entryEnd ws) left at �
 
 -- ---- by stage and name
 
-module _ (ws name : List ℕ) (stage : ShaderStage) (left at i : ℕ) (b : Bool) (goal : Chosen) (inv : goal ≡ findFrom stage name (left-of ws left at) i)
-    (h : left ≡ 0 → ⊥) (e : b ≡ named stage name (entryAt ws at)) where
-  find-step : goal ≡ pick b (Ch.At i) (findFrom stage name (left-of ws (left - 1) (entryEnd ws at)) (i + 1))
+drop-nth : (es : List EntryPoint) (i : ℕ) → i < length es → drop i es ≡ entryNth es i ∷ drop (i + 1) es
+unfolding entryNth
+drop-nth [] i h = absurd (omega arith)
+drop-nth (e ∷ es) zero h = refl
+drop-nth (e ∷ es) (suc i) h = rw suc-add (drop-nth es i (omega arith))
+
+module _ (stage : ShaderStage) (name : List ℕ) (es : List EntryPoint) (i n : ℕ) (b : Bool) (goal : Chosen) (inv : goal ≡ findFrom stage name (drop i es) i)
+    (k : i < n) (l : n ≡ length es) (e : b ≡ named stage name (entryNth es i)) where
+  find-step : goal ≡ pick b (Ch.At i) (findFrom stage name (drop (i + 1) es) (i + 1))
   unfolding findFrom
-  find-step = inv ∙ rw (records-left (entryAt ws) (entryEnd ws) left at h, e)
+  find-step = inv ∙ rw (drop-nth es i (omega arith), e)
 
   pub find-here : b ≡ true → Ch.At i ≡ goal
   find-here t = sym (find-step ∙ rw t)
 
-  pub find-onward : (next : ℕ) → b ≡ false → next ≡ entryEnd ws at → goal ≡ findFrom stage name (left-of ws (left - 1) next) (i + 1)
-  find-onward next t n = find-step ∙ rw (t, n)
+  pub find-onward : b ≡ false → goal ≡ findFrom stage name (drop (i + 1) es) (i + 1)
+  find-onward t = find-step ∙ rw t
 
-pub find-ended : (ws name : List ℕ) (stage : ShaderStage) (left at i : ℕ) (goal : Chosen) → goal ≡ findFrom stage name (left-of ws left at) i → left ≡ 0 → Ch.Absent ≡ goal
+pub find-ended : (stage : ShaderStage) (name : List ℕ) (es : List EntryPoint) (i n : ℕ) (goal : Chosen) → goal ≡ findFrom stage name (drop i es) i → n ≡ length es → n ≤ i → Ch.Absent ≡ goal
 unfolding findFrom
-find-ended ws name stage left at i goal inv h = sym (inv ∙ rw (records-none (entryAt ws) (entryEnd ws) left at h))
-
-pub find-begin : (stage : ShaderStage) (name : List ℕ) (es fs : List EntryPoint) → es ≡ fs → findEntryPoint stage name es ≡ findFrom stage name fs 0
-find-begin stage name es fs e = rw e
+find-ended stage name es i n goal inv l h = sym (inv ∙ rw (drop-of-length-le es (rw l at h)))
 
 -- ---- by stage alone
 
-module _ (found : Chosen) (b : Bool) (i : ℕ) where
-  pub met-first : b ≡ true → found ≡ Ch.Absent → Ch.At i ≡ met found b i
-  met-first h e = rw (h, e)
+module _ (found : Chosen) (here b : Bool) (i : ℕ) (t : b ≡ here) where
+  pub met-first : b ≡ true → found ≡ Ch.Absent → Ch.At i ≡ met found here i
+  met-first h e = rw (← t, h, e)
 
-  pub met-second : (j : ℕ) → b ≡ true → found ≡ Ch.At j → Ch.Several ≡ met found b i
-  met-second j h e = rw (h, e)
+  pub met-second : (j : ℕ) → b ≡ true → found ≡ Ch.At j → Ch.Several ≡ met found here i
+  met-second j h e = rw (← t, h, e)
 
-  pub met-later : b ≡ true → found ≡ Ch.Several → Ch.Several ≡ met found b i
-  met-later h e = rw (h, e)
+  pub met-later : b ≡ true → found ≡ Ch.Several → Ch.Several ≡ met found here i
+  met-later h e = rw (← t, h, e)
 
-  pub met-other : b ≡ false → found ≡ met found b i
-  met-other h = rw h
+  pub met-other : b ≡ false → found ≡ met found here i
+  met-other h = rw (← t, h)
 
 several-stays : (stage : ShaderStage) (es : List EntryPoint) (i : ℕ) → onlyFrom stage Ch.Several es i ≡ Ch.Several
 unfolding onlyFrom
@@ -115,26 +125,22 @@ only-step stage (Ch.At j) e es i false h = rw (← h)
 only-step stage Ch.Several e es i true h = sym (several-stays stage es (i + 1))
 only-step stage Ch.Several e es i false h = sym (several-stays stage es (i + 1))
 
-pub only-onward : (ws : List ℕ) (stage : ShaderStage) (found more goal : Chosen) (left at next i : ℕ) (b : Bool) → goal ≡ onlyFrom stage found (left-of ws left at) i
-    → (left ≡ 0 → ⊥) → b ≡ ofStage stage (entryAt ws at) → more ≡ met found b i → next ≡ entryEnd ws at
-    → goal ≡ onlyFrom stage more (left-of ws (left - 1) next) (i + 1)
-only-onward ws stage found more goal left at next i b inv h e m n =
-    inv ∙ rw (records-left (entryAt ws) (entryEnd ws) left at h, m, n) (only-step stage found (entryAt ws at) (left-of ws (left - 1) (entryEnd ws at)) i b e)
+pub only-onward : (stage : ShaderStage) (es : List EntryPoint) (found more goal : Chosen) (i n : ℕ) → goal ≡ onlyFrom stage found (drop i es) i
+    → i < n → n ≡ length es → more ≡ met found (ofStage stage (entryNth es i)) i → goal ≡ onlyFrom stage more (drop (i + 1) es) (i + 1)
+only-onward stage es found more goal i n inv k l m =
+    inv ∙ rw (drop-nth es i (omega arith), m) (only-step stage found (entryNth es i) (drop (i + 1) es) i (ofStage stage (entryNth es i)) refl)
 
-pub only-ended : (ws : List ℕ) (stage : ShaderStage) (found goal : Chosen) (left at i : ℕ) → goal ≡ onlyFrom stage found (left-of ws left at) i → left ≡ 0 → found ≡ goal
+pub only-ended : (stage : ShaderStage) (found goal : Chosen) (es : List EntryPoint) (i n : ℕ) → goal ≡ onlyFrom stage found (drop i es) i → n ≡ length es → n ≤ i → found ≡ goal
 unfolding onlyFrom
-only-ended ws stage found goal left at i inv h = sym (inv ∙ rw (records-none (entryAt ws) (entryEnd ws) left at h) (stays found))
+only-ended stage found goal es i n inv l h = sym (inv ∙ rw (drop-of-length-le es (rw l at h)) (stays found))
   where
     stays : (c : Chosen) → onlyFrom stage c [] i ≡ c
     stays c = refl
 
-pub only-begin : (stage : ShaderStage) (es fs : List EntryPoint) → es ≡ fs → onlyEntryPoint stage es ≡ onlyFrom stage Ch.Absent fs 0
-only-begin stage es fs e = rw e
-
 -- ---- a chosen place is one of the entry points'
 
-pub here-in : (i left n : ℕ) (es : List EntryPoint) → i + left ≡ n → (left ≡ 0 → ⊥) → n ≡ length es → chosenIn (Ch.At i) (length es) ≡ true
-here-in i left n es s h e = lt-ltb i (length es) (omega arith)
+pub here-in : (i n : ℕ) (es : List EntryPoint) → i < n → n ≡ length es → chosenIn (Ch.At i) (length es) ≡ true
+here-in i n es h e = lt-ltb i (length es) (omega arith)
 
 pub next-in : (i : ℕ) → chosenIn (Ch.At i) (i + 1) ≡ true
 next-in i = lt-ltb i (i + 1) (omega arith)
@@ -144,8 +150,8 @@ still-in Ch.Absent i h = refl
 still-in (Ch.At j) i h = lt-ltb j (i + 1) (omega (arith, ltb-true j i h))
 still-in Ch.Several i h = refl
 
-pub ended-in : (found : Chosen) (i left n : ℕ) (es : List EntryPoint) → chosenIn found i ≡ true → i + left ≡ n → left ≡ 0 → n ≡ length es → chosenIn found (length es) ≡ true
-ended-in found i left n es h s z e = let c : length es ≡ i = omega arith in rw c h
+pub ended-in : (found : Chosen) (i n : ℕ) (es : List EntryPoint) → chosenIn found i ≡ true → i ≤ n → n ≤ i → n ≡ length es → chosenIn found (length es) ≡ true
+ended-in found i n es h s z e = let c : length es ≡ i = omega arith in rw c h
 
 -- ---- where no name is given
 

@@ -6,7 +6,7 @@ use mathlib.Core.Bool.{Bool, true, false, _&&_, _||_}
 use mathlib.Core.List.{List, [], _∷_}
 use borrow.Author.Tests.{leb-true, ltb-false}
 use lib.Dec.{leb, ltb, lit<}
-use lib.ListN.{length, take, drop, take-append-drop}
+use lib.ListN.{length, take, drop, take-append-drop, length-drop}
 use lib.Seq.{getD-take}
 use Rattle.word.specs.Choice.{pick}
 use Rattle.word.specs.Words.{wordAt, contentOf}
@@ -72,6 +72,11 @@ pack-stands P t ws s i rest e =
 split : (ws : List ℕ) → Stands ws (drop (length ws - 1) ws) 0 (body ws)
 split ws = record { here = sym (take-append-drop (length ws - 1) ws); within = omega arith }
 
+before-closing : (ws : List ℕ) (end : ℕ) → 16 ≤ length ws → Stands ws (drop (length ws - 1) ws) end [] → end < length ws
+before-closing ws end l s =
+    let n : length (drop end ws) ≡ length (drop (length ws - 1) ws) = ap length (s .here) in
+    omega (arith, length-drop end ws, length-drop (length ws - 1) ws)
+
 limits-taken : (l : List ℕ) → limitsOf (take 13 l) ≡ limitsOf l
 limits-taken l =
     let t : (k : ℕ) → k < 13 → wordAt (take 13 l) k ≡ wordAt l k = λ k h. getD-take 13 l k 0 h in
@@ -96,7 +101,7 @@ pub record Accepted (ws : List ℕ) (i : Interface) : Type 0 where
   pub limits : i .limits ≡ limitsOf (drop 2 ws)
   pub resources : i .resources ≡ resourcesOf ws
   pub entries : i .entries ≡ entriesOf ws
-  pub ends : endFrom (entryEnd ws) (entryCount ws) (entriesAt ws) ≤ length ws
+  pub ends : endFrom (entryEnd ws) (entryCount ws) (entriesAt ws) < length ws
   pub few-resources : resourceCount ws ≤ 128
   pub few-entries : entryCount ws ≤ 16
   pub short : length ws ≤ 4096
@@ -123,7 +128,7 @@ module _ (ws : List ℕ) (i : Interface) where
         limits = ap (λ (i : Interface). i .limits) p ∙ limits-taken (drop 2 ws);
         resources = ap (λ (i : Interface). i .resources) p;
         entries = ap (λ (i : Interface). i .entries) p;
-        ends = s .within;
+        ends = before-closing ws (endFrom (entryEnd ws) (entryCount ws) (entriesAt ws)) (ltb-false (length ws) 16 a) s;
         few-resources = leb-true (resourceCount ws) 128 (first (leb (resourceCount ws) 128) (leb (entryCount ws) 16) u);
         few-entries = leb-true (entryCount ws) 16 (second (leb (resourceCount ws) 128) (leb (entryCount ws) 16) u);
         short = ltb-false 4096 (length ws) c;

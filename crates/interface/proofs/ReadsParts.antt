@@ -1,5 +1,5 @@
 -- The ways of the functions that walk from record to record.
-use Prim.Native.Nat.{ℕ, zero, suc, _+_, _-_, _/_, _%_, _<_, _≤_}
+use Prim.Native.Nat.{ℕ, zero, suc, _+_, _-_, _/_, _%_, _^_, _<_, _≤_}
 use native.Mathlib.Omega.{arith}
 use mathlib.Core.Path.{_≡_, refl, sym, _∙_}
 use mathlib.Core.List.{List}
@@ -10,7 +10,7 @@ use Rattle.word.specs.Choice.{pick}
 use Rattle.word.specs.Words.{wordAt, bits, bit}
 use Rattle.interface.specs.Format.{nameWords, decode, decodedNumber}
 use Rattle.interface.specs.Reads.{varyingWidth, interfaceOf, standing, entryNth}
-use Rattle.interface.specs.Parts.{recordsFrom, endFrom, varyingEnd, varyingsEnd, resourceEnd, countsAt, inputsAt, partsAt, entryEnd, entryAt, entriesAt, entryCount, headAt, Placed}
+use Rattle.interface.specs.Parts.{recordsFrom, endFrom, varyingEnd, varyingsEnd, resourceEnd, countsAt, inputsAt, partsAt, entryEnd, entryAt, entriesAt, entryCount, headAt, Placed, Heads, workgroupAt}
 use Rattle.interface.specs.declared.types.EntryParts.{EntryParts}
 use Rattle.interface.proofs.ReadsRecords.{end-left, end-none, records-length}
 use Rattle.interface.proofs.ReadsPack.{accepted}
@@ -71,7 +71,7 @@ unfolding endFrom
 past after rises zero at = omega arith
 past after rises (suc n) at = omega (arith, rises at, past after rises n (after at))
 
-within : (after : ℕ → ℕ) → ((at : ℕ) → at ≤ after at) → (p n at : ℕ) → p < n → after (endFrom after p at) ≤ endFrom after n at
+pub within : (after : ℕ → ℕ) → ((at : ℕ) → at ≤ after at) → (p n at : ℕ) → p < n → after (endFrom after p at) ≤ endFrom after n at
 unfolding endFrom
 within after rises zero zero at h = absurd (omega arith)
 within after rises zero (suc n) at h = past after rises n (after at)
@@ -108,15 +108,32 @@ module _ (ws : List ℕ) (head : ℕ) where
 counted : (ws : List ℕ) (p : ℕ) → decodedNumber (decode ws) ≡ 0 → p < length (interfaceOf (decode ws) .entries) → p < entryCount ws
 counted ws p h k = rw (accepted ws h .entries, records-length (entryAt ws) (entryEnd ws) (entryCount ws) (entriesAt ws)) at k
 
-pub place-few : (ws : List ℕ) (p : ℕ) → decodedNumber (decode ws) ≡ 0 → p < length (interfaceOf (decode ws) .entries) → p ≤ 16
-place-few ws p h k = omega (arith, counted ws p h k, accepted ws h .few-entries)
+-- a position in a table of heads
+module _ (ws heads : List ℕ) (p head : ℕ) (h : decodedNumber (decode ws) ≡ 0) (g : Heads ws heads) (e : head ≡ wordAt heads p) where
+  placed : p < entryCount ws → Placed ws (partsAt ws head)
+  placed k =
+      let a : head ≡ headAt ws p = e ∙ g .entries h p k in
+      let i : entryEnd ws head ≤ endFrom (entryEnd ws) (entryCount ws) (entriesAt ws) = rw a (within (entryEnd ws) (head-past ws) p (entryCount ws) (entriesAt ws) k) in
+      rising ws head (omega (arith, outputs-past ws head, accepted ws h .ends)) (accepted ws h .short)
 
-module _ (ws : List ℕ) (p head : ℕ) (parts : EntryParts) (h : decodedNumber (decode ws) ≡ 0) (k : p < length (interfaceOf (decode ws) .entries))
-    (e : head ≡ headAt ws p) (d : parts ≡ partsAt ws head) where
-  pub nth-read : standing ws parts ≡ entryNth (interfaceOf (decode ws) .entries) p
-  nth-read = rw (d, e, accepted ws h .entries) (sym (nth ws p (entryCount ws) (entriesAt ws) (counted ws p h k)))
+  module _ (k : p < length (interfaceOf (decode ws) .entries)) where
+    pub name-placed : workgroupAt ws head ≤ length ws
+    unfolding partsAt
+    name-placed =
+        let w = placed (counted ws p h k) in
+        omega (arith, w .workgroup, w .counts, w .resources, w .pairs, w .inputs, w .outputs)
 
-  pub nth-placed : Placed ws parts
-  nth-placed =
-      let i : entryEnd ws head ≤ endFrom (entryEnd ws) (entryCount ws) (entriesAt ws) = rw e (within (entryEnd ws) (head-past ws) p (entryCount ws) (entriesAt ws) (counted ws p h k)) in
-      rw d (rising ws head (omega (arith, outputs-past ws head, accepted ws h .ends)) (accepted ws h .short))
+    pub head-near : head < 2 ^ 50
+    unfolding partsAt
+    head-near =
+        let w = placed (counted ws p h k) in
+        omega (arith, w .name, w .workgroup, w .counts, w .resources, w .pairs, w .inputs, w .outputs, w .short)
+
+    module _ (parts : EntryParts) (d : parts ≡ partsAt ws head) where
+      pub nth-placed : Placed ws parts
+      nth-placed = rw d (placed (counted ws p h k))
+
+      pub nth-read : standing ws parts ≡ entryNth (interfaceOf (decode ws) .entries) p
+      nth-read =
+          let a : head ≡ headAt ws p = e ∙ g .entries h p (counted ws p h k) in
+          rw (d, a, accepted ws h .entries) (sym (nth ws p (entryCount ws) (entriesAt ws) (counted ws p h k)))

@@ -7,15 +7,11 @@ use borrow.Author.Tests.{eq-eqb, ne-eqb}
 use lib.ListN.{length, drop}
 use lib.Seq.{getD-drop}
 use Rattle.word.specs.Words.{wordAt, kindOf, contentOf}
-use Rattle.varying.specs.Format.{varOf}
-use Rattle.varying.specs.declared.InterfaceVar.{InterfaceVar}
-use Rattle.interface.specs.Format.{builtInOf, pairOf, decode, decodedNumber, limitsOf}
-use Rattle.interface.specs.Reads.{varying, varyingWidth, interfaceOf}
+use Rattle.interface.specs.Format.{pairOf, decode, decodedNumber, limitsOf}
+use Rattle.interface.specs.Reads.{varyingWidth, interfaceOf}
 use Rattle.interface.specs.Parts.{resourceCount, entryCount, resourceEnd, entryEnd, entriesAt, entryAt}
 use Rattle.resource.specs.Format.{resourceAt}
-use Rattle.interface.specs.declared.types.BuiltIn.{BuiltIn}
 use Rattle.interface.specs.declared.types.Limits.{Limits}
-use Rattle.interface.specs.declared.types.Varying.the-variants as Var
 use Rattle.interface.proofs.ReadsRecords.{records-length}
 use Rattle.interface.proofs.ReadsPack.{accepted}
 
@@ -23,12 +19,6 @@ first-word : (ws : List ℕ) (at : ℕ) → wordAt (drop at ws) 0 ≡ wordAt ws 
 first-word ws at = getD-drop at ws 0 0 ∙ ap (λ (n : ℕ). wordAt ws n) (add-zero at)
 
 module _ (ws : List ℕ) (at w k : ℕ) (hw : w ≡ wordAt ws at) (hk : k ≡ kindOf w) where
-  pub varying-local : (v l : ℕ) (iv : InterfaceVar) → k ≡ 12 → v ≡ wordAt ws (at + 1) → iv ≡ varOf v → l ≡ contentOf w → Var.Local l iv ≡ varying (drop at ws)
-  varying-local v l iv h hv hi hl = rw (first-word ws at, getD-drop at ws 1 0, ← hw, ← hk, eq-eqb k 12 h) (cc)
-
-  pub varying-built-in : (b : BuiltIn) → (k ≡ 12 → ⊥) → b ≡ builtInOf w → Var.BuiltIn b ≡ varying (drop at ws)
-  varying-built-in b h hb = rw (first-word ws at, ← hw, ← hk, ne-eqb k 12 h) (cc)
-
   pub width-local : k ≡ 12 → 2 ≡ varyingWidth (drop at ws)
   width-local h = rw (first-word ws at, ← hw, ← hk, eq-eqb k 12 h)
 

@@ -1,5 +1,5 @@
 -- Where the records of a pack stand, by the counts that it names: read without asking whether it is well filed.
-use Prim.Native.Nat.{ℕ, zero, suc, _+_, _^_, _<_, _≤_}
+use Prim.Native.Nat.{ℕ, zero, suc, _+_, _<_, _≤_}
 use mathlib.Core.Path.{_≡_}
 use mathlib.Core.Bool.{Bool, true, false}
 use mathlib.Core.List.{List, [], _∷_}
@@ -10,8 +10,8 @@ use Rattle.word.specs.Words.{wordAt, bits, bit}
 use Rattle.resource.specs.Format.{resourceAt, isBuffer}
 use Rattle.resource.specs.declared.types.Resource.{Resource}
 use Rattle.interface.specs.Meaning.{EntryPoint}
-use Rattle.interface.specs.Format.{nameWords, bytesOf}
-use Rattle.interface.specs.Reads.{varyingWidth, standing}
+use Rattle.interface.specs.Format.{nameWords, bytesOf, decode, decodedNumber}
+use Rattle.interface.specs.Reads.{varyingWidth, standing, resourcesAt, interfaceOf}
 use Rattle.interface.specs.declared.types.EntryParts.{EntryParts}
 use Rattle.interface.specs.declared.types.Chosen.{Chosen}
 use Rattle.interface.specs.declared.types.Chosen.the-variants as Ch
@@ -121,9 +121,14 @@ pub record Placed (ws : List ℕ) (p : EntryParts) : Type 0 where
   pub outputs : p .outputs ≤ length ws
   pub short : length ws ≤ 4096
 
--- as many numbers are positions in a pack
-pub record Small (n : ℕ) (l : List ℕ) : Type 0 where
-  pub below : (k : ℕ) → k < n → wordAt l k < 2 ^ 13
+-- a table begins with the positions of an accepted pack's resources, and three words stand from each on
+pub record Offsets (ws offsets : List ℕ) : Type 0 where
+  pub resources : decodedNumber (decode ws) ≡ 0 → resourcesAt ws (take (resourceCount ws) offsets) ≡ interfaceOf (decode ws) .resources
+  pub within : decodedNumber (decode ws) ≡ 0 → (k : ℕ) → k < resourceCount ws → wordAt offsets k + 3 ≤ length ws
+
+-- a table begins with the positions of an accepted pack's entry points
+pub record Heads (ws heads : List ℕ) : Type 0 where
+  pub entries : decodedNumber (decode ws) ≡ 0 → (k : ℕ) → k < entryCount ws → wordAt heads k ≡ headAt ws k
 
 -- ---- a choice of an entry point
 

@@ -1,5 +1,5 @@
 -- What the functions that check a pack carry along; only contracts of inner functions cite these.
-use Prim.Native.Nat.{ℕ, zero, suc, _+_, _-_, _<_}
+use Prim.Native.Nat.{ℕ, zero, suc, _+_, _-_, _<_, _≤_}
 use mathlib.Core.Path.{_≡_}
 use mathlib.Core.Bool.{Bool, true, false, _&&_}
 use mathlib.Core.List.{List, [], _∷_, _++_}
@@ -7,7 +7,7 @@ use lib.Dec.{eqb}
 use lib.ListN.{length, take, drop, set, getD, replicate}
 use Rattle.word.specs.Choice.{pick}
 use Rattle.word.specs.Words.{wordAt, bits, bit}
-use Rattle.word.specs.Parse.{Parsed, fault, got, one, several, Rest, nowhere, from, behind}
+use Rattle.word.specs.Parse.{Parsed, fault, got, one, several, Rest, nowhere, from, behind, restAt}
 use Rattle.resource.specs.Format.{readResource, typeCode}
 use Rattle.resource.specs.declared.types.Resource.{Resource}
 use Rattle.resource.specs.declared.types.ResourceType.{ResourceType}
@@ -155,3 +155,21 @@ entriesBehind resources n ws = thence (several n (readEntryPoint resources) ws) 
 -- resources and entry points, as many as a word says
 unfoldable pub recordsBehind : ℕ → List ℕ → Rest
 recordsBehind totals ws = thence (several (bits 26 16 totals) readResource ws) λ resources rest. entriesBehind resources (bits 15 0 totals) rest
+
+-- ---- positions of records
+
+-- a position where a reader stops
+pub record Stop {A : Type 0} (p : Parsed A) (ws : List ℕ) (at : ℕ) : Type 0 where
+  pub some : 1 ≤ at
+  pub within : at ≤ length ws
+  pub rest : restAt ws at ≡ behind p
+
+-- so many positions of a table: at each stops the reader of as many records as stand before it
+pub record Stops {A : Type 0} (read : List ℕ → Parsed A) (ws : List ℕ) (start n : ℕ) (table : List ℕ) : Type 0 where
+  pub each : (k : ℕ) → k < n → Stop (several k read (drop start ws)) ws (wordAt table k)
+
+-- the same for as many entry points as a word says, behind as many resources
+pub record EntryStops (ws : List ℕ) (totals : ℕ) (heads : List ℕ) : Type 0 where
+  pub start : ℕ
+  pub begin : Stop (several (bits 26 16 totals) readResource (drop 15 ws)) ws start
+  pub stops : Stops (readEntryPoint (packResources (bits 26 16 totals) ws)) ws start (bits 15 0 totals) heads

@@ -3,11 +3,12 @@ ghost use mathlib.Core.Path.{_≡_};
 ghost use mathlib.Core.List.{_++_};
 ghost use Prim.Native.Nat.{_+_, _<_, _≤_};
 ghost use lib.ListN.{length, take, drop};
-ghost use Rattle.word.specs.Words.{bits};
+ghost use Rattle.word.specs.Words.{wordAt, bits};
 ghost use Rattle.word.specs.Parse.{several, behind, restAt};
 ghost use Rattle.resource.specs.Format.{readResource};
 ghost use Rattle.interface.specs.Format.{editionFiled, totalsFiled, readEntryPoint, readPack, torn, decode, decodedNumber};
-ghost use Rattle.interface.specs.Walks.{listed, roleOf, pairRoles, roleTable, packResources, Headed, entriesBehind, recordsBehind};
+ghost use Rattle.interface.specs.Parts.{resourceCount, Offsets, Heads};
+ghost use Rattle.interface.specs.Walks.{listed, roleOf, pairRoles, roleTable, packResources, Headed, entriesBehind, recordsBehind, Stops, EntryStops};
 use crate::check_entry::entry_point_next;
 use crate::check_entry::kinds_next;
 use crate::check_names::names_distinct;
@@ -32,12 +33,20 @@ fn role(w: u32) -> u8
     0
 }
 
-// The position behind so many resources, or 0. The table gets the role of each.
-fn resources_next(body: &[u32], from: usize, n: usize, roles: &mut [u8; 128]) -> usize
-    requires { ⌜ (1 ≤ from) × (from ≤ length (now body)) × (n ≤ 128) × (length (now roles) ≡ 128) ⌝ }
+// The position behind so many resources, or 0. The tables get the role and the position of each.
+fn resources_next(
+    body: &[u32],
+    from: usize,
+    n: usize,
+    roles: &mut [u8; 128],
+    offsets: &mut [u32],
+) -> usize
+    requires { ⌜ (1 ≤ from) × (from ≤ length (now body)) × (length (now body) ≤ 4096) × (n ≤ 128) ⌝ }
+    requires { ⌜ (length (now roles) ≡ 128) × (128 ≤ length (now offsets)) ⌝ }
     ensures { λ r. ⌜ restAt (now (body .entry)) r ≡ behind (several n readResource (drop from (now (body .entry)))) ⌝ }
     ensures { λ r. ⌜ r ≤ length (now (body .entry)) ⌝ }
     ensures { λ r. ⌜ ((r ≡ 0 → ⊥) → now (roles .exit) ≡ pairRoles (listed (several n readResource (drop from (now (body .entry))))) ++ drop n (now (roles .entry))) ⌝ }
+    ensures { λ r. ⌜ ((r ≡ 0 → ⊥) → Stops readResource (now (body .entry)) from n (now (offsets .exit))) ⌝ }
 {
     let mut at = from;
     let mut i: usize = 0;
@@ -47,6 +56,7 @@ fn resources_next(body: &[u32], from: usize, n: usize, roles: &mut [u8; 128]) ->
             return 0;
         }
         roles[i] = role(word::word(body, at + 1));
+        offsets[i] = at as u32;
         at = next;
         i += 1;
     }
@@ -60,15 +70,15 @@ fn entry_points_next(
     n: usize,
     count: u32,
     roles: &[u8; 128],
-    heads: &mut [u32; 16],
+    heads: &mut [u32],
 ) -> usize
-    requires { ⌜ (1 ≤ from) × (from ≤ length (now body)) × (length (now body) ≤ 4096) × (n ≤ 16) × (length (now heads) ≡ 16) ⌝ }
+    requires { ⌜ (1 ≤ from) × (from ≤ length (now body)) × (length (now body) ≤ 4096) × (n ≤ 16) × (16 ≤ length (now heads)) ⌝ }
     requires { ⌜ (count ≤ 128) × (length (packResources count (now body)) ≡ count) × (now roles ≡ roleTable (packResources count (now body))) ⌝ }
     ensures { λ r. ⌜ restAt (now (body .entry)) r ≡ behind (several n (readEntryPoint (packResources count (now (body .entry)))) (drop from (now (body .entry)))) ⌝ }
     ensures { λ r. ⌜ r ≤ length (now (body .entry)) ⌝ }
     ensures { λ r. ⌜ ((r ≡ 0 → ⊥) → Headed (now (body .entry)) (take n (now (heads .exit)))
         (listed (several n (readEntryPoint (packResources count (now (body .entry)))) (drop from (now (body .entry)))))) ⌝ }
-    ensures { λ r. ⌜ length (now (heads .exit)) ≡ 16 ⌝ }
+    ensures { λ r. ⌜ ((r ≡ 0 → ⊥) → Stops (readEntryPoint (packResources count (now (body .entry)))) (now (body .entry)) from n (now (heads .exit))) ⌝ }
 {
     let mut at = from;
     let mut i: usize = 0;
@@ -84,15 +94,22 @@ fn entry_points_next(
     at
 }
 
-// The position behind entry points whose stages and names differ, or 0.
-fn entries_next(body: &[u32], at: usize, n: usize, count: u32, roles: &[u8; 128]) -> usize
-    requires { ⌜ (1 ≤ at) × (at ≤ length (now body)) × (length (now body) ≤ 4096) × (n ≤ 16) ⌝ }
+// The position behind entry points whose stages and names differ, or 0. The table gets the position of each.
+fn entries_next(
+    body: &[u32],
+    at: usize,
+    n: usize,
+    count: u32,
+    roles: &[u8; 128],
+    heads: &mut [u32],
+) -> usize
+    requires { ⌜ (1 ≤ at) × (at ≤ length (now body)) × (length (now body) ≤ 4096) × (n ≤ 16) × (16 ≤ length (now heads)) ⌝ }
     requires { ⌜ (count ≤ 128) × (length (packResources count (now body)) ≡ count) × (now roles ≡ roleTable (packResources count (now body))) ⌝ }
     ensures { λ r. ⌜ restAt (now (body .entry)) r ≡ entriesBehind (packResources count (now (body .entry))) n (drop at (now (body .entry))) ⌝ }
     ensures { λ r. ⌜ r ≤ length (now (body .entry)) ⌝ }
+    ensures { λ r. ⌜ ((r ≡ 0 → ⊥) → Stops (readEntryPoint (packResources count (now (body .entry)))) (now (body .entry)) at n (now (heads .exit))) ⌝ }
 {
-    let mut heads: [u32; 16] = [0; 16];
-    let end = entry_points_next(body, at, n, count, roles, &mut heads);
+    let end = entry_points_next(body, at, n, count, roles, heads);
     if end == 0 {
         return 0;
     }
@@ -124,26 +141,38 @@ fn totals_filed(w: u32) -> bool
     w % 0x1_0000 <= 16
 }
 
-// The position behind the resources and entry points of a pack, or 0.
-fn records_next(body: &[u32], totals: u32) -> usize
+// The position behind the resources and entry points of a pack, or 0. The tables get the position of each.
+fn records_next(body: &[u32], totals: u32, offsets: &mut [u32], heads: &mut [u32]) -> usize
     requires { ⌜ (15 ≤ length (now body)) × (length (now body) ≤ 4096) × (bits 26 16 totals ≤ 128) × (bits 15 0 totals ≤ 16) ⌝ }
+    requires { ⌜ (128 ≤ length (now offsets)) × (16 ≤ length (now heads)) ⌝ }
     ensures { λ r. ⌜ restAt (now (body .entry)) r ≡ recordsBehind totals (drop 15 (now (body .entry))) ⌝ }
     ensures { λ r. ⌜ r ≤ length (now (body .entry)) ⌝ }
+    ensures { λ r. ⌜ ((r ≡ 0 → ⊥) → Stops readResource (now (body .entry)) 15 (bits 26 16 totals) (now (offsets .exit))) ⌝ }
+    ensures { λ r. ⌜ ((r ≡ 0 → ⊥) → EntryStops (now (body .entry)) totals (now (heads .exit))) ⌝ }
 {
     let count = totals / 0x1_0000 % 0x800;
     let mut roles: [u8; 128] = [0; 128];
-    let entries = resources_next(body, 15, count as usize, &mut roles);
+    let entries = resources_next(body, 15, count as usize, &mut roles, offsets);
     if entries == 0 {
         return 0;
     }
-    entries_next(body, entries, (totals % 0x1_0000) as usize, count, &roles)
+    entries_next(
+        body,
+        entries,
+        (totals % 0x1_0000) as usize,
+        count,
+        &roles,
+        heads,
+    )
 }
 
-// The position behind a pack, or 0 where it is not well filed.
-fn pack_next(body: &[u32]) -> usize
-    requires { ⌜ length (now body) ≤ 4096 ⌝ }
+// The position behind a pack, or 0 where it is not well filed. The tables get the position of each record.
+fn pack_next(body: &[u32], offsets: &mut [u32], heads: &mut [u32]) -> usize
+    requires { ⌜ (length (now body) ≤ 4096) × (128 ≤ length (now offsets)) × (16 ≤ length (now heads)) ⌝ }
     ensures { λ r. ⌜ restAt (now (body .entry)) r ≡ behind (readPack (now (body .entry))) ⌝ }
     ensures { λ r. ⌜ r ≤ length (now (body .entry)) ⌝ }
+    ensures { λ r. ⌜ ((r ≡ 0 → ⊥) → Stops readResource (now (body .entry)) 15 (resourceCount (now (body .entry))) (now (offsets .exit))) ⌝ }
+    ensures { λ r. ⌜ ((r ≡ 0 → ⊥) → EntryStops (now (body .entry)) (wordAt (now (body .entry)) 1) (now (heads .exit))) ⌝ }
 {
     if !edition_filed(word::word(body, 0)) {
         return 0;
@@ -155,7 +184,7 @@ fn pack_next(body: &[u32]) -> usize
     if kinds_next(body, 2, 13, 3) == 0 {
         return 0;
     }
-    records_next(body, totals)
+    records_next(body, totals, offsets, heads)
 }
 
 // Whether a pack has under 16 or over 4,096 words, a total unlike its length, or another sum than its closing word.
@@ -175,16 +204,28 @@ fn is_torn(pack: &[u32]) -> bool
     word::word(pack, n - 1) != word::closing_sum(pack)
 }
 
-// The check of a module pack: 0, or 1 for a torn one, or 2 for a misfiled one.
-pub fn check_pack(pack: &[u32]) -> u32
+// The check of a module pack: 0, or 1 for a torn one, or 2 for a misfiled one. The tables get the positions of an accepted pack's records.
+pub fn index_pack(pack: &[u32], offsets: &mut [u32], heads: &mut [u32]) -> u32
+    requires { ⌜ (128 ≤ length (now offsets)) × (16 ≤ length (now heads)) ⌝ }
     ensures { λ r. ⌜ r ≡ decodedNumber (decode (now (pack .entry))) ⌝ }
+    ensures { λ _. ⌜ Offsets (now (pack .entry)) (now (offsets .exit)) ⌝ }
+    ensures { λ _. ⌜ Heads (now (pack .entry)) (now (heads .exit)) ⌝ }
 {
     if is_torn(pack) {
         return 1;
     }
     let last = pack.len() - 1;
-    if pack_next(&pack[..last]) != last {
+    if pack_next(&pack[..last], offsets, heads) != last {
         return 2;
     }
     0
+}
+
+// The same check alone.
+pub fn check_pack(pack: &[u32]) -> u32
+    ensures { λ r. ⌜ r ≡ decodedNumber (decode (now (pack .entry))) ⌝ }
+{
+    let mut offsets: [u32; 128] = [0; 128];
+    let mut heads: [u32; 16] = [0; 16];
+    index_pack(pack, &mut offsets, &mut heads)
 }

@@ -1,69 +1,70 @@
 // The choice of an entry point of an accepted pack.
 ghost use mathlib.Core.Path.{_≡_};
 ghost use mathlib.Core.Bool.{true};
-ghost use Prim.Native.Nat.{_+_, _≤_};
+ghost use Prim.Native.Nat.{_+_, _<_};
 ghost use lib.ListN.{length};
 ghost use Rattle.interface.specs.Format.{named, decode, decodedNumber};
-ghost use Rattle.interface.specs.Reads.{interfaceOf};
-ghost use Rattle.interface.specs.Parts.{workgroupAt, entryAt, met, chosenIn};
+ghost use Rattle.interface.specs.Reads.{interfaceOf, entryNth};
+ghost use Rattle.interface.specs.Parts.{Heads, met, chosenIn};
 ghost use Rattle.interface.specs.Rules.{ofStage, findEntryPoint, onlyEntryPoint, onlyAnswer, finalizeName};
-use crate::check_pack::check_pack;
+use crate::check_pack::index_pack;
 use crate::names::same_name;
-use crate::parts::entries_at;
-use crate::parts::entry_end;
 use crate::reads::entry_count;
 use crate::reads::stage_at;
 use crate::reads::stage_code;
 use crate::types::Chosen;
 use crate::types::ShaderStage;
 use word::answer::Answer;
+use word::index;
 use word::word;
 
-// Whether the entry point that begins at a position has this stage.
-fn of_stage(pack: &[u32], head: usize, stage: ShaderStage) -> bool
-    ensures { λ r. ⌜ r ≡ ofStage stage (entryAt (now (pack .entry)) head) ⌝ }
+// Whether the entry point at a place has this stage.
+fn of_stage(pack: &[u32], heads: &[u32], position: usize, stage: ShaderStage) -> bool
+    requires { ⌜ (decodedNumber (decode (now pack)) ≡ 0) × Heads (now pack) (now heads) ⌝ }
+    requires { ⌜ position < length (interfaceOf (decode (now pack)) .entries) ⌝ }
+    ensures { λ r. ⌜ r ≡ ofStage stage (entryNth (interfaceOf (decode (now (pack .entry))) .entries) position) ⌝ }
 {
-    stage_code(stage_at(word(pack, head) / 0x100_0000 % 8)) == stage_code(stage)
+    let head = word(pack, index(heads, position));
+    stage_code(stage_at(head / 0x100_0000 % 8)) == stage_code(stage)
 }
 
 // Whether it has this stage and this name.
-fn is_named(pack: &[u32], head: usize, stage: ShaderStage, name: &[u8]) -> bool
-    requires { ⌜ workgroupAt (now pack) head ≤ length (now pack) ⌝ }
-    ensures { λ r. ⌜ r ≡ named stage (now (name .entry)) (entryAt (now (pack .entry)) head) ⌝ }
+fn is_named(pack: &[u32], heads: &[u32], position: usize, stage: ShaderStage, name: &[u8]) -> bool
+    requires { ⌜ (decodedNumber (decode (now pack)) ≡ 0) × Heads (now pack) (now heads) ⌝ }
+    requires { ⌜ position < length (interfaceOf (decode (now pack)) .entries) ⌝ }
+    ensures { λ r. ⌜ r ≡ named stage (now (name .entry)) (entryNth (interfaceOf (decode (now (pack .entry))) .entries) position) ⌝ }
 {
-    if of_stage(pack, head, stage) {
-        return same_name(pack, head, name);
+    if of_stage(pack, heads, position, stage) {
+        return same_name(pack, index(heads, position), name);
     }
     false
 }
 
 // The entry point of a stage and a name.
-pub fn find_entry_point(pack: &[u32], stage: ShaderStage, name: &[u8]) -> Chosen
-    requires { ⌜ decodedNumber (decode (now pack)) ≡ 0 ⌝ }
+pub fn find_entry_point(pack: &[u32], heads: &[u32], stage: ShaderStage, name: &[u8]) -> Chosen
+    requires { ⌜ (decodedNumber (decode (now pack)) ≡ 0) × Heads (now pack) (now heads) ⌝ }
     ensures { λ r. ⌜ r ≡ findEntryPoint stage (now (name .entry)) (interfaceOf (decode (now (pack .entry))) .entries) ⌝ }
     ensures { λ r. ⌜ chosenIn r (length (interfaceOf (decode (now (pack .entry))) .entries)) ≡ true ⌝ }
 {
-    let mut at = entries_at(pack);
-    let mut left = entry_count(pack);
+    let n = entry_count(pack);
     let mut i: usize = 0;
-    while left != 0 {
-        if is_named(pack, at, stage, name) {
+    while i < n {
+        if is_named(pack, heads, i, stage, name) {
             return Chosen::At { position: i };
         }
-        at = entry_end(pack, at);
         i += 1;
-        left -= 1;
     }
     Chosen::Absent
 }
 
-// What is known of a stage's one entry point after one more of the pack's.
-fn met_one(found: Chosen, here: bool, i: usize) -> Chosen
-    requires { ⌜ chosenIn found i ≡ true ⌝ }
-    ensures { λ r. ⌜ r ≡ met found here i ⌝ }
+// What is known of a stage's one entry point after the one at a place.
+fn met_one(pack: &[u32], heads: &[u32], stage: ShaderStage, found: Chosen, i: usize) -> Chosen
+    requires { ⌜ (decodedNumber (decode (now pack)) ≡ 0) × Heads (now pack) (now heads) ⌝ }
+    requires { ⌜ (i < length (interfaceOf (decode (now pack)) .entries)) × (chosenIn found i ≡ true) ⌝ }
+    ensures { λ r. ⌜ r ≡ met found (ofStage stage (entryNth (interfaceOf (decode (now (pack .entry))) .entries) i)) i ⌝ }
     ensures { λ r. ⌜ chosenIn r (i + 1) ≡ true ⌝ }
 {
-    if here {
+    if of_stage(pack, heads, i, stage) {
         return match found {
             Chosen::Absent => Chosen::At { position: i },
             Chosen::At { position: _ } => Chosen::Several,
@@ -74,20 +75,17 @@ fn met_one(found: Chosen, here: bool, i: usize) -> Chosen
 }
 
 // A stage's one entry point.
-pub(crate) fn only_entry_point(pack: &[u32], stage: ShaderStage) -> Chosen
-    requires { ⌜ decodedNumber (decode (now pack)) ≡ 0 ⌝ }
+pub(crate) fn only_entry_point(pack: &[u32], heads: &[u32], stage: ShaderStage) -> Chosen
+    requires { ⌜ (decodedNumber (decode (now pack)) ≡ 0) × Heads (now pack) (now heads) ⌝ }
     ensures { λ r. ⌜ r ≡ onlyEntryPoint stage (interfaceOf (decode (now (pack .entry))) .entries) ⌝ }
     ensures { λ r. ⌜ chosenIn r (length (interfaceOf (decode (now (pack .entry))) .entries)) ≡ true ⌝ }
 {
-    let mut at = entries_at(pack);
-    let mut left = entry_count(pack);
+    let n = entry_count(pack);
     let mut i: usize = 0;
     let mut found = Chosen::Absent;
-    while left != 0 {
-        found = met_one(found, of_stage(pack, at, stage), i);
-        at = entry_end(pack, at);
+    while i < n {
+        found = met_one(pack, heads, stage, found, i);
         i += 1;
-        left -= 1;
     }
     found
 }
@@ -108,13 +106,15 @@ fn only_answer(chosen: Chosen) -> Answer
 pub fn finalize_entry_point_name(pack: &[u32], stage: u32) -> Answer
     ensures { λ r. ⌜ r ≡ finalizeName (decode (now (pack .entry))) stage ⌝ }
 {
-    let refusal = check_pack(pack);
+    let mut offsets: [u32; 128] = [0; 128];
+    let mut heads: [u32; 16] = [0; 16];
+    let refusal = index_pack(pack, &mut offsets, &mut heads);
     if refusal != 0 {
         return Answer::refused(refusal);
     }
     if 4 < stage {
         return Answer::refused(3);
     }
-    let chosen = only_entry_point(pack, stage_at(stage));
+    let chosen = only_entry_point(pack, &heads, stage_at(stage));
     only_answer(chosen)
 }

@@ -5,7 +5,6 @@ pub mod check_pack;
 pub mod check_varyings;
 pub mod choose;
 pub mod names;
-pub mod offsets;
 pub mod parts;
 pub mod reads;
 pub mod types;

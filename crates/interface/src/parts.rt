@@ -5,7 +5,7 @@ ghost use lib.Dec.{eqb};
 ghost use Rattle.word.specs.Choice.{pick};
 ghost use Rattle.word.specs.Words.{bits, bit};
 ghost use Rattle.interface.specs.Format.{nameWords, decode, decodedNumber};
-ghost use Rattle.interface.specs.Parts.{varyingsEnd, resourceEnd, partsAt, entryEnd, entriesAt, headAt};
+ghost use Rattle.interface.specs.Parts.{varyingsEnd, resourceEnd, partsAt, entryEnd, entriesAt};
 use crate::reads::resource_count;
 use crate::reads::varying_width;
 use crate::types::EntryParts;
@@ -127,21 +127,6 @@ pub fn entries_at(pack: &[u32]) -> usize
     let mut left = resource_count(pack);
     while left != 0 {
         at = resource_end(pack, at);
-        left -= 1;
-    }
-    at
-}
-
-// Where the entry point at a place among those of an accepted pack begins.
-pub(crate) fn head_at(pack: &[u32], position: usize) -> usize
-    requires { ⌜ (decodedNumber (decode (now pack)) ≡ 0) × (position ≤ 16) ⌝ }
-    ensures { λ r. ⌜ r ≡ headAt (now (pack .entry)) position ⌝ }
-    ensures { λ r. ⌜ r < 2 ^ 50 ⌝ }
-{
-    let mut at = entries_at(pack);
-    let mut left = position;
-    while left != 0 {
-        at = entry_end(pack, at);
         left -= 1;
     }
     at

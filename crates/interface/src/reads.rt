@@ -1,12 +1,11 @@
 // What stands in a pack: codes, varyings and pairs at a position, and of an accepted pack its limits and counts.
 ghost use mathlib.Core.Path.{_≡_};
-ghost use Prim.Native.Nat.{_+_, _<_, _≤_, _^_};
+ghost use Prim.Native.Nat.{_<_, _≤_, _^_};
 ghost use lib.ListN.{length, drop};
 ghost use Rattle.word.specs.Words.{wordAt, contentOf};
 ghost use Rattle.interface.specs.Format.{stageAt, stageCode, topologyAt, builtInOf, pairOf, decode, decodedNumber};
-ghost use Rattle.interface.specs.Reads.{varying, varyingWidth, interfaceOf, standing, entryNth};
-ghost use Rattle.interface.specs.Parts.{resourceCount, entryCount, Placed};
-use crate::parts::head_at;
+ghost use Rattle.interface.specs.Reads.{varyingWidth, interfaceOf, standing, entryNth};
+ghost use Rattle.interface.specs.Parts.{resourceCount, entryCount, Placed, Heads};
 use crate::parts::parts_at;
 use crate::types::BuiltIn;
 use crate::types::EntryParts;
@@ -14,8 +13,8 @@ use crate::types::Limits;
 use crate::types::PrimitiveTopology;
 use crate::types::SamplingPair;
 use crate::types::ShaderStage;
-use crate::types::Varying;
 use word::content;
+use word::index;
 use word::kind;
 use word::word;
 
@@ -88,23 +87,6 @@ pub fn built_in_of(w: u32) -> BuiltIn
     BuiltIn::ClipDistances {
         array_size: w % 256,
     }
-}
-
-// The varying at a position.
-pub fn varying_at(pack: &[u32], at: usize) -> Varying
-    requires { ⌜ at < 2 ^ 60 ⌝ }
-    ensures { λ r. ⌜ r ≡ varying (drop at (now (pack .entry))) ⌝ }
-{
-    let w = word(pack, at);
-    if kind(w) == 12 {
-        let iv = varying::var_of(word(pack, at + 1));
-        return Varying::Local {
-            location: content(w),
-            iv,
-        };
-    }
-    let built_in = built_in_of(w);
-    Varying::BuiltIn { built_in }
 }
 
 // How many words the varying at a position takes.
@@ -180,11 +162,11 @@ pub(crate) fn resource_count(pack: &[u32]) -> usize
 }
 
 // The parts of the entry point at a place among those of an accepted pack.
-pub fn entry_parts(pack: &[u32], position: usize) -> EntryParts
-    requires { ⌜ decodedNumber (decode (now pack)) ≡ 0 ⌝ }
+pub fn entry_parts(pack: &[u32], heads: &[u32], position: usize) -> EntryParts
+    requires { ⌜ (decodedNumber (decode (now pack)) ≡ 0) × Heads (now pack) (now heads) ⌝ }
     requires { ⌜ position < length (interfaceOf (decode (now pack)) .entries) ⌝ }
     ensures { λ r. ⌜ standing (now (pack .entry)) r ≡ entryNth (interfaceOf (decode (now (pack .entry))) .entries) position ⌝ }
     ensures { λ r. ⌜ Placed (now (pack .entry)) r ⌝ }
 {
-    parts_at(pack, head_at(pack, position))
+    parts_at(pack, index(heads, position))
 }

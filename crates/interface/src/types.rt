@@ -1,6 +1,5 @@
 // What an entry point is made of.
 use varying::InterfaceVar;
-use varying::Payload;
 
 pub enum ShaderStage {
     Vertex,

@@ -3,11 +3,10 @@ use Prim.Native.Nat.{ℕ, _+_, _*_, _^_, _<_, _≤_}
 use native.Mathlib.Omega.{arith}
 use mathlib.Core.Path.{_≡_}
 use mathlib.Core.Bool.{Bool, true, false}
-use lib.Dec.{eqb}
-use borrow.Author.Tests.{ltb-true, eq-eqb, ne-eqb}
+use borrow.Author.Tests.{ltb-true}
 use Rattle.word.specs.Choice.{pick, yes}
 use Rattle.resource.specs.Rules.{viewCode}
-use Rattle.resource.specs.Format.{flag, bufferCode, samplerCode, sampleCode, accessCode, bindingCode, leastSize, sameBinding, formatHeld}
+use Rattle.resource.specs.Format.{flag, bufferCode, samplerCode, sampleCode, accessCode, bindingCode, leastSize, formatHeld}
 use Rattle.resource.specs.declared.types.BufferBindingType.{BufferBindingType}
 use Rattle.resource.specs.declared.types.BufferBindingType.the-variants as Buf
 use Rattle.resource.specs.declared.types.SamplerBindingType.{SamplerBindingType}
@@ -53,13 +52,6 @@ module _ (ty : BindingType) (x : ℕ) where
   pub code-acceleration : (returns : Bool) → ty ≡ Bind.AccelerationStructure returns → x ≡ flag returns → 2 ^ 23 * 6 + x ≡ bindingCode ty
   unfolding bindingCode
   code-acceleration returns e p = rw (e, p)
-
-module _ (a b : BindingType) (x y : ℕ) (p : x ≡ bindingCode a) (q : y ≡ bindingCode b) where
-  pub codes-differ : (x ≡ y → ⊥) → eqb x y ≡ sameBinding a b
-  codes-differ n = rw (← p, ← q, ne-eqb x y n)
-
-  pub codes-agree : (u v : ℕ) → x ≡ y → u ≡ leastSize a → v ≡ leastSize b → eqb u v ≡ sameBinding a b
-  codes-agree u v e r s = rw (← p, ← q, eq-eqb x y e, ← r, ← s)
 
 -- ---- ranges
 

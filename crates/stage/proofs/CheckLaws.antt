@@ -17,8 +17,8 @@ use Rattle.lists.proofs.LayoutLists as layouts
 use Rattle.lists.proofs.SizeLists as sizes
 use Rattle.interface.specs.Meaning.{EntryPoint, Interface}
 use Rattle.interface.specs.Format.{decode, decodedNumber, stageAt, contents, pairsOf}
-use Rattle.interface.specs.Reads.{interfaceOf, entryNth, standing, resourcesAt}
-use Rattle.interface.specs.Parts.{resourceCount, Placed, chosenIn}
+use Rattle.interface.specs.Reads.{interfaceOf, entryNth, standing}
+use Rattle.interface.specs.Parts.{Placed, Offsets, chosenIn}
 use Rattle.interface.specs.Rules.{findEntryPoint}
 use Rattle.interface.specs.declared.types.Chosen.{Chosen}
 use Rattle.interface.specs.declared.types.Chosen.the-variants as Ch
@@ -129,14 +129,13 @@ module _ (c : Call) (i : Interface) (e : EntryPoint) (a : Answer) (l z : List �
 
 -- ---- the entry point
 
-pub names-of : (ws : List ℕ) (p : EntryParts) (k : ℕ) → decodedNumber (decode ws) ≡ 0 → standing ws p ≡ entryNth (interfaceOf (decode ws) .entries) k
-    → Named (interfaceOf (decode ws)) (standing ws p)
-names-of ws p k z e =
-    rw e (record { held = given-held ws z; below = given-below ws z k; pairs = given-pairs ws z k; outputs = given-outputs ws z k })
+names-of : (ws : List ℕ) (k : ℕ) → decodedNumber (decode ws) ≡ 0 → Named (interfaceOf (decode ws)) (entryNth (interfaceOf (decode ws) .entries) k)
+names-of ws k z = record { held = given-held ws z; below = given-below ws z k; pairs = given-pairs ws z k; outputs = given-outputs ws z k }
 
-pub gives : (ws offsets : List ℕ) (i : Interface) (e : EntryPoint) → resourcesAt ws (take (resourceCount ws) offsets) ≡ i .resources → Named i e → Given ws offsets i e
+pub gives : (ws offsets : List ℕ) (p : EntryParts) (k : ℕ) → decodedNumber (decode ws) ≡ 0 → Offsets ws offsets → standing ws p ≡ entryNth (interfaceOf (decode ws) .entries) k
+    → Given ws offsets (interfaceOf (decode ws)) (standing ws p)
 unfolding resourceTable
-gives ws offsets i e t n = record { table = t; named = n }
+gives ws offsets p k z o e = rw e (record { table = o .resources z; named = names-of ws k z })
 
 out-words : (ws : List ℕ) (p : EntryParts) (s : Summary) → Summed ws p s → 2 + 2 * s .locals ≡ outWords (standing ws p)
 unfolding summaryOf
@@ -153,17 +152,21 @@ module _ (c : Call) (i : Interface) (e : EntryPoint) (ws : List ℕ) (p : EntryP
 pub room-enough : (ws : List ℕ) (p : EntryParts) (s : Summary) (l : ℕ) → Summed ws p s → 2 + 2 * s .locals ≤ l → outWords (standing ws p) ≤ l
 room-enough ws p s l g h = rw (← out-words ws p s g) h
 
-module _ (c : Call) (i : Interface) (chosen : Chosen) where
-  pub chosen-at : (k : ℕ) (x : Outcome) → chosen ≡ Ch.At k → x ≡ onEntryPoint c i (entryNth (i .entries) k) → x ≡ onChosen c i chosen
-  chosen-at k x ec ex = rw ec ex
+module _ (c : Call) (i : Interface) (stage : ℕ) (name : List ℕ) (s : ShaderStage) (chosen : Chosen) (es : s ≡ stageAt stage) (ec : chosen ≡ findEntryPoint s name (i .entries)) where
+  on-found : (x : Outcome) → x ≡ onChosen c i chosen → x ≡ onChosen c i (findEntryPoint (stageAt stage) name (i .entries))
+  on-found x h = rw (← es, ← ec) h
+
+  pub chosen-at : (k : ℕ) (x : Outcome) → chosen ≡ Ch.At k → x ≡ onEntryPoint c i (entryNth (i .entries) k)
+      → x ≡ onChosen c i (findEntryPoint (stageAt stage) name (i .entries))
+  chosen-at k x e ex = on-found x (rw e ex)
 
   pub chosen-absent : (a : Answer) (l z o : List ℕ) → l ≡ c .layout → z ≡ c .sizes → o ≡ c .out → chosen ≡ Ch.Absent → a ≡ refused 10
-      → outcome a l z o ≡ onChosen c i chosen
-  chosen-absent a l z o el ez eo ec ea = rw (ec, ea, el, ez, eo)
+      → outcome a l z o ≡ onChosen c i (findEntryPoint (stageAt stage) name (i .entries))
+  chosen-absent a l z o el ez eo e ea = on-found (outcome a l z o) (rw (e, ea, el, ez, eo))
 
   pub chosen-several : (a : Answer) (l z o : List ℕ) → l ≡ c .layout → z ≡ c .sizes → o ≡ c .out → chosen ≡ Ch.Several → a ≡ refused 10
-      → outcome a l z o ≡ onChosen c i chosen
-  chosen-several a l z o el ez eo ec ea = rw (ec, ea, el, ez, eo)
+      → outcome a l z o ≡ onChosen c i (findEntryPoint (stageAt stage) name (i .entries))
+  chosen-several a l z o el ez eo e ea = on-found (outcome a l z o) (rw (e, ea, el, ez, eo))
 
 pub chosen-below : (chosen : Chosen) (k n : ℕ) → chosen ≡ Ch.At k → chosenIn chosen n ≡ true → k < n
 chosen-below chosen k n ec h = ltb-true k n (rw ec at h)
@@ -192,26 +195,9 @@ module _ (stage topology mode dual depth : ℕ) where
         pub codes-last : dual < 2 → ltb depth 2 ≡ codes stage topology mode dual depth
         codes-last h = rw (lt-ltb stage 5 hs, lt-ltb topology 6 ht, lt-ltb mode 2 hm, lt-ltb dual 2 h)
 
-module _ (layout sizes inputs : List ℕ) (stage topology mode dual depth : ℕ) (a b c r : Bool) where
+module _ (layout sizes inputs : List ℕ) (stage topology mode dual depth : ℕ) (r : Bool) where
   abbrev called : Call
   called = call [] layout sizes inputs [] stage [] topology mode dual depth
-
-  pub layout-bad : a ≡ layoutFiled layout → a ≡ false → false ≡ callGood called
-  unfolding callGood
-  layout-bad ea f = rw (← ea, f)
-
-  pub sizes-bad : a ≡ layoutFiled layout → a ≡ true → b ≡ sizesFiled sizes → b ≡ false → false ≡ callGood called
-  unfolding callGood
-  sizes-bad ea t eb f = rw (← ea, t, ← eb, f)
-
-  pub inputs-bad : a ≡ layoutFiled layout → a ≡ true → b ≡ sizesFiled sizes → b ≡ true → c ≡ stageFiled inputs → c ≡ false → false ≡ callGood called
-  unfolding callGood
-  inputs-bad ea t eb u ec f = rw (← ea, t, ← eb, u, ← ec, f)
-
-  pub call-by-codes : a ≡ layoutFiled layout → a ≡ true → b ≡ sizesFiled sizes → b ≡ true → c ≡ stageFiled inputs → c ≡ true
-      → r ≡ codes stage topology mode dual depth → r ≡ callGood called
-  unfolding callGood
-  call-by-codes ea t eb u ec v er = rw (← ea, t, ← eb, u, ← ec, v) er
 
   pub good-layout : r ≡ callGood called → r ≡ true → layoutFiled layout ≡ true
   unfolding callGood
@@ -221,34 +207,51 @@ module _ (layout sizes inputs : List ℕ) (stage topology mode dual depth : ℕ)
   unfolding callGood
   good-sizes er t = let h = sym er ∙ t in search (first, second)
 
+  module _ (a b c : Bool) where
+    pub layout-bad : a ≡ layoutFiled layout → a ≡ false → false ≡ callGood called
+    unfolding callGood
+    layout-bad ea f = rw (← ea, f)
+
+    pub sizes-bad : a ≡ layoutFiled layout → a ≡ true → b ≡ sizesFiled sizes → b ≡ false → false ≡ callGood called
+    unfolding callGood
+    sizes-bad ea t eb f = rw (← ea, t, ← eb, f)
+
+    pub inputs-bad : a ≡ layoutFiled layout → a ≡ true → b ≡ sizesFiled sizes → b ≡ true → c ≡ stageFiled inputs → c ≡ false → false ≡ callGood called
+    unfolding callGood
+    inputs-bad ea t eb u ec f = rw (← ea, t, ← eb, u, ← ec, f)
+
+    pub call-by-codes : a ≡ layoutFiled layout → a ≡ true → b ≡ sizesFiled sizes → b ≡ true → c ≡ stageFiled inputs → c ≡ true
+        → r ≡ codes stage topology mode dual depth → r ≡ callGood called
+    unfolding callGood
+    call-by-codes ea t eb u ec v er = rw (← ea, t, ← eb, u, ← ec, v) er
+
 -- the body does not look at the name
 body-free : (pack layout sizes inputs out : List ℕ) (stage : ℕ) (name : List ℕ) (topology mode dual depth : ℕ) (i : Interface) (e : EntryPoint)
     → onEntryPoint (call pack layout sizes inputs out stage [] topology mode dual depth) i e ≡ onEntryPoint (call pack layout sizes inputs out stage name topology mode dual depth) i e
 unfolding runBody finish
 body-free pack layout sizes inputs out stage name topology mode dual depth i e = refl
 
-module _ (pack layout sizes inputs out : List ℕ) (stage : ℕ) (name : List ℕ) (topology mode dual depth n : ℕ) (en : n ≡ decodedNumber (decode pack)) where
+module _ (pack layout sizes inputs out : List ℕ) (stage : ℕ) (name : List ℕ) (topology mode dual depth : ℕ) where
   abbrev whole : Call
   whole = call pack layout sizes inputs out stage name topology mode dual depth
 
-  pub stage-pack : (a : Answer) → (n ≡ 0 → ⊥) → a ≡ refused n → outcome a layout sizes out ≡ checkStage whole
-  stage-pack a z ea = rw ea (pack-refused whole n en z)
+  pub stage-pack : (n : ℕ) (a : Answer) → n ≡ decodedNumber (decode pack) → (n ≡ 0 → ⊥) → a ≡ refused n → outcome a layout sizes out ≡ checkStage whole
+  stage-pack n a en z ea = rw ea (pack-refused whole n en z)
 
-  module _ (z : n ≡ 0) (r : Bool) (er : r ≡ callGood (call [] layout sizes inputs [] stage [] topology mode dual depth)) where
+  module _ (z : decodedNumber (decode pack) ≡ 0) (r : Bool) (er : r ≡ callGood (call [] layout sizes inputs [] stage [] topology mode dual depth)) where
     good-at : r ≡ callGood whole
     unfolding callGood
     good-at = er
 
     pub stage-call : (a : Answer) → r ≡ false → a ≡ refused 3 → outcome a layout sizes out ≡ checkStage whole
-    stage-call a f ea = rw ea (call-refused whole (sym en ∙ z) (sym good-at ∙ f))
+    stage-call a f ea = rw ea (call-refused whole z (sym good-at ∙ f))
 
-    pub stage-went : (s : ShaderStage) (chosen : Chosen) (x : Outcome) → r ≡ true → s ≡ stageAt stage
-        → chosen ≡ findEntryPoint s name (interfaceOf (decode pack) .entries)
-        → x ≡ onChosen (call pack layout sizes inputs out stage [] topology mode dual depth) (interfaceOf (decode pack)) chosen
+    pub stage-went : (x : Outcome) → r ≡ true
+        → x ≡ onChosen (call pack layout sizes inputs out stage [] topology mode dual depth) (interfaceOf (decode pack))
+        (findEntryPoint (stageAt stage) name (interfaceOf (decode pack) .entries))
         → x ≡ checkStage whole
-    stage-went s chosen x t es ec ex =
-        let d : chosen ≡ findEntryPoint (stageAt stage) name (interfaceOf (decode pack) .entries) = rw es at ec in
-        call-went whole (sym en ∙ z) x (sym good-at ∙ t) (ex ∙ name-free (interfaceOf (decode pack)) chosen ∙ ap (onChosen whole (interfaceOf (decode pack))) d)
+    stage-went x t ex =
+        call-went whole z x (sym good-at ∙ t) (ex ∙ name-free (interfaceOf (decode pack)) (findEntryPoint (stageAt stage) name (interfaceOf (decode pack) .entries)))
       where
         name-free : (i : Interface) (d : Chosen) → onChosen (call pack layout sizes inputs out stage [] topology mode dual depth) i d ≡ onChosen whole i d
         name-free i (Ch.At k) = body-free pack layout sizes inputs out stage name topology mode dual depth i (entryNth (i .entries) k)

@@ -8,10 +8,11 @@ ghost use lib.ListN.{length};
 ghost use Rattle.lists.specs.Format.{layoutFiled, sizesFiled, decodeLayout, decodeSizes, decodeStage};
 ghost use Rattle.interface.specs.Format.{decode, decodedNumber, stageAt};
 ghost use Rattle.interface.specs.Reads.{interfaceOf, entryNth, standing};
-ghost use Rattle.interface.specs.Parts.{Placed, chosenIn};
+ghost use Rattle.interface.specs.Parts.{Placed, Offsets, Heads};
+ghost use Rattle.interface.specs.Rules.{findEntryPoint};
 ghost use Rattle.stage.specs.Meaning.{outcome, state};
 ghost use Rattle.stage.specs.Resources.{resourceSteps};
-ghost use Rattle.stage.specs.Given.{Named, Given, Summed};
+ghost use Rattle.stage.specs.Given.{Given, Summed};
 ghost use Rattle.stage.specs.Judging.{requestWith, handedOut};
 ghost use Rattle.stage.specs.Stage.{inputWalk, judgement, outWords, runBody, onEntryPoint, onChosen, callGood, checkStage, call};
 use crate::judge::judge;
@@ -19,9 +20,8 @@ use crate::list_out::list_out;
 use crate::outputs::output_summary;
 use crate::resources::resource_steps;
 use crate::types::Summary;
-use interface::check_pack::check_pack;
+use interface::check_pack::index_pack;
 use interface::choose::find_entry_point;
-use interface::offsets::resource_offsets;
 use interface::parts::pairs_counted;
 use interface::parts::resources_counted;
 use interface::reads::entry_parts;
@@ -204,51 +204,11 @@ fn run_body(
     )
 }
 
-// All steps of an entry point.
-fn run_parts(
-    pack: &[u32],
-    parts: EntryParts,
-    outputs: Summary,
-    layout: &mut [u32],
-    sizes: &mut [u32],
-    inputs: &[u32],
-    out: &mut [u32],
-    stage: u32,
-    topology: u32,
-    mode: u32,
-    dual: u32,
-    depth: u32,
-) -> Answer
-    requires { ⌜ (decodedNumber (decode (now pack)) ≡ 0) × Placed (now pack) parts ⌝ }
-    requires { ⌜ (layoutFiled (now layout) ≡ true) × (sizesFiled (now sizes) ≡ true) ⌝ }
-    requires { ⌜ Named (interfaceOf (decode (now pack))) (standing (now pack) parts) ⌝ }
-    requires { ⌜ Summed (now pack) parts outputs × (outWords (standing (now pack) parts) ≤ length (now out)) ⌝ }
-    ensures { λ a. ⌜ outcome a (now (layout .exit)) (now (sizes .exit)) (now (out .exit)) ≡ runBody (call (now (pack .entry)) (now (layout .entry)) (now (sizes .entry))
-        (now (inputs .entry)) (now (out .entry)) stage [] topology mode dual depth)
-        (interfaceOf (decode (now (pack .entry)))) (standing (now (pack .entry)) parts) ⌝ }
-{
-    let mut offsets = [0u32; 128];
-    resource_offsets(pack, &mut offsets);
-    run_body(
-        pack,
-        parts,
-        outputs,
-        &offsets,
-        layout,
-        sizes,
-        inputs,
-        out,
-        stage,
-        topology,
-        mode,
-        dual,
-        depth,
-    )
-}
-
 // The room of the list out, then all steps of the entry point at a place among those of the pack.
 fn on_entry_point(
     pack: &[u32],
+    offsets: &[u32],
+    heads: &[u32],
     position: usize,
     layout: &mut [u32],
     sizes: &mut [u32],
@@ -260,22 +220,23 @@ fn on_entry_point(
     dual: u32,
     depth: u32,
 ) -> Answer
-    requires { ⌜ decodedNumber (decode (now pack)) ≡ 0 ⌝ }
+    requires { ⌜ (decodedNumber (decode (now pack)) ≡ 0) × Offsets (now pack) (now offsets) × Heads (now pack) (now heads) ⌝ }
     requires { ⌜ position < length (interfaceOf (decode (now pack)) .entries) ⌝ }
     requires { ⌜ (layoutFiled (now layout) ≡ true) × (sizesFiled (now sizes) ≡ true) ⌝ }
     ensures { λ a. ⌜ outcome a (now (layout .exit)) (now (sizes .exit)) (now (out .exit)) ≡ onEntryPoint (call (now (pack .entry)) (now (layout .entry)) (now (sizes .entry))
         (now (inputs .entry)) (now (out .entry)) stage [] topology mode dual depth)
         (interfaceOf (decode (now (pack .entry)))) (entryNth (interfaceOf (decode (now (pack .entry))) .entries) position) ⌝ }
 {
-    let parts = entry_parts(pack, position);
+    let parts = entry_parts(pack, heads, position);
     let outputs = output_summary(pack, parts);
     if out.len() < 2 + 2 * outputs.locals as usize {
         return Answer::refused(4);
     }
-    run_parts(
+    run_body(
         pack,
         parts,
         outputs,
+        offsets,
         layout,
         sizes,
         inputs,
@@ -288,30 +249,33 @@ fn on_entry_point(
     )
 }
 
-// The entry point that was chosen, if there is one.
-fn on_chosen(
+// The entry point of a stage and a name, if there is one.
+fn on_named(
     pack: &[u32],
-    chosen: Chosen,
+    offsets: &[u32],
+    heads: &[u32],
     layout: &mut [u32],
     sizes: &mut [u32],
     inputs: &[u32],
     out: &mut [u32],
     stage: u32,
+    name: &[u8],
     topology: u32,
     mode: u32,
     dual: u32,
     depth: u32,
 ) -> Answer
-    requires { ⌜ decodedNumber (decode (now pack)) ≡ 0 ⌝ }
-    requires { ⌜ chosenIn chosen (length (interfaceOf (decode (now pack)) .entries)) ≡ true ⌝ }
+    requires { ⌜ (decodedNumber (decode (now pack)) ≡ 0) × Offsets (now pack) (now offsets) × Heads (now pack) (now heads) ⌝ }
     requires { ⌜ (layoutFiled (now layout) ≡ true) × (sizesFiled (now sizes) ≡ true) ⌝ }
     ensures { λ a. ⌜ outcome a (now (layout .exit)) (now (sizes .exit)) (now (out .exit)) ≡ onChosen (call (now (pack .entry)) (now (layout .entry)) (now (sizes .entry))
-        (now (inputs .entry)) (now (out .entry)) stage [] topology mode dual depth)
-        (interfaceOf (decode (now (pack .entry)))) chosen ⌝ }
+        (now (inputs .entry)) (now (out .entry)) stage [] topology mode dual depth) (interfaceOf (decode (now (pack .entry))))
+        (findEntryPoint (stageAt stage) (now (name .entry)) (interfaceOf (decode (now (pack .entry))) .entries)) ⌝ }
 {
-    match chosen {
+    match find_entry_point(pack, heads, stage_at(stage), name) {
         Chosen::At { position } => on_entry_point(
             pack,
+            offsets,
+            heads,
             position,
             layout,
             sizes,
@@ -370,6 +334,46 @@ fn call_good(
     false
 }
 
+// The lists and codes of a call, and the entry point of its stage and name in a pack that was accepted.
+fn check_call(
+    pack: &[u32],
+    offsets: &[u32],
+    heads: &[u32],
+    layout: &mut [u32],
+    sizes: &mut [u32],
+    inputs: &[u32],
+    out: &mut [u32],
+    stage: u32,
+    name: &[u8],
+    topology: u32,
+    mode: u32,
+    dual: u32,
+    depth: u32,
+) -> Answer
+    requires { ⌜ (decodedNumber (decode (now pack)) ≡ 0) × Offsets (now pack) (now offsets) × Heads (now pack) (now heads) ⌝ }
+    ensures { λ a. ⌜ outcome a (now (layout .exit)) (now (sizes .exit)) (now (out .exit)) ≡ checkStage (call (now (pack .entry)) (now (layout .entry)) (now (sizes .entry))
+        (now (inputs .entry)) (now (out .entry)) stage (now (name .entry)) topology mode dual depth) ⌝ }
+{
+    if call_good(layout, sizes, inputs, stage, topology, mode, dual, depth) {
+        return on_named(
+            pack,
+            offsets,
+            heads,
+            layout,
+            sizes,
+            inputs,
+            out,
+            stage,
+            name,
+            topology,
+            mode,
+            dual,
+            depth,
+        );
+    }
+    Answer::refused(3)
+}
+
 // Checks one stage: whether the entry point of this stage and name fits the layout, what the stage before hands on, and the limits.
 pub fn check_stage(
     pack: &[u32],
@@ -387,25 +391,25 @@ pub fn check_stage(
     ensures { λ a. ⌜ outcome a (now (layout .exit)) (now (sizes .exit)) (now (out .exit)) ≡ checkStage (call (now (pack .entry)) (now (layout .entry)) (now (sizes .entry))
         (now (inputs .entry)) (now (out .entry)) stage (now (name .entry)) topology mode dual depth) ⌝ }
 {
-    let refusal = check_pack(pack);
+    let mut offsets: [u32; 128] = [0; 128];
+    let mut heads: [u32; 16] = [0; 16];
+    let refusal = index_pack(pack, &mut offsets, &mut heads);
     if refusal != 0 {
         return Answer::refused(refusal);
     }
-    if call_good(layout, sizes, inputs, stage, topology, mode, dual, depth) {
-        let chosen = find_entry_point(pack, stage_at(stage), name);
-        return on_chosen(
-            pack,
-            chosen,
-            layout,
-            sizes,
-            inputs,
-            out,
-            stage,
-            topology,
-            mode,
-            dual,
-            depth,
-        );
-    }
-    Answer::refused(3)
+    check_call(
+        pack,
+        &offsets,
+        &heads,
+        layout,
+        sizes,
+        inputs,
+        out,
+        stage,
+        name,
+        topology,
+        mode,
+        dual,
+        depth,
+    )
 }

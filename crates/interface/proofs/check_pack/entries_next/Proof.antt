@@ -1,3 +1,4 @@
+use mathlib.Core.Path.{refl}
 use borrow.Author.Needs.{needs, counted-is}
 use Rattle.interface.proofs.CheckPack.{entries-stop, entries-twice, entries-go, heads-long}
 use Rattle.interface.proofs.check_pack.entries_next.Statement.{statement}
@@ -8,9 +9,12 @@ entries-next-spec =
     tie.close
     (tie.spec
     (λ c κs. search needs)  -- entry-points-next-requires
-    (λ c. (search entries-stop, search needs))  -- returns
-    (λ c. search needs)  -- array-share-prefix-heads
+    (λ c. search needs)  -- same-length
+    (λ c. (search entries-stop, (search needs, λ n. absurd (n refl))))  -- returns
+    (λ c. search needs)  -- slice-reshare-prefix-names-distinct
     (λ c. search (counted-is, heads-long))  -- slice-aggregate-names-distinct
     (λ c κs. search needs)  -- names-distinct-requires
-    (λ c. (search entries-twice, search needs))  -- returns-2
-    (λ c. (search entries-go, search needs)))  -- returns-3
+    (λ c. search needs)  -- same-length-2
+    (λ c. (search entries-twice, (search needs, λ n. absurd (n refl))))  -- returns-2
+    (λ c. search needs)  -- same-length-3
+    (λ c. (search entries-go, (search needs, search needs))))  -- returns-3

@@ -1,5 +1,7 @@
+use mathlib.Core.Path.{refl}
 use borrow.Author.Needs.{needs}
 use Rattle.interface.proofs.CheckPack.{resources-long, roles-tabled, records-stop, records-go}
+use Rattle.interface.proofs.CheckPositions.{resources-stops, entries-stops}
 use Rattle.interface.proofs.check_pack.records_next.Statement.{statement}
 use Rattle.interface.proofs.check_pack.records_next.Tie as tie
 
@@ -9,7 +11,10 @@ records-next-spec =
     (tie.spec
     (λ c. search needs)  -- cast-resources-next
     (λ c κs. search needs)  -- resources-next-requires
-    (λ c. (search records-stop, search needs))  -- returns
+    (λ c. search needs)  -- same-length
+    (λ c. (search records-stop, (search needs, (λ n. absurd (n refl), λ n. absurd (n refl)))))  -- returns
     (λ c. search needs)  -- cast-entries-next
     (λ c κs. (search needs, (search needs, search resources-long, search roles-tabled)))  -- entries-next-requires
-    (λ c. (search records-go, search needs)))  -- returns-2
+    (λ c. search needs)  -- same-length-2
+    (λ c. search needs)  -- same-length-3
+    (λ c. (search records-go, (search needs, (λ n. search resources-stops, λ n. search entries-stops)))))  -- returns-2

@@ -1,4 +1,5 @@
 use Rattle.interface.proofs.ReadsChoice.{named-same, named-other}
+use Rattle.interface.proofs.ReadsParts.{name-placed}
 use borrow.Author.Needs.{needs}
 use Rattle.interface.proofs.choose.is_named.Statement.{statement}
 use Rattle.interface.proofs.choose.is_named.Tie as tie
@@ -8,6 +9,7 @@ is-named-spec =
     tie.close
     (tie.spec
     (λ c κs. search needs)  -- of-stage-requires
-    (λ c κs. search needs)  -- same-name-requires
+    (λ c κs. search needs)  -- index-requires
+    (λ c κs. search name-placed)  -- same-name-requires
     (λ c. search named-same)  -- returns
     (λ c. search named-other))  -- returns-2

@@ -7,6 +7,7 @@ pub met-one-spec : {M : Type 1} → statement M
 met-one-spec =
     tie.close
     (tie.spec
+    (λ c κs. search needs)  -- of-stage-requires
     (λ c. search needs)  -- enum-told
     (λ c. search needs)  -- enum-told-2
     (λ c. search needs)  -- enum-told-3

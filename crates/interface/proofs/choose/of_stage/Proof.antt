@@ -7,6 +7,7 @@ pub of-stage-spec : {M : Type 1} → statement M
 of-stage-spec =
     tie.close
     (tie.spec
+    (λ c κs. search needs)  -- index-requires
     (λ c κs. search needs)  -- word-requires
     (λ c κs. search needs)  -- stage-at-requires
     (λ c κs. search needs)  -- stage-code-requires

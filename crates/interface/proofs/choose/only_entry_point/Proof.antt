@@ -1,22 +1,23 @@
-use Prim.Native.Nat.{_+_, _*_, _≤_}
+use Prim.Native.Nat.{_-_, _≤_}
 use mathlib.Core.Path.{_≡_}
 use mathlib.Core.Bool.{true}
+use lib.ListN.{drop}
 use Rattle.interface.specs.Format.{decode}
 use Rattle.interface.specs.Reads.{interfaceOf}
 use Rattle.interface.specs.Parts.{chosenIn}
 use Rattle.interface.specs.Rules.{onlyFrom, onlyEntryPoint}
-use Rattle.interface.proofs.ReadsChoice.{left-of, entries-begin, only-begin, only-onward, only-ended, ended-in}
+use Rattle.interface.proofs.ReadsChoice.{only-onward, only-ended, ended-in}
 use borrow.Author.Needs.{needs}
 use Rattle.interface.proofs.choose.only_entry_point.Statement.{statement}
 use Rattle.interface.proofs.choose.only_entry_point.Tie as tie
 
 abbrev Inv-loop : tie.InvT-loop
-Inv-loop pack stage at₀ left₀ i₀ found₀ at left i found =
-    (at + 512 * left ≤ 8592) × (i + left ≡ left₀) × (chosenIn found i ≡ true)
-    × (onlyEntryPoint stage (interfaceOf (decode pack) .entries) ≡ onlyFrom stage found (left-of pack left at) i)
+Inv-loop pack heads stage n i₀ found₀ i found =
+    (i ≤ n) × (chosenIn found i ≡ true)
+    × (onlyEntryPoint stage (interfaceOf (decode pack) .entries) ≡ onlyFrom stage found (drop i (interfaceOf (decode pack) .entries)) i)
 
 abbrev μ-loop : tie.MeasureT-loop
-μ-loop pack stage at₀ left₀ i₀ found₀ at left i found = left
+μ-loop pack heads stage n i₀ found₀ i found = n - i
 
 pub only-entry-point-spec : {M : Type 1} → statement M
 only-entry-point-spec =
@@ -24,14 +25,10 @@ only-entry-point-spec =
     (tie.spec
     Inv-loop
     μ-loop
-    (λ c κs. search needs)  -- entries-at-requires
     (λ c κs. search needs)  -- entry-count-requires
-    (λ c. (search needs, search needs, search needs, search (only-begin, entries-begin)))  -- loop-holds
-    (λ c κs. search needs)  -- of-stage-requires
-    (λ c κs. search needs)  -- met-one-requires
-    (λ c κs. search needs)  -- entry-end-requires
+    (λ c. search needs)  -- loop-holds
+    (λ c κs. (search needs, (search needs, search needs)))  -- met-one-requires
     (λ c. search needs)  -- add-i
-    (λ c. search needs)  -- sub-left
     (λ c. search needs)  -- loop-less
-    (λ c. (search needs, search needs, search needs, search only-onward))  -- loop-again
+    (λ c. (search needs, search needs, search only-onward))  -- loop-again
     (λ c. (search only-ended, search ended-in)))  -- returns

@@ -1,4 +1,4 @@
-use Rattle.stage.proofs.CheckLaws.{names-of, room-enough, entry-short, entry-went}
+use Rattle.stage.proofs.CheckLaws.{gives, room-enough, entry-short, entry-went}
 use borrow.Author.Needs.{needs}
 use Rattle.stage.proofs.check.on_entry_point.Statement.{statement}
 use Rattle.stage.proofs.check.on_entry_point.Tie as tie
@@ -14,7 +14,7 @@ on-entry-point-spec =
     (λ c. search needs)  -- add-if1
     (λ c κs. search needs)  -- refused-requires
     (λ c. search entry-short)  -- returns
-    (λ c κs. (search needs, (search needs, (search names-of, (search needs, search room-enough)))))  -- run-parts-requires
+    (λ c κs. (search needs, (search needs, (search gives, (search needs, search room-enough)))))  -- run-body-requires
     (λ c. search needs)  -- same-length
     (λ c. search needs)  -- same-length-2
     (λ c. search needs)  -- same-length-3

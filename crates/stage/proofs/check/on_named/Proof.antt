@@ -1,12 +1,14 @@
 use Rattle.stage.proofs.CheckLaws.{chosen-below, chosen-at, chosen-absent, chosen-several}
 use borrow.Author.Needs.{needs}
-use Rattle.stage.proofs.check.on_chosen.Statement.{statement}
-use Rattle.stage.proofs.check.on_chosen.Tie as tie
+use Rattle.stage.proofs.check.on_named.Statement.{statement}
+use Rattle.stage.proofs.check.on_named.Tie as tie
 
-pub on-chosen-spec : {M : Type 1} → statement M
-on-chosen-spec =
+pub on-named-spec : {M : Type 1} → statement M
+on-named-spec =
     tie.close
     (tie.spec
+    (λ c κs. search needs)  -- stage-at-requires
+    (λ c κs. search needs)  -- find-entry-point-requires
     (λ c. search needs)  -- enum-known-chosen
     (λ c κs. (search needs, (search chosen-below, search needs)))  -- on-entry-point-requires
     (λ c. search needs)  -- enum-told
