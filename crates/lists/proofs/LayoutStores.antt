@@ -72,6 +72,9 @@ module _ (ws : List ℕ) (n : ℕ) (f : layoutFiled ws ≡ true) (en : n ≡ cou
   pub room-fits : 1 + 4 * n + 4 ≤ length ws → true ≡ fits 4 (decodeLayout ws .room)
   room-fits h = sym (le-leb 4 (length (decodeLayout ws .room)) (omega (arith, room-is)))
 
+pub head-there : (ws : List ℕ) → layoutFiled ws ≡ true → 1 ≤ length ws
+head-there ws f = omega (arith, filed ws f .holds)
+
 pub head-more : (ws : List ℕ) (w : ℕ) → layoutFiled ws ≡ true → w ≡ wordAt ws 0 → w + 1 < 2 ^ 32
 head-more ws w f e = let k : kindOf w ≡ 17 = rw e (filed ws f .kind) in omega arith
 

@@ -41,9 +41,10 @@ module _ (l : List ℕ) (at groups : ℕ) (b : Bool) (e : b ≡ entryFiledAt l a
   pub entry-is : b ≡ true → ltb (bits 26 23 (wordAt l at)) groups ≡ entryGood groups (drop at l)
   entry-is h = rw (filed-there, h, here l at)
 
-pub good-begins : (ws : List ℕ) (g n : ℕ) (l : List ℕ) → g ≡ groupsOf ws → n ≡ countOf ws
-    → each 4 (entryGood (groupsOf ws)) (countOf ws) l ≡ each 4 (entryGood g) n l
-good-begins ws g n l e f = rw (e, f)
+pub good-begins : (ws : List ℕ) (n : ℕ) (l : List ℕ) → n ≡ countOf ws
+    → each 4 (entryGood (groupsOf ws)) (countOf ws) l ≡ each 4 (entryGood (bits 26 16 (wordAt ws 0))) n l
+unfolding groupsOf
+good-begins ws n l e = rw e
 
 -- ---- places
 

@@ -221,6 +221,9 @@ module _ (s : List ℕ) (n : ℕ) (f : outFiled s ≡ true) (en : n ≡ countOf 
   unfolding decodeStage
   out-fits h = omega (arith, filed s f .holds, room-length 2 (countOf s) (drop 2 s), length-drop 2 s)
 
+pub head-there : (s : List ℕ) → outFiled s ≡ true → 1 ≤ length s
+head-there s f = omega (arith, filed s f .holds)
+
 pub head-sum : (s : List ℕ) (w r : ℕ) → outFiled s ≡ true → w ≡ wordAt s 0 → r ≤ 1 → w + r < 2 ^ 32
 head-sum s w r f e h = let k : kindOf w ≡ 11 = rw e (filed s f .kind) in omega arith
 

@@ -38,6 +38,9 @@ head-holds ws b n e h en =
     let k : 2 + 2 * countOf ws ≤ length ws = search (leb-true, first, second) depth 7 in
     rw en k
 
+pub head-there : (ws : List ℕ) (b : Bool) → b ≡ stageHead ws → not b ≡ false → 1 ≤ length ws
+head-there ws b e h = omega (arith, head-holds ws b (countOf ws) e h refl)
+
 pub payload-word : (ws : List ℕ) (p : ℕ) (r : Bool) → p ≡ wordAt ws 1 → r ≡ payloadFiled p → r ≡ payloadFiled (wordAt ws 1)
 payload-word ws p r e h = rw (← e) h
 

@@ -9,6 +9,7 @@ ghost use Rattle.resource.specs.Format.{placeOf, entryFiled, entryOf};
 ghost use Rattle.lists.specs.Meaning.{findEntry, foundBelow, entryNth, entryHas, fits, pushed, joined};
 ghost use Rattle.lists.specs.Format.{countOf, groupsOf, each, entryGood, entryFits, layoutHead, layoutFiled, decodeLayout, encodeLayout};
 use crate::heads::count;
+use crate::heads::counted;
 use crate::heads::groups;
 use crate::places::distinct_places;
 use crate::places::find_place;
@@ -56,9 +57,9 @@ fn entries_good(l: &[u32]) -> bool
     requires { ⌜ 1 + 4 * countOf (now l) ≤ length (now l) ⌝ }
     ensures { λ r. ⌜ r ≡ each 4 (entryGood (groupsOf (now (l .entry)))) (countOf (now (l .entry))) (drop 1 (now (l .entry))) ⌝ }
 {
-    let bound = groups(l);
+    let bound = l[0] / 0x1_0000 % 0x800;
     let mut at: usize = 1;
-    let mut left = count(l);
+    let mut left = counted(l);
     while left != 0 {
         if !entry_good(l, at, bound) {
             return false;
@@ -147,12 +148,12 @@ pub fn push_words(l: &mut [u32], place: u32, ty: u32, least: u32, visibility: u3
         ≡ pick r (pushed (decodeLayout (now (l .entry))) (entryOf place ty least visibility)) (decodeLayout (now (l .entry))) ⌝ }
     ensures { λ r. ⌜ layoutFiled (now (l .exit)) ≡ true ⌝ }
 {
-    let n = count(l);
+    let n = counted(l);
     let at = 1 + 4 * n;
     if l.len() < at + 4 {
         return false;
     }
-    let head = word(l, 0);
+    let head = l[0];
     store_four(l, at, place, ty, least, visibility);
     l[0] = head + 1;
     true

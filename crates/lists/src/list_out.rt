@@ -7,7 +7,7 @@ ghost use lib.ListN.{length, take, drop};
 ghost use Rattle.varying.specs.Format.{varFiled, varOf, locatedHeld, locatedWords, payloadHeld};
 ghost use Rattle.lists.specs.Meaning.{rising, insert, inserted};
 ghost use Rattle.lists.specs.Format.{put, each, flat, locatedGood, readVaryings, outFiled, decodeStage, encodeStage};
-use crate::heads::count;
+use crate::heads::counted;
 use crate::out_words::payload_word;
 use crate::out_words::primitive_word;
 use crate::out_words::var_word;
@@ -103,8 +103,8 @@ pub fn insert_words(out: &mut [u32], location: u32, var: u32)
     ensures { λ _. ⌜ decodeStage (now (out .exit)) ≡ inserted (record { location = location; var = varOf var }) (decodeStage (now (out .entry))) ⌝ }
     ensures { λ _. ⌜ outFiled (now (out .exit)) ≡ true ⌝ }
 {
-    let n = count(out);
-    let head = word(out, 0);
+    let n = counted(out);
+    let head = out[0];
     let second = var_word(var);
     let more = place_last(out, n, location, second);
     out[0] = head + more;

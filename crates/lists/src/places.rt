@@ -8,7 +8,7 @@ ghost use Rattle.resource.specs.Format.{placeOf, placeHeld};
 ghost use Rattle.lists.specs.Meaning.{samePlace, placeFrom, placeIn, distinctPlaces, foundBelow, every};
 ghost use Rattle.lists.specs.Marks.{slot, marked};
 ghost use Rattle.lists.specs.Format.{countOf, places};
-use crate::heads::count;
+use crate::heads::counted;
 use crate::types::Found;
 use resource::resource_words::place_of;
 use resource::resource_words::place_word;
@@ -123,7 +123,7 @@ fn distinct_pairs(l: &[u32], width: usize) -> bool
     ensures { λ r. ⌜ r ≡ distinctPlaces (places width (countOf (now (l .entry))) (drop 1 (now (l .entry)))) ⌝ }
 {
     let mut at: usize = 1;
-    let mut left = count(l);
+    let mut left = counted(l);
     while left != 0 {
         let content = l[at] % 0x800_0000;
         at += width;
@@ -169,7 +169,7 @@ fn distinct_marked(l: &[u32], width: usize) -> bool
     requires { ⌜ (0 < width) × (width ≤ 4) × (1 + width * countOf (now l) ≤ length (now l)) ⌝ }
     ensures { λ r. ⌜ r ≡ distinctPlaces (places width (countOf (now (l .entry))) (drop 1 (now (l .entry)))) ⌝ }
 {
-    let n = count(l);
+    let n = counted(l);
     let mut marks: [u8; 1024] = [0; 1024];
     let mut at = 1 + width * n;
     let mut left = n;
@@ -192,7 +192,7 @@ pub(crate) fn distinct_places(l: &[u32], width: usize) -> bool
     requires { ⌜ (0 < width) × (width ≤ 4) × (1 + width * countOf (now l) ≤ length (now l)) ⌝ }
     ensures { λ r. ⌜ r ≡ distinctPlaces (places width (countOf (now (l .entry))) (drop 1 (now (l .entry)))) ⌝ }
 {
-    if count(l) <= 6 {
+    if counted(l) <= 6 {
         return distinct_pairs(l, width);
     }
     distinct_marked(l, width)

@@ -7,7 +7,7 @@ ghost use Rattle.word.specs.Words.{contentOf};
 ghost use Rattle.resource.specs.Format.{placeFiled, placeOf, placeHeld, sizeFiled};
 ghost use Rattle.lists.specs.Meaning.{sizeHas, sizeFits, recorded};
 ghost use Rattle.lists.specs.Format.{countOf, each, sizeGood, sizesHead, sizesFiled, decodeSizes, encodeSizes};
-use crate::heads::count;
+use crate::heads::counted;
 use crate::places::distinct_places;
 use crate::places::find_word;
 use crate::stores::raise_word;
@@ -48,7 +48,7 @@ fn sizes_good(l: &[u32]) -> bool
     ensures { λ r. ⌜ r ≡ each 2 sizeGood (countOf (now (l .entry))) (drop 1 (now (l .entry))) ⌝ }
 {
     let mut at: usize = 1;
-    let mut left = count(l);
+    let mut left = counted(l);
     while left != 0 {
         if !size_good(l, at) {
             return false;
@@ -83,12 +83,12 @@ fn push_size(s: &mut [u32], place: u32, size: u32) -> bool
     ensures { λ r. ⌜ r ≡ sizeFits (placeOf place) (decodeSizes (now (s .entry))) ⌝ }
     ensures { λ r. ⌜ now (s .exit) ≡ encodeSizes (recorded (placeOf place) (contentOf size) (decodeSizes (now (s .entry)))) ⌝ }
 {
-    let n = count(s);
+    let n = counted(s);
     let at = 1 + 2 * n;
     if s.len() < at + 2 {
         return false;
     }
-    let head = word(s, 0);
+    let head = s[0];
     store_two(s, at, place, size);
     s[0] = head + 1;
     true
@@ -103,7 +103,7 @@ pub fn record_words(s: &mut [u32], place: u32, size: u32) -> bool
     ensures { λ r. ⌜ decodeSizes (now (s .exit)) ≡ recorded (placeOf place) (contentOf size) (decodeSizes (now (s .entry))) ⌝ }
     ensures { λ r. ⌜ sizesFiled (now (s .exit)) ≡ true ⌝ }
 {
-    match find_word(s, 1, count(s), 2, place) {
+    match find_word(s, 1, counted(s), 2, place) {
         Found::At { index } => {
             raise_word(s, 2 * index + 2, size);
             true

@@ -6,6 +6,7 @@ ghost use Rattle.word.specs.Words.{wordAt, contentOf};
 ghost use Rattle.lists.specs.Meaning.{rising, varyingAt};
 ghost use Rattle.lists.specs.Format.{countOf, each, locatedGood, readVaryings, variableFound, stageHead, outFiled, stageFiled, decodeStage};
 use crate::heads::count;
+use crate::heads::counted;
 use crate::types::Found;
 use crate::types::PrimitiveIndex;
 use crate::types::Provided;
@@ -60,7 +61,7 @@ fn varyings_good(l: &[u32]) -> bool
     ensures { λ r. ⌜ r ≡ each 2 locatedGood (countOf (now (l .entry))) (drop 2 (now (l .entry))) ⌝ }
 {
     let mut at: usize = 2;
-    let mut left = count(l);
+    let mut left = counted(l);
     while left != 0 {
         if !located_good(l, at) {
             return false;
@@ -98,7 +99,7 @@ pub fn out_filed(l: &[u32]) -> bool
     if !varyings_good(l) {
         return false;
     }
-    rises(l, count(l))
+    rises(l, counted(l))
 }
 
 // Whether words are a stage list.

@@ -21,8 +21,8 @@ entries-good-spec =
     (tie.spec
     Inv-loop
     μ-loop
-    (λ c κs. search needs)  -- groups-requires
-    (λ c κs. search needs)  -- count-requires
+    (λ c. search needs)  -- shared-slice-read-bound
+    (λ c κs. search needs)  -- counted-requires
     (λ c. (search needs, search good-begins))  -- loop-holds
     (λ c κs. search needs)  -- entry-good-requires
     (λ c. search each-fails)  -- returns

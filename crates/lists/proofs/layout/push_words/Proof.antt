@@ -1,4 +1,4 @@
-use Rattle.lists.proofs.LayoutStores.{entry-stored, room-lacks, room-fits, words-kept, head-more, push-stored, push-decoded, push-filed}
+use Rattle.lists.proofs.LayoutStores.{head-there, entry-stored, room-lacks, room-fits, words-kept, head-more, push-stored, push-decoded, push-filed}
 use borrow.Author.Needs.{needs}
 use Rattle.lists.proofs.layout.push_words.Statement.{statement}
 use Rattle.lists.proofs.layout.push_words.Tie as tie
@@ -7,13 +7,13 @@ pub push-words-spec : {M : Type 1} → statement M
 push-words-spec =
     tie.close
     (tie.spec
-    (λ c κs. search needs)  -- count-requires
+    (λ c κs. search head-there)  -- counted-requires
     (λ c. search needs)  -- mul-at
     (λ c. search needs)  -- add-at
     (λ c. search needs)  -- add-if1
     (λ c. search needs)  -- same-length
     (λ c. (search room-lacks, (search words-kept, (search needs, search needs))))  -- returns
-    (λ c κs. search needs)  -- word-requires
+    (λ c. search needs)  -- slice-read-head
     (λ c κs. search needs)  -- store-four-requires
     (λ c. search head-more)  -- add-l
     (λ c. search needs)  -- slice-write-l

@@ -24,7 +24,7 @@ distinct-marked-spec =
     (tie.spec
     Inv-loop
     μ-loop
-    (λ c κs. search needs)  -- count-requires
+    (λ c κs. search needs)  -- counted-requires
     (λ c. search (records-fit, needs))  -- mul-at
     (λ c. search (end-fits, needs))  -- add-at
     (λ c. (search needs, search (end-fits, needs), search needs, search needs, search marks-begin, search marked-begins))  -- loop-holds

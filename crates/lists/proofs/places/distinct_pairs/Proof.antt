@@ -22,7 +22,7 @@ distinct-pairs-spec =
     (tie.spec
     Inv-loop
     μ-loop
-    (λ c κs. search needs)  -- count-requires
+    (λ c κs. search needs)  -- counted-requires
     (λ c. (search needs, search counted-within, search distinct-begins))  -- loop-holds
     (λ c. search needs)  -- mul-content
     (λ c. search (left-within, needs))  -- shared-slice-read-content

@@ -1,4 +1,4 @@
-use Rattle.lists.proofs.SizeStores.{index-inside, index-scaled, index-placed, size-lacks, size-fits, size-raised, record-decoded, record-filed, raised-filed}
+use Rattle.lists.proofs.SizeStores.{head-there, index-inside, index-scaled, index-placed, size-lacks, size-fits, size-raised, record-decoded, record-filed, raised-filed}
 use borrow.Author.Needs.{needs}
 use Rattle.lists.proofs.sizes.record_words.Statement.{statement}
 use Rattle.lists.proofs.sizes.record_words.Tie as tie
@@ -7,7 +7,7 @@ pub record-words-spec : {M : Type 1} → statement M
 record-words-spec =
     tie.close
     (tie.spec
-    (λ c κs. search needs)  -- count-requires
+    (λ c κs. search head-there)  -- counted-requires
     (λ c κs. search needs)  -- find-word-requires
     (λ c. search needs)  -- enum-known-index
     (λ c. search index-scaled)  -- mul-raise-word

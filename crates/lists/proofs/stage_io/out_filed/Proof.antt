@@ -1,6 +1,6 @@
 use Rattle.lists.proofs.Ways.{test-fails, test-passes}
 use Rattle.lists.specs.Format.{outFiled}
-use Rattle.lists.proofs.StageWays.{head-holds, rising-counted}
+use Rattle.lists.proofs.StageWays.{head-holds, head-there, rising-counted}
 use borrow.Author.Needs.{needs}
 use Rattle.lists.proofs.stage_io.out_filed.Statement.{statement}
 use Rattle.lists.proofs.stage_io.out_filed.Tie as tie
@@ -14,6 +14,6 @@ out-filed-spec =
     (λ c. search test-fails)  -- returns
     (λ c κs. search head-holds)  -- varyings-good-requires
     (λ c. search (test-fails, test-passes))  -- returns-2
-    (λ c κs. search needs)  -- count-requires
+    (λ c κs. search head-there)  -- counted-requires
     (λ c κs. search head-holds)  -- rises-requires
     (λ c. search (test-passes, rising-counted)))  -- returns-3

@@ -19,7 +19,7 @@ varyings-good-spec =
     (tie.spec
     Inv-loop
     μ-loop
-    (λ c κs. search needs)  -- count-requires
+    (λ c κs. search needs)  -- counted-requires
     (λ c. (search needs, search each-begins))  -- loop-holds
     (λ c κs. search needs)  -- located-good-requires
     (λ c. search each-fails)  -- returns
