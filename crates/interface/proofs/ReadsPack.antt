@@ -104,6 +104,7 @@ pub record Accepted (ws : List ℕ) (i : Interface) : Type 0 where
   pub ends : endFrom (entryEnd ws) (entryCount ws) (entriesAt ws) < length ws
   pub few-resources : resourceCount ws ≤ 128
   pub few-entries : entryCount ws ≤ 16
+  pub long : 16 ≤ length ws
   pub short : length ws ≤ 4096
 
 whole-got : (p : Parsed Interface) (i : Interface) → whole p ≡ Pack i → p ≡ got i []
@@ -131,6 +132,7 @@ module _ (ws : List ℕ) (i : Interface) where
         ends = before-closing ws (endFrom (entryEnd ws) (entryCount ws) (entriesAt ws)) (ltb-false (length ws) 16 a) s;
         few-resources = leb-true (resourceCount ws) 128 (first (leb (resourceCount ws) 128) (leb (entryCount ws) 16) u);
         few-entries = leb-true (entryCount ws) 16 (second (leb (resourceCount ws) 128) (leb (entryCount ws) 16) u);
+        long = ltb-false (length ws) 16 a;
         short = ltb-false 4096 (length ws) c;
       }
 

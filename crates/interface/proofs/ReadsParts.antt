@@ -3,14 +3,15 @@ use Prim.Native.Nat.{ℕ, zero, suc, _+_, _-_, _/_, _%_, _^_, _<_, _≤_}
 use native.Mathlib.Omega.{arith}
 use mathlib.Core.Path.{_≡_, refl, sym, _∙_}
 use mathlib.Core.List.{List}
-use borrow.Author.Tests.{eq-eqb, ne-eqb}
-use lib.Dec.{eqb}
-use lib.ListN.{length, drop}
+use borrow.Author.Tests.{eq-eqb, ne-eqb, ltb-true, ltb-false}
+use lib.Dec.{eqb, ltb}
+use lib.ListN.{length, drop, List·getD-eq-default}
 use Rattle.word.specs.Choice.{pick}
 use Rattle.word.specs.Words.{wordAt, bits, bit}
+use Rattle.word.proofs.Truth.{by-test}
 use Rattle.interface.specs.Format.{nameWords, decode, decodedNumber}
 use Rattle.interface.specs.Reads.{varyingWidth, interfaceOf, standing, entryNth}
-use Rattle.interface.specs.Parts.{recordsFrom, endFrom, varyingEnd, varyingsEnd, resourceEnd, countsAt, inputsAt, partsAt, entryEnd, entryAt, entriesAt, entryCount, headAt, Placed, Heads, workgroupAt}
+use Rattle.interface.specs.Parts.{recordsFrom, endFrom, varyingEnd, varyingsEnd, resourceEnd, countsAt, inputsAt, partsAt, entryEnd, entryAt, entriesAt, resourceCount, entryCount, headAt, Placed, Heads, workgroupAt}
 use Rattle.interface.specs.declared.types.EntryParts.{EntryParts}
 use Rattle.interface.proofs.ReadsRecords.{end-left, end-none, records-length}
 use Rattle.interface.proofs.ReadsPack.{accepted}
@@ -108,6 +109,17 @@ module _ (ws : List ℕ) (head : ℕ) where
 counted : (ws : List ℕ) (p : ℕ) → decodedNumber (decode ws) ≡ 0 → p < length (interfaceOf (decode ws) .entries) → p < entryCount ws
 counted ws p h k = rw (accepted ws h .entries, records-length (entryAt ws) (entryEnd ws) (entryCount ws) (entriesAt ws)) at k
 
+-- a table of heads has each of them, since no entry point begins with a pack's first word
+module _ (ws heads : List ℕ) (p : ℕ) (h : decodedNumber (decode ws) ≡ 0) (g : Heads ws heads) (k : p < length (interfaceOf (decode ws) .entries)) where
+  pub heads-there : p < length heads
+  heads-there =
+      by-test (ltb p (length heads)) (ltb-true p (length heads)) λ f.
+      let z : wordAt heads p ≡ 0 = List·getD-eq-default heads 0 (ltb-false p (length heads) f) in
+      let e : wordAt heads p ≡ headAt ws p = g .entries h p (counted ws p h k) in
+      let a : entriesAt ws ≤ headAt ws p = past (entryEnd ws) (head-past ws) p (entriesAt ws) in
+      let b : 15 ≤ entriesAt ws = past (resourceEnd ws) (λ at. omega arith) (resourceCount ws) 15 in
+      absurd (omega arith)
+
 -- a position in a table of heads
 module _ (ws heads : List ℕ) (p head : ℕ) (h : decodedNumber (decode ws) ≡ 0) (g : Heads ws heads) (e : head ≡ wordAt heads p) where
   placed : p < entryCount ws → Placed ws (partsAt ws head)
@@ -117,6 +129,12 @@ module _ (ws heads : List ℕ) (p head : ℕ) (h : decodedNumber (decode ws) ≡
       rising ws head (omega (arith, outputs-past ws head, accepted ws h .ends)) (accepted ws h .short)
 
   module _ (k : p < length (interfaceOf (decode ws) .entries)) where
+    pub head-inside : head < length ws
+    unfolding partsAt
+    head-inside =
+        let w = placed (counted ws p h k) in
+        omega (arith, w .name, w .workgroup, w .counts, w .resources, w .pairs, w .inputs, w .outputs)
+
     pub name-placed : workgroupAt ws head ≤ length ws
     unfolding partsAt
     name-placed =

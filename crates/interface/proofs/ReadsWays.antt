@@ -1,9 +1,12 @@
 -- The ways of the functions that read what stands in a pack.
-use Prim.Native.Nat.{ℕ, _+_, _/_, _%_, _≤_}
+use Prim.Native.Nat.{ℕ, _+_, _/_, _%_, _<_, _≤_}
+use native.Mathlib.Omega.{arith}
 use native.Mathlib.Nat.{add-zero}
 use mathlib.Core.Path.{_≡_, sym, ap, _∙_}
+use mathlib.Core.Bool.{true}
 use mathlib.Core.List.{List}
-use borrow.Author.Tests.{eq-eqb, ne-eqb}
+use borrow.Author.Tests.{eq-eqb, ne-eqb, ltb-true}
+use lib.Dec.{ltb}
 use lib.ListN.{length, drop}
 use lib.Seq.{getD-drop}
 use Rattle.word.specs.Words.{wordAt, kindOf, contentOf}
@@ -60,21 +63,23 @@ limits-drop ws =
     rw (t 0, t 1, t 2, t 3, t 4, t 5, t 6, t 7, t 8, t 9, t 10, t 11, t 12)
 
 module _ (ws : List ℕ) (h : decodedNumber (decode ws) ≡ 0) where
+  pub word-there : (at : ℕ) → ltb at 16 ≡ true → at < length ws
+  word-there at l = omega (arith, ltb-true at 16 l, accepted ws h .long)
+
   pub limits-read : (a b c d e f g i j k l m n : ℕ) → a ≡ limit ws 2 → b ≡ limit ws 3 → c ≡ limit ws 4 → d ≡ limit ws 5 → e ≡ limit ws 6 → f ≡ limit ws 7 → g ≡ limit ws 8
       → i ≡ limit ws 9 → j ≡ limit ws 10 → k ≡ limit ws 11 → l ≡ limit ws 12 → m ≡ limit ws 13 → n ≡ limit ws 14
       → limitsBy a b c d e f g i j k l m n ≡ interfaceOf (decode ws) .limits
   limits-read a b c d e f g i j k l m n pa pb pc pd pe pf pg pi pj pk pl pm pn =
       rw (pa, pb, pc, pd, pe, pf, pg, pi, pj, pk, pl, pm, pn) (sym (accepted ws h .limits ∙ limits-drop ws))
 
-  module _ (w : ℕ) (hw : w ≡ wordAt ws 1) where
-    pub entries-counted : w % 65536 ≡ length (interfaceOf (decode ws) .entries)
-    entries-counted = rw hw (sym (ap length (accepted ws h .entries) ∙ records-length (entryAt ws) (entryEnd ws) (entryCount ws) (entriesAt ws)))
+  pub entries-counted : wordAt ws 1 % 65536 ≡ length (interfaceOf (decode ws) .entries)
+  entries-counted = sym (ap length (accepted ws h .entries) ∙ records-length (entryAt ws) (entryEnd ws) (entryCount ws) (entriesAt ws))
 
-    pub entries-few : w % 65536 ≤ 16
-    entries-few = rw hw (accepted ws h .few-entries)
+  pub entries-few : wordAt ws 1 % 65536 ≤ 16
+  entries-few = accepted ws h .few-entries
 
-    pub resources-counted : w / 65536 % 2048 ≡ length (interfaceOf (decode ws) .resources)
-    resources-counted = rw hw (sym (ap length (accepted ws h .resources) ∙ records-length (resourceAt ws) (resourceEnd ws) (resourceCount ws) 15))
+  pub resources-counted : wordAt ws 1 / 65536 % 2048 ≡ length (interfaceOf (decode ws) .resources)
+  resources-counted = sym (ap length (accepted ws h .resources) ∙ records-length (resourceAt ws) (resourceEnd ws) (resourceCount ws) 15)
 
-    pub resources-few : w / 65536 % 2048 ≤ 128
-    resources-few = rw hw (accepted ws h .few-resources)
+  pub resources-few : wordAt ws 1 / 65536 % 2048 ≤ 128
+  resources-few = accepted ws h .few-resources

@@ -10,13 +10,12 @@ ghost use Rattle.interface.specs.Rules.{ofStage, findEntryPoint, onlyEnt
 use crate::check_pack::index_pack;
 use crate::names::same_name;
 use crate::reads::entry_count;
+use crate::reads::position_at;
 use crate::reads::stage_at;
 use crate::reads::stage_code;
 use crate::types::Chosen;
 use crate::types::ShaderStage;
 use word::answer::Answer;
-use word::index;
-use word::word;
 
 // Whether the entry point at a place has this stage.
 fn of_stage(pack: &[u32], heads: &[u32], position: usize, stage: ShaderStage) -> bool
@@ -24,7 +23,8 @@ fn of_stage(pack: &[u32], heads: &[u32], position: usize, stage: ShaderStage) ->
     requires { ⌜ position < length (interfaceOf (decode (now pack)) .entries) ⌝ }
     ensures { λ r. ⌜ r ≡ ofStage stage (entryNth (interfaceOf (decode (now (pack .entry))) .entries) position) ⌝ }
 {
-    let head = word(pack, index(heads, position));
+    let at = position_at(heads, position) as usize;
+    let head = pack[at];
     stage_code(stage_at(head / 0x100_0000 % 8)) == stage_code(stage)
 }
 
@@ -35,7 +35,7 @@ fn is_named(pack: &[u32], heads: &[u32], position: usize, stage: ShaderStage, na
     ensures { λ r. ⌜ r ≡ named stage (now (name .entry)) (entryNth (interfaceOf (decode (now (pack .entry))) .entries) position) ⌝ }
 {
     if of_stage(pack, heads, position, stage) {
-        return same_name(pack, index(heads, position), name);
+        return same_name(pack, position_at(heads, position) as usize, name);
     }
     false
 }

@@ -14,7 +14,6 @@ use crate::types::PrimitiveTopology;
 use crate::types::SamplingPair;
 use crate::types::ShaderStage;
 use word::content;
-use word::index;
 use word::kind;
 use word::word;
 
@@ -113,10 +112,12 @@ pub fn pair_at(pack: &[u32], at: usize) -> SamplingPair
     }
 }
 
+// The limit at a position.
 fn limit(pack: &[u32], at: usize) -> u32
+    requires { ⌜ at < length (now pack) ⌝ }
     ensures { λ r. ⌜ r ≡ contentOf (wordAt (now (pack .entry)) at) ⌝ }
 {
-    content(word(pack, at))
+    content(pack[at])
 }
 
 // The limits of an accepted pack.
@@ -148,7 +149,7 @@ pub fn entry_count(pack: &[u32]) -> usize
     ensures { λ r. ⌜ r ≡ entryCount (now (pack .entry)) ⌝ }
     ensures { λ r. ⌜ r ≤ 16 ⌝ }
 {
-    (word(pack, 1) % 0x1_0000) as usize
+    (pack[1] % 0x1_0000) as usize
 }
 
 // How many resources an accepted pack has.
@@ -158,7 +159,15 @@ pub(crate) fn resource_count(pack: &[u32]) -> usize
     ensures { λ r. ⌜ r ≡ resourceCount (now (pack .entry)) ⌝ }
     ensures { λ r. ⌜ r ≤ 128 ⌝ }
 {
-    (word(pack, 1) / 0x1_0000 % 0x800) as usize
+    (pack[1] / 0x1_0000 % 0x800) as usize
+}
+
+// The position that a table has at an index.
+pub fn position_at(table: &[u32], index: usize) -> u32
+    requires { ⌜ index < length (now table) ⌝ }
+    ensures { λ r. ⌜ r ≡ wordAt (now (table .entry)) index ⌝ }
+{
+    table[index]
 }
 
 // The parts of the entry point at a place among those of an accepted pack.
@@ -168,5 +177,5 @@ pub fn entry_parts(pack: &[u32], heads: &[u32], position: usize) -> EntryParts
     ensures { λ r. ⌜ standing (now (pack .entry)) r ≡ entryNth (interfaceOf (decode (now (pack .entry))) .entries) position ⌝ }
     ensures { λ r. ⌜ Placed (now (pack .entry)) r ⌝ }
 {
-    parts_at(pack, index(heads, position))
+    parts_at(pack, position_at(heads, position) as usize)
 }

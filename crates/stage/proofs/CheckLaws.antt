@@ -1,5 +1,5 @@
 -- The ways on through the functions of a stage check.
-use Prim.Native.Nat.{ℕ, _+_, _*_, _<_, _≤_, _^_}
+use Prim.Native.Nat.{ℕ, _+_, _*_, _<_, _≤_}
 use native.Mathlib.Omega.{arith}
 use mathlib.Core.Path.{_≡_, refl, sym, ap, _∙_}
 use mathlib.Core.Bool.{Bool, true, false, _&&_}
@@ -35,6 +35,7 @@ use Rattle.stage.specs.Stage.{requestOf, inputWalk, judgement, outWords,
 use Rattle.stage.specs.declared.types.Walked.{Walked}
 use Rattle.stage.specs.declared.types.Summary.{Summary}
 use Rattle.stage.proofs.JudgeLaws.{judged-answer, judged-walk, pairs-standing}
+use Rattle.stage.proofs.ResourceParts.{counted}
 use Rattle.stage.proofs.GivenLaws.{given-held, given-below, given-pairs, given-outputs}
 use Rattle.stage.proofs.RunLaws.{run-refused, run-went, pack-refused, call-refused, call-went}
 
@@ -66,12 +67,6 @@ module _ (ws : List ℕ) (p : EntryParts) (k n m : ℕ) (ek : k ≡ wordAt ws (p
   resources-done offsets i stage s derived L S x g es h = h ∙ rw (es, g .table, pairs-standing ws p k m ek em, resources-standing)
 
 -- ---- the judgement, and the list out
-
-pub workgroup-near : (ws : List ℕ) (p : EntryParts) → Placed ws p → p .workgroup < 2 ^ 40
-workgroup-near ws p w = omega (arith, w .workgroup, w .counts, w .resources, w .pairs, w .inputs, w .outputs, w .short)
-
-pub outputs-near : (ws : List ℕ) (p : EntryParts) → Placed ws p → p .outputs < 2 ^ 40
-outputs-near ws p w = omega (arith, w .outputs, w .short)
 
 module _ (ws offsets : List ℕ) (i : Interface) (e : EntryPoint) (g : Given ws offsets i e) where
   pub table-held : eachHeld (resourceTable ws offsets) ≡ true
@@ -135,7 +130,7 @@ names-of ws k z = record { held = given-held ws z; below = given-below ws z k; p
 pub gives : (ws offsets : List ℕ) (p : EntryParts) (k : ℕ) → decodedNumber (decode ws) ≡ 0 → Offsets ws offsets → standing ws p ≡ entryNth (interfaceOf (decode ws) .entries) k
     → Given ws offsets (interfaceOf (decode ws)) (standing ws p)
 unfolding resourceTable
-gives ws offsets p k z o e = rw e (record { table = o .resources z; named = names-of ws k z })
+gives ws offsets p k z o e = rw e (record { table = o .resources z; inside = record { words = λ i h. o .within z i (counted ws offsets i h .0) }; named = names-of ws k z })
 
 out-words : (ws : List ℕ) (p : EntryParts) (s : Summary) → Summed ws p s → 2 + 2 * s .locals ≡ outWords (standing ws p)
 unfolding summaryOf

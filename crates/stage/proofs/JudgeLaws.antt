@@ -172,16 +172,16 @@ judged-walk derived q rs l e inputs L z =
 -- ---- parts of an entry point that stands at positions
 
 module _ (ws : List ℕ) (p : EntryParts) where
-  pub mesh-absent : (w : ℕ) → w ≡ wordAt ws (p .head) → (w / 2 % 2 ≡ 1 → ⊥) → Mesh.Absent ≡ standing ws p .mesh
+  pub mesh-absent : (wordAt ws (p .head) / 2 % 2 ≡ 1 → ⊥) → Mesh.Absent ≡ standing ws p .mesh
   unfolding standing
-  mesh-absent w e n = rw (← e, ne-eqb (w / 2 % 2) 1 n)
+  mesh-absent n = rw (ne-eqb (wordAt ws (p .head) / 2 % 2) 1 n)
 
-  pub mesh-there : (w a b c x y z : ℕ) (t : PrimitiveTopology) → w ≡ wordAt ws (p .head) → w / 2 % 2 ≡ 1
+  pub mesh-there : (a b c x y z : ℕ) (t : PrimitiveTopology) → wordAt ws (p .head) / 2 % 2 ≡ 1
       → a ≡ wordAt ws (p .workgroup + 4) → x ≡ contentOf a → b ≡ wordAt ws (p .workgroup + 4 + 1) → y ≡ contentOf b
       → c ≡ wordAt ws (p .workgroup + 4 + 2) → z ≡ contentOf c → t ≡ topologyAt z
       → Mesh.Info (record { «max_vertices» = x; «max_primitives» = y; «primitive_topology» = t }) ≡ standing ws p .mesh
   unfolding standing
-  mesh-there w a b c x y z t ew one ea ex eb ey ec ez et = rw (← ew, eq-eqb (w / 2 % 2) 1 one, ← ea, ← eb, ← ec, ← ex, ← ey, ← ez, ← et)
+  mesh-there a b c x y z t one ea ex eb ey ec ez et = rw (eq-eqb (wordAt ws (p .head) / 2 % 2) 1 one, ← ea, ← eb, ← ec, ← ex, ← ey, ← ez, ← et)
 
   pub payload-there : (a : ℕ) (r : Payload) → a ≡ wordAt ws (p .workgroup + 3) → r ≡ payloadOf a → r ≡ standing ws p .payload
   unfolding standing

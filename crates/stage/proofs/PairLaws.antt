@@ -156,9 +156,9 @@ module _ (count : ℕ) (p : SamplingPair) (h : pairBelow count p ≡ true) where
   pub sampler-below : p .sampler < count
   sampler-below = ltb-true (p .sampler) count (second (ltb (p .texture) count) (ltb (p .sampler) count) h)
 
-pub place-listed : (ws offsets : List ℕ) (i o w : ℕ) (p : ResourceBinding) → i < length (resourceTable ws offsets) → o ≡ wordAt offsets i → w ≡ wordAt ws o → p ≡ placeOf w
+pub place-listed : (ws offsets : List ℕ) (i o : ℕ) (p : ResourceBinding) → i < length (resourceTable ws offsets) → o ≡ wordAt offsets i → p ≡ placeOf (wordAt ws o)
     → p ≡ resourceNth (resourceTable ws offsets) i .bind
-place-listed ws offsets i o w p h q e d = rw (nth-at ws offsets i h, ← q, ← e) d
+place-listed ws offsets i o p h q d = rw (nth-at ws offsets i h, ← q) d
 
 pub places-used : (L : Layout) (texture sampler : ResourceBinding) (x y number : ℕ) (a : Answer) → wordMeans x (typeAt L texture) → wordMeans y (typeAt L sampler)
     → number ≡ pairNumber (bindingTypeOf x 0) (bindingTypeOf y 0) → a ≡ pairAnswer number texture sampler

@@ -3,15 +3,12 @@ use Prim.Native.Nat.{ℕ, zero, suc, _+_, _-_, _<_, _≤_}
 use native.Mathlib.Omega.{arith}
 use native.Mathlib.Numerals.{add-one, sub-one}
 use mathlib.Core.Path.{_≡_, refl, _∙_}
-use mathlib.Core.Bool.{true, false}
+use mathlib.Core.Bool.{true}
 use mathlib.Core.List.{List, [], _∷_}
-use lib.Dec.{ltb}
-use lib.ListN.{length, take, drop, length-take, List·getD-eq-default}
+use lib.ListN.{length, take, drop, length-take}
 use lib.Seq.{drop-cons, getD-take}
-use borrow.Author.Tests.{ltb-true, ltb-false}
 use Rattle.word.specs.Words.{wordAt, contentOf}
-use Rattle.word.proofs.Truth.{by-test, never}
-use Rattle.resource.specs.Format.{resourceTypeOf, resourceAt, resourceHeld, typeHeld}
+use Rattle.resource.specs.Format.{resourceAt, resourceHeld, typeHeld}
 use Rattle.resource.specs.declared.types.Resource.{Resource}
 use Rattle.lists.specs.Meaning.{every}
 use Rattle.lists.proofs.Records.{first-passes, rest-passes}
@@ -65,11 +62,14 @@ listed-held (r ∷ rs) zero h = first-passes (resourceHeld r) (eachHeld rs) h
 listed-held (r ∷ rs) (suc i) h = listed-held rs i (rest-passes (resourceHeld r) (eachHeld rs) h)
 
 module _ (ws offsets : List ℕ) (i : ℕ) (h : i < length (resourceTable ws offsets)) where
-  counted : (i < resourceCount ws) × (i < length (take (resourceCount ws) offsets))
+  pub counted : (i < resourceCount ws) × (i < length (take (resourceCount ws) offsets))
   unfolding resourceTable
   counted =
       let l = table-length ws (take (resourceCount ws) offsets) in
       (omega (arith, l, length-take (resourceCount ws) offsets), omega (arith, l))
+
+  pub position-there : i < length offsets
+  position-there = omega (arith, counted .1, length-take (resourceCount ws) offsets)
 
   pub nth-at : resourceNth (resourceTable ws offsets) i ≡ resourceAt ws (wordAt offsets i)
   unfolding resourceTable
@@ -77,13 +77,3 @@ module _ (ws offsets : List ℕ) (i : ℕ) (h : i < length (resourceTable ws off
 
   pub nth-held : eachHeld (resourceTable ws offsets) ≡ true → resourceHeld (resourceAt ws (wordAt offsets i)) ≡ true
   nth-held e = rw nth-at at (listed-held (resourceTable ws offsets) i e)
-
--- past the words stands a buffer of size 0, which a pack cannot hold
-pub held-inside : (ws : List ℕ) (at : ℕ) → typeHeld (resourceTypeOf (wordAt ws (at + 1)) (contentOf (wordAt ws (at + 2)))) ≡ true → at + 1 < length ws
-unfolding resourceTypeOf typeHeld
-held-inside ws at h =
-    by-test (ltb (at + 1) (length ws)) (ltb-true (at + 1) (length ws)) λ f.
-    let n : length ws ≤ at + 1 = ltb-false (at + 1) (length ws) f in
-    let a : wordAt ws (at + 1) ≡ 0 = List·getD-eq-default ws 0 n in
-    let b : wordAt ws (at + 2) ≡ 0 = List·getD-eq-default ws 0 (omega arith) in
-    never false (rw (a, b) at h) refl

@@ -20,9 +20,9 @@ use Rattle.interface.specs.Format.{contents, pairsOf}
 use Rattle.interface.specs.declared.types.ShaderStage.{ShaderStage}
 use Rattle.interface.specs.declared.types.SamplingPair.{SamplingPair}
 use Rattle.stage.specs.Meaning.{State, state}
-use Rattle.stage.specs.Given.{resourceTable, eachHeld, eachBelow}
+use Rattle.stage.specs.Given.{resourceTable, Inside, eachHeld, eachBelow}
 use Rattle.stage.specs.Resources.{namedTexture, provideStep, deriveStep, resourceStep, resourceSteps}
-use Rattle.stage.proofs.ResourceParts.{contents-cons, contents-none, pairs-cons, pairs-none, nth-at, nth-held, held-inside}
+use Rattle.stage.proofs.ResourceParts.{contents-cons, contents-none, pairs-cons, pairs-none, nth-at, nth-held}
 
 -- ---- the texture that a pair names
 
@@ -59,37 +59,38 @@ step-sampled stage place w size b L S = rw (sampled-alone w size b)
 -- ---- one resource
 
 module _ (ws offsets : List ℕ) (i o : ℕ) (h : eachHeld (resourceTable ws offsets) ≡ true) (k : i < length (resourceTable ws offsets)) (q : o ≡ wordAt offsets i) where
-  typed-there : typeHeld (resourceTypeOf (wordAt ws (o + 1)) (contentOf (wordAt ws (o + 2)))) ≡ true
-  typed-there =
+  pub held-there : typeHeld (resourceTypeOf (wordAt ws (o + 1)) (contentOf (wordAt ws (o + 2)))) ≡ true
+  held-there =
       rw q
       (second (placeHeld (placeOf (wordAt ws (wordAt offsets i))))
       (typeHeld (resourceTypeOf (wordAt ws (wordAt offsets i + 1)) (contentOf (wordAt ws (wordAt offsets i + 2)))))
       (nth-held ws offsets i k h))
 
-  pub held-there : (x : ℕ) → x ≡ wordAt ws (o + 2) → typeHeld (resourceTypeOf (wordAt ws (o + 1)) (contentOf x)) ≡ true
-  held-there x e = rw e typed-there
+module _ (ws offsets : List ℕ) (i o : ℕ) (g : Inside ws offsets) (k : i < length (resourceTable ws offsets)) (q : o ≡ wordAt offsets i) where
+  pub place-inside : o < length ws
+  place-inside = omega (arith, g .words i k)
 
   pub type-inside : o + 1 < length ws
-  type-inside = held-inside ws o typed-there
+  type-inside = omega (arith, g .words i k)
 
-  pub place-inside : o < length ws
-  place-inside = omega (arith, type-inside)
+  pub size-inside : o + 2 < length ws
+  size-inside = omega (arith, g .words i k)
 
-module _ (ws offsets : List ℕ) (stage : ShaderStage) (derived : Bool) (pairs : List SamplingPair) (i o x : ℕ) (L : Layout) (S : Sizes) (a : Answer)
-    (k : i < length (resourceTable ws offsets)) (q : o ≡ wordAt offsets i) (e : x ≡ wordAt ws (o + 2)) where
+module _ (ws offsets : List ℕ) (stage : ShaderStage) (derived : Bool) (pairs : List SamplingPair) (i o : ℕ) (L : Layout) (S : Sizes) (a : Answer)
+    (k : i < length (resourceTable ws offsets)) (q : o ≡ wordAt offsets i) where
   pub step-derived : (M : Layout) (n : Bool) → derived ≡ true → n ≡ (eqb (typeCode (wordAt ws (o + 1))) 2 && namedTexture i pairs)
-      → ((S : Sizes) → state a M S ≡ deriveStep stage n (resource (wordAt ws o) (wordAt ws (o + 1)) (contentOf x)) L S)
+      → ((S : Sizes) → state a M S ≡ deriveStep stage n (resource (wordAt ws o) (wordAt ws (o + 1)) (contentOf (wordAt ws (o + 2)))) L S)
       → state a M S ≡ resourceStep stage derived (resourceTable ws offsets) pairs i L S
   unfolding resourceStep
   step-derived M n t p h =
-      rw (yes-true derived t, nth-at ws offsets i k, ← q, ← e)
-      (h S ∙ (ap (λ b. deriveStep stage b (resource (wordAt ws o) (wordAt ws (o + 1)) (contentOf x)) L S) p
-      ∙ step-sampled stage (wordAt ws o) (wordAt ws (o + 1)) (contentOf x) (namedTexture i pairs) L S))
+      rw (yes-true derived t, nth-at ws offsets i k, ← q)
+      (h S ∙ (ap (λ b. deriveStep stage b (resource (wordAt ws o) (wordAt ws (o + 1)) (contentOf (wordAt ws (o + 2)))) L S) p
+      ∙ step-sampled stage (wordAt ws o) (wordAt ws (o + 1)) (contentOf (wordAt ws (o + 2))) (namedTexture i pairs) L S))
 
-  pub step-provided : (T : Sizes) → derived ≡ false → state a L T ≡ provideStep stage (resource (wordAt ws o) (wordAt ws (o + 1)) (contentOf x)) L S
+  pub step-provided : (T : Sizes) → derived ≡ false → state a L T ≡ provideStep stage (resource (wordAt ws o) (wordAt ws (o + 1)) (contentOf (wordAt ws (o + 2)))) L S
       → state a L T ≡ resourceStep stage derived (resourceTable ws offsets) pairs i L S
   unfolding resourceStep
-  step-provided T t h = rw (yes-false derived t, nth-at ws offsets i k, ← q, ← e) h
+  step-provided T t h = rw (yes-false derived t, nth-at ws offsets i k, ← q) h
 
 -- ---- one after the other
 

@@ -1,11 +1,11 @@
 -- What the steps behind the check of a pack are given: its resources by a table of their positions, and indexes that stand in it.
-use Prim.Native.Nat.{ℕ, _*_, _≤_}
+use Prim.Native.Nat.{ℕ, _+_, _*_, _<_, _≤_}
 use mathlib.Core.Path.{_≡_}
 use mathlib.Core.Bool.{Bool, true, _&&_}
 use mathlib.Core.List.{List}
 use lib.Dec.{ltb}
 use lib.ListN.{length, take}
-use Rattle.word.specs.Words.{ofKind}
+use Rattle.word.specs.Words.{wordAt, ofKind}
 use Rattle.resource.specs.Format.{resourceHeld, bindingTypeOf, bindingCode, leastSize, formatHeld}
 use Rattle.resource.specs.declared.types.Resource.{Resource}
 use Rattle.resource.specs.declared.types.BindingType.{BindingType}
@@ -22,6 +22,10 @@ use Rattle.stage.specs.declared.types.Summary.{Summary}
 -- the resources of a pack, each at its position in a table of as many
 unfoldable pub resourceTable : List ℕ → List ℕ → List Resource
 resourceTable ws offsets = resourcesAt ws (take (resourceCount ws) offsets)
+
+-- three words stand from each position of such a table on
+pub record Inside (ws offsets : List ℕ) : Type 0 where
+  pub words : (k : ℕ) → k < length (resourceTable ws offsets) → wordAt offsets k + 3 ≤ length ws
 
 -- each is one that a pack can hold
 abbrev pub eachHeld : List Resource → Bool
@@ -54,6 +58,7 @@ pub record Named (i : Interface) (e : EntryPoint) : Type 0 where
 -- and a table that holds the resources
 pub record Given (ws offsets : List ℕ) (i : Interface) (e : EntryPoint) : Type 0 where
   pub table : resourceTable ws offsets ≡ i .resources
+  pub inside : Inside ws offsets
   pub named : Named i e
 
 -- what stands among the outputs of the entry point at these parts

@@ -34,7 +34,6 @@ use lists::layout::layout_filed;
 use lists::sizes::sizes_filed;
 use lists::stage_io::stage_filed;
 use word::answer::Answer;
-use word::word;
 
 // The resources of an entry point against the layout and the sizes.
 fn check_resources(
@@ -55,7 +54,8 @@ fn check_resources(
         (decodeLayout (now (layout .entry))) (decodeSizes (now (sizes .entry))) ⌝ }
     ensures { λ a. ⌜ (layoutFiled (now (layout .exit)) ≡ true) × (sizesFiled (now (sizes .exit)) ≡ true) ⌝ }
 {
-    let counts = word(pack, parts.counts);
+    let at = parts.counts;
+    let counts = pack[at];
     let n = resources_counted(counts);
     let pairs = pairs_counted(counts);
     resource_steps(

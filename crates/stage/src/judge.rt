@@ -8,7 +8,7 @@ ghost use Rattle.interface.specs.Reads.{standing};
 ghost use Rattle.interface.specs.Parts.{Placed};
 ghost use Rattle.word.specs.Choice.{pick, yes};
 ghost use Rattle.word.specs.Answers.{accepted};
-ghost use Rattle.stage.specs.Given.{resourceTable, pairsBelow, Summed};
+ghost use Rattle.stage.specs.Given.{resourceTable, Inside, pairsBelow, Summed};
 ghost use Rattle.stage.specs.Interfaces.{walked, startWalk};
 ghost use Rattle.stage.specs.Resources.{pairUses};
 ghost use Rattle.stage.specs.Judging.{request, behindInputs, judgedInputs, judged};
@@ -39,7 +39,8 @@ fn mesh_of(pack: &[u32], parts: EntryParts) -> MeshRecord
     requires { ⌜ Placed (now pack) parts ⌝ }
     ensures { λ r. ⌜ r ≡ standing (now (pack .entry)) parts .mesh ⌝ }
 {
-    if word(pack, parts.head) / 2 % 2 != 1 {
+    let head = parts.head;
+    if pack[head] / 2 % 2 != 1 {
         return MeshRecord::Absent;
     }
     let at = parts.workgroup + 4;
@@ -58,9 +59,9 @@ fn workgroup_of(pack: &[u32], parts: EntryParts) -> WorkgroupSize
 {
     let at = parts.workgroup;
     WorkgroupSize {
-        x: content(word(pack, at)),
-        y: content(word(pack, at + 1)),
-        z: content(word(pack, at + 2)),
+        x: content(pack[at]),
+        y: content(pack[at + 1]),
+        z: content(pack[at + 2]),
     }
 }
 
@@ -69,7 +70,7 @@ fn payload_of(pack: &[u32], parts: EntryParts) -> Payload
     requires { ⌜ Placed (now pack) parts ⌝ }
     ensures { λ r. ⌜ r ≡ standing (now (pack .entry)) parts .payload ⌝ }
 {
-    varying::payload_of(word(pack, parts.workgroup + 3))
+    varying::payload_of(pack[parts.workgroup + 3])
 }
 
 // Places, outputs and what is judged last, once the inputs passed.
@@ -126,7 +127,8 @@ fn judge_inputs(
     ensures { λ r. ⌜ r ≡ judgedInputs (request stage topology dual depth) limits (standing (now (pack .entry)) parts)
         (decodeStage (now (inputs .entry))) ⌝ }
 {
-    let n = inputs_counted(word(pack, parts.counts));
+    let counts = parts.counts;
+    let n = inputs_counted(pack[counts]);
     let w = input_steps(pack, parts.inputs, n, inputs, stage);
     let answer = w.answer;
     if answer.number != 0 {
@@ -156,7 +158,7 @@ fn pair_step(
     layout: &[u32],
     derived: bool,
 ) -> Answer
-    requires { ⌜ Placed (now pack) parts ⌝ }
+    requires { ⌜ Placed (now pack) parts × Inside (now pack) (now offsets) ⌝ }
     requires { ⌜ pairsBelow (length (resourceTable (now pack) (now offsets))) (standing (now pack) parts .pairs) ≡ true ⌝ }
     ensures { λ r. ⌜ r ≡ pick (yes derived) accepted (pairUses (decodeLayout (now (layout .entry)))
         (resourceTable (now (pack .entry)) (now (offsets .entry))) (standing (now (pack .entry)) parts .pairs)) ⌝ }
@@ -164,7 +166,8 @@ fn pair_step(
     if derived {
         return Answer::accepted();
     }
-    let n = pairs_counted(word(pack, parts.counts));
+    let counts = parts.counts;
+    let n = pairs_counted(pack[counts]);
     pair_uses(layout, pack, offsets, parts.pairs, n)
 }
 
@@ -183,7 +186,7 @@ pub(crate) fn judge(
     dual: bool,
     depth: bool,
 ) -> Walked
-    requires { ⌜ Placed (now pack) parts × Summed (now pack) parts outputs ⌝ }
+    requires { ⌜ Placed (now pack) parts × Summed (now pack) parts outputs × Inside (now pack) (now offsets) ⌝ }
     requires { ⌜ pairsBelow (length (resourceTable (now pack) (now offsets))) (standing (now pack) parts .pairs) ≡ true ⌝ }
     ensures { λ r. ⌜ r ≡ judged derived (request stage topology dual depth) (resourceTable (now (pack .entry)) (now (offsets .entry))) limits
         (standing (now (pack .entry)) parts) (decodeStage (now (inputs .entry))) (decodeLayout (now (layout .entry))) ⌝ }

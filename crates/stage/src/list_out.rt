@@ -8,6 +8,7 @@ ghost use Rattle.varying.specs.Format.{payloadHeld};
 ghost use Rattle.lists.specs.Meaning.{every};
 ghost use Rattle.lists.specs.Format.{outFiled, decodeStage, encodeStage};
 ghost use Rattle.interface.specs.Reads.{varying, varyingWidth, varyings, standing};
+ghost use Rattle.interface.specs.Parts.{Placed};
 ghost use Rattle.stage.specs.Interfaces.{isLocal, localCount, localsOf, primitiveOut, stageOut};
 ghost use Rattle.stage.specs.Given.{Summed};
 ghost use Rattle.stage.specs.ListOut.{outputHeld, handed};
@@ -99,13 +100,14 @@ pub(crate) fn list_out(
     outputs: Summary,
     out: &mut [u32],
 )
-    requires { ⌜ (parts .workgroup < 2 ^ 40) × (parts .outputs < 2 ^ 40) × Summed (now pack) parts outputs ⌝ }
+    requires { ⌜ Placed (now pack) parts × Summed (now pack) parts outputs ⌝ }
     requires { ⌜ every outputHeld (standing (now pack) parts .outputs) ≡ true ⌝ }
     requires { ⌜ 2 + 2 * localCount (standing (now pack) parts .outputs) ≤ length (now out) ⌝ }
     ensures { λ _. ⌜ now (out .exit) ≡ encodeStage (stageOut stage (standing (now (pack .entry)) parts) walk (now (out .entry))) ⌝ }
 {
-    let n = outputs_counted(word(pack, parts.counts));
+    let counts = parts.counts;
+    let n = outputs_counted(pack[counts]);
     let primitive = primitive_out(stage, either(walk.primitive_index, outputs.primitive));
-    let payload = varying::payload_of(word(pack, parts.workgroup + 3));
+    let payload = varying::payload_of(pack[parts.workgroup + 3]);
     write_out(pack, parts.outputs, n, out, primitive, payload);
 }

@@ -135,7 +135,8 @@ pub(crate) fn output_summary(pack: &[u32], parts: EntryParts) -> Summary
     requires { ⌜ Placed (now pack) parts ⌝ }
     ensures { λ r. ⌜ Summed (now (pack .entry)) parts r ⌝ }
 {
-    let n = outputs_counted(word(pack, parts.counts));
+    let counts = parts.counts;
+    let n = outputs_counted(pack[counts]);
     summary(pack, parts.outputs, n)
 }
 
@@ -268,10 +269,11 @@ pub(crate) fn attachment_use(
     dual: bool,
     depth: bool,
 ) -> Answer
-    requires { ⌜ Summed (now pack) parts outputs ⌝ }
+    requires { ⌜ Placed (now pack) parts × Summed (now pack) parts outputs ⌝ }
     ensures { λ r. ⌜ r ≡ attachmentUse dual depth (standing (now (pack .entry)) parts .dual) (standing (now (pack .entry)) parts .outputs) ⌝ }
 {
-    let shader = word(pack, parts.head) % 2 == 1;
+    let head = parts.head;
+    let shader = pack[head] % 2 == 1;
     if lacks(dual, shader) {
         return Answer::refused(66);
     }
@@ -291,12 +293,13 @@ pub(crate) fn fragment_outputs(
     depth: bool,
     locals: u32,
 ) -> Answer
-    requires { ⌜ (parts .inputs < 2 ^ 40) × (parts .outputs < 2 ^ 40) × Summed (now pack) parts outputs ⌝ }
+    requires { ⌜ Placed (now pack) parts × Summed (now pack) parts outputs ⌝ }
     ensures { λ r. ⌜ r ≡ both (fragmentPlaces (limits .«max_inter_stage_shader_variables») locals (standing (now (pack .entry)) parts .inputs))
         (both (locationUses 64 (limits .«max_color_attachments») (limits .«max_color_attachments») (standing (now (pack .entry)) parts .outputs))
         (attachmentUse dual depth (standing (now (pack .entry)) parts .dual) (standing (now (pack .entry)) parts .outputs))) ⌝ }
 {
-    let counts = word(pack, parts.counts);
+    let at = parts.counts;
+    let counts = pack[at];
     let inputs = inputs_counted(counts);
     let limit = limits.max_inter_stage_shader_variables;
     let places = fragment_places(pack, parts.inputs, inputs, limit, locals);
@@ -324,14 +327,15 @@ pub(crate) fn places_step(
     depth: bool,
     locals: u32,
 ) -> Answer
-    requires { ⌜ (parts .inputs < 2 ^ 40) × (parts .outputs < 2 ^ 40) × Summed (now pack) parts outputs ⌝ }
+    requires { ⌜ Placed (now pack) parts × Summed (now pack) parts outputs ⌝ }
     ensures { λ r. ⌜ r ≡ placesStep stage
         (record { stage = stage; topology = topology; derived = false; dual = dual; depth = depth })
         limits (standing (now (pack .entry)) parts) locals ⌝ }
 {
     match stage {
         ShaderStage::Vertex => {
-            let n = outputs_counted(word(pack, parts.counts));
+            let counts = parts.counts;
+            let n = outputs_counted(pack[counts]);
             let limit = limits.max_inter_stage_shader_variables;
             vertex_outputs(pack, parts.outputs, n, outputs, topology, limit)
         }

@@ -7,9 +7,10 @@ ghost use Rattle.word.specs.Words.{bits};
 ghost use Rattle.resource.specs.Format.{placeHeld, sampleAt, bindingTypeOf};
 ghost use Rattle.lists.specs.Format.{decodeLayout};
 ghost use Rattle.interface.specs.Format.{pairsOf};
-ghost use Rattle.stage.specs.Given.{resourceTable, pairBelow, pairsBelow, wordMeans};
+ghost use Rattle.stage.specs.Given.{resourceTable, Inside, pairBelow, pairsBelow, wordMeans};
 ghost use Rattle.stage.specs.Resources.{resourceNth, filtering, sampleNumber, pairNumber, typeAt, pairAnswer, pairUse, pairUses};
 use interface::reads::pair_at;
+use interface::reads::position_at;
 use interface::types::SamplingPair;
 use lists::layout::find_entry;
 use lists::types::Found;
@@ -17,7 +18,6 @@ use resource::resource_words::place_of;
 use resource::resource_words::place_word;
 use resource::types::ResourceBinding;
 use word::answer::Answer;
-use word::index;
 use word::word;
 
 // Whether a type word is a filtering sampler's.
@@ -81,11 +81,12 @@ fn pair_answer(number: u32, texture: ResourceBinding, sampler: ResourceBinding) 
 
 // The place of the resource of an index.
 fn place_at(pack: &[u32], offsets: &[u32], i: u32) -> ResourceBinding
-    requires { ⌜ i < length (resourceTable (now pack) (now offsets)) ⌝ }
+    requires { ⌜ (i < length (resourceTable (now pack) (now offsets))) × Inside (now pack) (now offsets) ⌝ }
     ensures { λ r. ⌜ r ≡ resourceNth (resourceTable (now (pack .entry)) (now (offsets .entry))) i .bind ⌝ }
     ensures { λ r. ⌜ placeHeld r ≡ true ⌝ }
 {
-    place_of(word(pack, index(offsets, i as usize)))
+    let at = position_at(offsets, i as usize) as usize;
+    place_of(pack[at])
 }
 
 // The entries at a texture's and a sampler's place.
@@ -100,7 +101,7 @@ fn places_use(layout: &[u32], texture: ResourceBinding, sampler: ResourceBinding
 
 // A texture with the sampler it is sampled with.
 fn pair_use(layout: &[u32], pack: &[u32], offsets: &[u32], pair: SamplingPair) -> Answer
-    requires { ⌜ pairBelow (length (resourceTable (now pack) (now offsets))) pair ≡ true ⌝ }
+    requires { ⌜ (pairBelow (length (resourceTable (now pack) (now offsets))) pair ≡ true) × Inside (now pack) (now offsets) ⌝ }
     ensures { λ r. ⌜ r ≡ pairUse (decodeLayout (now (layout .entry))) (resourceTable (now (pack .entry)) (now (offsets .entry))) pair ⌝ }
 {
     let texture = place_at(pack, offsets, pair.texture);
@@ -116,7 +117,7 @@ pub(crate) fn pair_uses(
     from: usize,
     n: usize,
 ) -> Answer
-    requires { ⌜ from + n ≤ length (now pack) ⌝ }
+    requires { ⌜ (from + n ≤ length (now pack)) × Inside (now pack) (now offsets) ⌝ }
     requires { ⌜ pairsBelow (length (resourceTable (now pack) (now offsets))) (pairsOf (take n (drop from (now pack)))) ≡ true ⌝ }
     ensures { λ r. ⌜ r ≡ pairUses (decodeLayout (now (layout .entry))) (resourceTable (now (pack .entry)) (now (offsets .entry)))
         (pairsOf (take n (drop from (now (pack .entry))))) ⌝ }

@@ -12,8 +12,9 @@ ghost use Rattle.lists.specs.declared.types.Found.the-variants.{Nothing};
 ghost use Rattle.lists.specs.Format.{layoutFiled, sizesFiled, decodeLayout, decodeSizes};
 ghost use Rattle.interface.specs.Format.{contents, pairsOf};
 ghost use Rattle.stage.specs.Meaning.{state};
-ghost use Rattle.stage.specs.Given.{resourceTable, eachHeld, eachBelow, TypeWords};
+ghost use Rattle.stage.specs.Given.{resourceTable, Inside, eachHeld, eachBelow, TypeWords};
 ghost use Rattle.stage.specs.Resources.{recordSize, entryUse, providedUse, provideStep, occupied, vacant, placeStep, deriveStep, namedTexture, resourceStep, resourceSteps};
+use interface::reads::position_at;
 use interface::reads::stage_code;
 use interface::types::ShaderStage;
 use lists::layout::entry_word;
@@ -32,7 +33,6 @@ use resource::word_rules::derived_word;
 use resource::word_rules::words_use;
 use word::answer::Answer;
 use word::content;
-use word::word;
 
 // The answer of a number that names the place of a word.
 fn place_answer(number: u32, place: u32) -> Answer
@@ -250,7 +250,7 @@ fn resource_step(
     sizes: &mut [u32],
 ) -> Answer
     requires { ⌜ (layoutFiled (now layout) ≡ true) × (sizesFiled (now sizes) ≡ true) ⌝ }
-    requires { ⌜ eachHeld (resourceTable (now pack) (now offsets)) ≡ true ⌝ }
+    requires { ⌜ (eachHeld (resourceTable (now pack) (now offsets)) ≡ true) × Inside (now pack) (now offsets) ⌝ }
     requires { ⌜ i < length (resourceTable (now pack) (now offsets)) ⌝ }
     requires { ⌜ «pairs_at» + «pairs_n» ≤ length (now pack) ⌝ }
     ensures { λ a. ⌜ state a (decodeLayout (now (layout .exit))) (decodeSizes (now (sizes .exit)))
@@ -258,10 +258,10 @@ fn resource_step(
         (pairsOf (take «pairs_n» (drop «pairs_at» (now (pack .entry))))) i (decodeLayout (now (layout .entry))) (decodeSizes (now (sizes .entry))) ⌝ }
     ensures { λ a. ⌜ (layoutFiled (now (layout .exit)) ≡ true) × (sizesFiled (now (sizes .exit)) ≡ true) ⌝ }
 {
-    let at = word(offsets, i as usize) as usize;
+    let at = position_at(offsets, i as usize) as usize;
     let place = pack[at];
     let w = pack[at + 1];
-    let size = word(pack, at + 2);
+    let size = pack[at + 2];
     if derived {
         let named = named_sampled(pack, pairs_at, pairs_n, w, i);
         return derive_step(stage, named, place, w, size, layout);
@@ -283,7 +283,7 @@ pub(crate) fn resource_steps(
     sizes: &mut [u32],
 ) -> Answer
     requires { ⌜ (layoutFiled (now layout) ≡ true) × (sizesFiled (now sizes) ≡ true) ⌝ }
-    requires { ⌜ eachHeld (resourceTable (now pack) (now offsets)) ≡ true ⌝ }
+    requires { ⌜ (eachHeld (resourceTable (now pack) (now offsets)) ≡ true) × Inside (now pack) (now offsets) ⌝ }
     requires { ⌜ eachBelow (length (resourceTable (now pack) (now offsets))) (contents (take n (drop from (now pack)))) ≡ true ⌝ }
     requires { ⌜ (from + n ≤ length (now pack)) × («pairs_at» + «pairs_n» ≤ length (now pack)) ⌝ }
     ensures { λ a. ⌜ state a (decodeLayout (now (layout .exit))) (decodeSizes (now (sizes .exit)))
@@ -295,7 +295,7 @@ pub(crate) fn resource_steps(
     let mut at = from;
     let mut left = n;
     while left != 0 {
-        let i = content(word(pack, at));
+        let i = content(pack[at]);
         let a = resource_step(
             pack,
             offsets,

@@ -1,5 +1,5 @@
 use Rattle.interface.proofs.ReadsChoice.{named-same, named-other}
-use Rattle.interface.proofs.ReadsParts.{name-placed}
+use Rattle.interface.proofs.ReadsParts.{heads-there, name-placed}
 use borrow.Author.Needs.{needs}
 use Rattle.interface.proofs.choose.is_named.Statement.{statement}
 use Rattle.interface.proofs.choose.is_named.Tie as tie
@@ -9,7 +9,8 @@ is-named-spec =
     tie.close
     (tie.spec
     (λ c κs. search needs)  -- of-stage-requires
-    (λ c κs. search needs)  -- index-requires
+    (λ c κs. search heads-there)  -- position-at-requires
+    (λ c. search needs)  -- cast-same-name
     (λ c κs. search name-placed)  -- same-name-requires
     (λ c. search named-same)  -- returns
     (λ c. search named-other))  -- returns-2

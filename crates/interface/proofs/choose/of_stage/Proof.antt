@@ -1,3 +1,4 @@
+use Rattle.interface.proofs.ReadsParts.{heads-there, head-inside}
 use Rattle.interface.proofs.ReadsChoice.{stage-read}
 use borrow.Author.Needs.{needs}
 use Rattle.interface.proofs.choose.of_stage.Statement.{statement}
@@ -7,8 +8,10 @@ pub of-stage-spec : {M : Type 1} → statement M
 of-stage-spec =
     tie.close
     (tie.spec
-    (λ c κs. search needs)  -- index-requires
-    (λ c κs. search needs)  -- word-requires
+    (λ c κs. search heads-there)  -- position-at-requires
+    (λ c. search needs)  -- cast-at
+    (λ c. search needs)  -- mul-head
+    (λ c. search head-inside)  -- shared-slice-read-head
     (λ c κs. search needs)  -- stage-at-requires
     (λ c κs. search needs)  -- stage-code-requires
     (λ c κs. search needs)  -- stage-code-requires-2

@@ -1,4 +1,4 @@
-use Rattle.interface.proofs.ReadsWays.{entries-counted, entries-few}
+use Rattle.interface.proofs.ReadsWays.{word-there, entries-counted, entries-few}
 use borrow.Author.Needs.{needs}
 use Rattle.interface.proofs.reads.entry_count.Statement.{statement}
 use Rattle.interface.proofs.reads.entry_count.Tie as tie
@@ -7,6 +7,6 @@ pub entry-count-spec : {M : Type 1} → statement M
 entry-count-spec =
     tie.close
     (tie.spec
-    (λ c κs. search needs)  -- word-requires
+    (λ c. search word-there)  -- shared-slice-read-result
     (λ c. search needs)  -- cast-result
     (λ c. (search entries-counted, (search needs, search entries-few))))  -- returns

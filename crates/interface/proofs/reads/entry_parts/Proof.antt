@@ -1,4 +1,4 @@
-use Rattle.interface.proofs.ReadsParts.{head-near, nth-read, nth-placed}
+use Rattle.interface.proofs.ReadsParts.{heads-there, head-near, nth-read, nth-placed}
 use borrow.Author.Needs.{needs}
 use Rattle.interface.proofs.reads.entry_parts.Statement.{statement}
 use Rattle.interface.proofs.reads.entry_parts.Tie as tie
@@ -7,6 +7,7 @@ pub entry-parts-spec : {M : Type 1} → statement M
 entry-parts-spec =
     tie.close
     (tie.spec
-    (λ c κs. search needs)  -- index-requires
+    (λ c κs. search heads-there)  -- position-at-requires
+    (λ c. search needs)  -- cast-parts-at
     (λ c κs. search head-near)  -- parts-at-requires
     (λ c. (search nth-read, search nth-placed)))  -- returns

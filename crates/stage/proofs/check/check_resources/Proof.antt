@@ -7,11 +7,12 @@ pub check-resources-spec : {M : Type 1} → statement M
 check-resources-spec =
     tie.close
     (tie.spec
-    (λ c κs. search needs)  -- word-requires
+    (λ c. search needs)  -- mul-counts
+    (λ c. search needs)  -- shared-slice-read-counts
     (λ c κs. search needs)  -- resources-counted-requires
     (λ c κs. search needs)  -- pairs-counted-requires
     (λ c κs. search needs)  -- stage-at-requires
-    (λ c κs. (search needs, (search table-held, (search resources-below, (search resources-in, search pairs-in)))))  -- resource-steps-requires
+    (λ c κs. (search needs, ((search table-held, search needs), (search resources-below, (search resources-in, search pairs-in)))))  -- resource-steps-requires
     (λ c. search needs)  -- same-length
     (λ c. search needs)  -- same-length-2
     (λ c. (search resources-done, search needs)))  -- returns

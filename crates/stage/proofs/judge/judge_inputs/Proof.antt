@@ -7,7 +7,8 @@ pub judge-inputs-spec : {M : Type 1} → statement M
 judge-inputs-spec =
     tie.close
     (tie.spec
-    (λ c κs. search needs)  -- word-requires
+    (λ c. search needs)  -- mul-inputs-counted
+    (λ c. search needs)  -- shared-slice-read-inputs-counted
     (λ c κs. search needs)  -- inputs-counted-requires
     (λ c κs. search needs)  -- input-steps-requires
     (λ c. search inputs-refused)  -- returns

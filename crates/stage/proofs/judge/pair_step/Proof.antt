@@ -9,7 +9,8 @@ pair-step-spec =
     (tie.spec
     (λ c κs. search needs)  -- accepted-requires
     (λ c. search pairs-derived)  -- returns
-    (λ c κs. search needs)  -- word-requires
+    (λ c. search needs)  -- mul-pairs-counted
+    (λ c. search needs)  -- shared-slice-read-pairs-counted
     (λ c κs. search needs)  -- pairs-counted-requires
     (λ c κs. (search needs, search pairs-given))  -- pair-uses-requires
     (λ c. search pairs-provided))  -- returns-2

@@ -7,7 +7,8 @@ pub payload-of-spec : {M : Type 1} → statement M
 payload-of-spec =
     tie.close
     (tie.spec
-    (λ c. search needs)  -- add-word
-    (λ c κs. search needs)  -- word-requires
+    (λ c. search needs)  -- add-payload-of
+    (λ c. search needs)  -- mul-payload-of
+    (λ c. search needs)  -- shared-slice-read-payload-of
     (λ c κs. search needs)  -- payload-of-requires
     (λ c. search payload-there))  -- returns

@@ -7,12 +7,14 @@ pub list-out-spec : {M : Type 1} → statement M
 list-out-spec =
     tie.close
     (tie.spec
-    (λ c κs. search needs)  -- word-requires
+    (λ c. search needs)  -- mul-outputs-counted
+    (λ c. search needs)  -- shared-slice-read-outputs-counted
     (λ c κs. search needs)  -- outputs-counted-requires
     (λ c κs. search needs)  -- either-requires
     (λ c κs. search needs)  -- primitive-out-requires
-    (λ c. search needs)  -- add-word
-    (λ c κs. search needs)  -- word-requires-2
+    (λ c. search needs)  -- add-payload-of
+    (λ c. search needs)  -- mul-payload-of
+    (λ c. search needs)  -- shared-slice-read-payload-of
     (λ c κs. search needs)  -- payload-of-requires
     (λ c κs. ((search needs, search needs, search payload-read-held), (search outputs-held, search outputs-room)))  -- write-out-requires
     (λ c. search needs)  -- same-length

@@ -7,7 +7,8 @@ pub attachment-use-spec : {M : Type 1} → statement M
 attachment-use-spec =
     tie.close
     (tie.spec
-    (λ c κs. search needs)  -- word-requires
+    (λ c. search needs)  -- mul-shader
+    (λ c. search needs)  -- shared-slice-read-shader
     (λ c κs. search needs)  -- lacks-requires
     (λ c κs. search needs)  -- refused-requires
     (λ c. search dual-lacks)  -- returns

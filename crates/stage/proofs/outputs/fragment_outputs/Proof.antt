@@ -8,7 +8,8 @@ pub fragment-outputs-spec : {M : Type 1} → statement M
 fragment-outputs-spec =
     tie.close
     (tie.spec
-    (λ c κs. search needs)  -- word-requires
+    (λ c. search needs)  -- mul-counts
+    (λ c. search needs)  -- shared-slice-read-counts
     (λ c κs. search needs)  -- inputs-counted-requires
     (λ c κs. search needs)  -- fragment-places-requires
     (λ c. search (sequence, inputs-stand))  -- returns

@@ -7,7 +7,8 @@ pub output-summary-spec : {M : Type 1} → statement M
 output-summary-spec =
     tie.close
     (tie.spec
-    (λ c κs. search needs)  -- word-requires
+    (λ c. search needs)  -- mul-outputs-counted
+    (λ c. search needs)  -- shared-slice-read-outputs-counted
     (λ c κs. search needs)  -- outputs-counted-requires
     (λ c κs. search needs)  -- summary-requires
     (λ c. search summed-here))  -- returns

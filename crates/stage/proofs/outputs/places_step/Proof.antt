@@ -10,7 +10,8 @@ places-step-spec =
     tie.close
     (tie.spec
     (λ c. search needs)  -- enum-told
-    (λ c κs. search needs)  -- word-requires
+    (λ c. search needs)  -- mul-outputs-counted
+    (λ c. search needs)  -- shared-slice-read-outputs-counted
     (λ c κs. search needs)  -- outputs-counted-requires
     (λ c κs. (search needs, (search summed-read, search needs)))  -- vertex-outputs-requires
     (λ c. search needs)  -- enum-told-2

@@ -1,3 +1,5 @@
+use Rattle.stage.proofs.ResourceParts.{position-there}
+use Rattle.stage.proofs.ResourceWalk.{place-inside}
 use Rattle.stage.proofs.PairLaws.{place-listed}
 use borrow.Author.Needs.{needs}
 use Rattle.stage.proofs.pairs.place_at.Statement.{statement}
@@ -7,7 +9,9 @@ pub place-at-spec : {M : Type 1} → statement M
 place-at-spec =
     tie.close
     (tie.spec
-    (λ c κs. search needs)  -- index-requires
-    (λ c κs. search needs)  -- word-requires
+    (λ c κs. search position-there)  -- position-at-requires
+    (λ c. search needs)  -- cast-at
+    (λ c. search needs)  -- mul-place-of
+    (λ c. search place-inside)  -- shared-slice-read-place-of
     (λ c κs. search needs)  -- place-of-requires
     (λ c. (search place-listed, search needs)))  -- returns

@@ -30,7 +30,8 @@ resource-steps-spec =
     Inv-loop
     μ-loop
     (λ c. search needs)  -- loop-holds
-    (λ c κs. search needs)  -- word-requires
+    (λ c. search needs)  -- mul-content
+    (λ c. search needs)  -- shared-slice-read-content
     (λ c κs. search needs)  -- content-requires
     (λ c κs. (search needs, (search needs, (search below-here, search needs))))  -- resource-step-requires
     (λ c. search needs)  -- same-length
