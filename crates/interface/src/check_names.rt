@@ -104,7 +104,7 @@ fn same_name(body: &[u32], from: usize, other: usize, bytes: u32) -> bool
 }
 
 // Whether two entry points, by the positions of their first words, have the same stage and name.
-fn same_head(body: &[u32], g: u32, h: u32) -> bool
+fn same_head(body: &[u32], g: u16, h: u16) -> bool
     ensures { λ r. ⌜ r ≡ sameHead (now (body .entry)) g h ⌝ }
 {
     let i = g as usize;
@@ -121,7 +121,7 @@ fn same_head(body: &[u32], g: u32, h: u32) -> bool
 }
 
 // Whether an entry point's stage and name are those of one from a place of the list on.
-fn head_again(body: &[u32], h: u32, heads: &[u32], from: usize) -> bool
+fn head_again(body: &[u32], h: u16, heads: &[u16], from: usize) -> bool
     ensures { λ r. ⌜ r ≡ hasHead (now (body .entry)) h (drop from (now (heads .entry))) ⌝ }
 {
     let mut i = from;
@@ -135,7 +135,7 @@ fn head_again(body: &[u32], h: u32, heads: &[u32], from: usize) -> bool
 }
 
 // Whether stage and name together occur once among entry points, listed by the positions of their first words.
-pub(crate) fn names_distinct(body: &[u32], heads: &[u32]) -> bool
+pub(crate) fn names_distinct(body: &[u32], heads: &[u16]) -> bool
     ensures { λ r. ⌜ r ≡ distinctHeads (now (body .entry)) (now (heads .entry)) ⌝ }
 {
     let mut i: usize = 0;

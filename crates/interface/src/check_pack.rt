@@ -39,7 +39,7 @@ fn resources_next(
     from: usize,
     n: usize,
     roles: &mut [u8; 128],
-    offsets: &mut [u32],
+    offsets: &mut [u16],
 ) -> usize
     requires { ⌜ (1 ≤ from) × (from ≤ length (now body)) × (length (now body) ≤ 4096) × (n ≤ 128) ⌝ }
     requires { ⌜ (length (now roles) ≡ 128) × (128 ≤ length (now offsets)) ⌝ }
@@ -56,7 +56,7 @@ fn resources_next(
             return 0;
         }
         roles[i] = role(word::word(body, at + 1));
-        offsets[i] = at as u32;
+        offsets[i] = at as u16;
         at = next;
         i += 1;
     }
@@ -70,7 +70,7 @@ fn entry_points_next(
     n: usize,
     count: u32,
     roles: &[u8; 128],
-    heads: &mut [u32],
+    heads: &mut [u16],
 ) -> usize
     requires { ⌜ (1 ≤ from) × (from ≤ length (now body)) × (length (now body) ≤ 4096) × (n ≤ 16) × (16 ≤ length (now heads)) ⌝ }
     requires { ⌜ (count ≤ 128) × (length (packResources count (now body)) ≡ count) × (now roles ≡ roleTable (packResources count (now body))) ⌝ }
@@ -87,7 +87,7 @@ fn entry_points_next(
         if next == 0 {
             return 0;
         }
-        heads[i] = at as u32;
+        heads[i] = at as u16;
         at = next;
         i += 1;
     }
@@ -101,7 +101,7 @@ fn entries_next(
     n: usize,
     count: u32,
     roles: &[u8; 128],
-    heads: &mut [u32],
+    heads: &mut [u16],
 ) -> usize
     requires { ⌜ (1 ≤ at) × (at ≤ length (now body)) × (length (now body) ≤ 4096) × (n ≤ 16) × (16 ≤ length (now heads)) ⌝ }
     requires { ⌜ (count ≤ 128) × (length (packResources count (now body)) ≡ count) × (now roles ≡ roleTable (packResources count (now body))) ⌝ }
@@ -142,7 +142,7 @@ fn totals_filed(w: u32) -> bool
 }
 
 // The position behind the resources and entry points of a pack, or 0. The tables get the position of each.
-fn records_next(body: &[u32], totals: u32, offsets: &mut [u32], heads: &mut [u32]) -> usize
+fn records_next(body: &[u32], totals: u32, offsets: &mut [u16], heads: &mut [u16]) -> usize
     requires { ⌜ (15 ≤ length (now body)) × (length (now body) ≤ 4096) × (bits 26 16 totals ≤ 128) × (bits 15 0 totals ≤ 16) ⌝ }
     requires { ⌜ (128 ≤ length (now offsets)) × (16 ≤ length (now heads)) ⌝ }
     ensures { λ r. ⌜ restAt (now (body .entry)) r ≡ recordsBehind totals (drop 15 (now (body .entry))) ⌝ }
@@ -167,7 +167,7 @@ fn records_next(body: &[u32], totals: u32, offsets: &mut [u32], heads: &mut [u32
 }
 
 // The position behind a pack, or 0 where it is not well filed. The tables get the position of each record.
-fn pack_next(body: &[u32], offsets: &mut [u32], heads: &mut [u32]) -> usize
+fn pack_next(body: &[u32], offsets: &mut [u16], heads: &mut [u16]) -> usize
     requires { ⌜ (length (now body) ≤ 4096) × (128 ≤ length (now offsets)) × (16 ≤ length (now heads)) ⌝ }
     ensures { λ r. ⌜ restAt (now (body .entry)) r ≡ behind (readPack (now (body .entry))) ⌝ }
     ensures { λ r. ⌜ r ≤ length (now (body .entry)) ⌝ }
@@ -205,7 +205,7 @@ fn is_torn(pack: &[u32]) -> bool
 }
 
 // The check of a module pack: 0, or 1 for a torn one, or 2 for a misfiled one. The tables get the positions of an accepted pack's records.
-pub fn index_pack(pack: &[u32], offsets: &mut [u32], heads: &mut [u32]) -> u32
+pub fn index_pack(pack: &[u32], offsets: &mut [u16], heads: &mut [u16]) -> u32
     requires { ⌜ (128 ≤ length (now offsets)) × (16 ≤ length (now heads)) ⌝ }
     ensures { λ r. ⌜ r ≡ decodedNumber (decode (now (pack .entry))) ⌝ }
     ensures { λ _. ⌜ Offsets (now (pack .entry)) (now (offsets .exit)) ⌝ }
@@ -225,7 +225,7 @@ pub fn index_pack(pack: &[u32], offsets: &mut [u32], heads: &mut [u32]) -> u32
 pub fn check_pack(pack: &[u32]) -> u32
     ensures { λ r. ⌜ r ≡ decodedNumber (decode (now (pack .entry))) ⌝ }
 {
-    let mut offsets: [u32; 128] = [0; 128];
-    let mut heads: [u32; 16] = [0; 16];
+    let mut offsets: [u16; 128] = [0; 128];
+    let mut heads: [u16; 16] = [0; 16];
     index_pack(pack, &mut offsets, &mut heads)
 }

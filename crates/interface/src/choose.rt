@@ -18,7 +18,7 @@ use crate::types::ShaderStage;
 use word::answer::Answer;
 
 // Whether the entry point at a place has this stage.
-fn of_stage(pack: &[u32], heads: &[u32], position: usize, stage: ShaderStage) -> bool
+fn of_stage(pack: &[u32], heads: &[u16], position: usize, stage: ShaderStage) -> bool
     requires { ⌜ (decodedNumber (decode (now pack)) ≡ 0) × Heads (now pack) (now heads) ⌝ }
     requires { ⌜ position < length (interfaceOf (decode (now pack)) .entries) ⌝ }
     ensures { λ r. ⌜ r ≡ ofStage stage (entryNth (interfaceOf (decode (now (pack .entry))) .entries) position) ⌝ }
@@ -29,7 +29,7 @@ fn of_stage(pack: &[u32], heads: &[u32], position: usize, stage: ShaderStage) ->
 }
 
 // Whether it has this stage and this name.
-fn is_named(pack: &[u32], heads: &[u32], position: usize, stage: ShaderStage, name: &[u8]) -> bool
+fn is_named(pack: &[u32], heads: &[u16], position: usize, stage: ShaderStage, name: &[u8]) -> bool
     requires { ⌜ (decodedNumber (decode (now pack)) ≡ 0) × Heads (now pack) (now heads) ⌝ }
     requires { ⌜ position < length (interfaceOf (decode (now pack)) .entries) ⌝ }
     ensures { λ r. ⌜ r ≡ named stage (now (name .entry)) (entryNth (interfaceOf (decode (now (pack .entry))) .entries) position) ⌝ }
@@ -41,7 +41,7 @@ fn is_named(pack: &[u32], heads: &[u32], position: usize, stage: ShaderStage, na
 }
 
 // The entry point of a stage and a name.
-pub fn find_entry_point(pack: &[u32], heads: &[u32], stage: ShaderStage, name: &[u8]) -> Chosen
+pub fn find_entry_point(pack: &[u32], heads: &[u16], stage: ShaderStage, name: &[u8]) -> Chosen
     requires { ⌜ (decodedNumber (decode (now pack)) ≡ 0) × Heads (now pack) (now heads) ⌝ }
     ensures { λ r. ⌜ r ≡ findEntryPoint stage (now (name .entry)) (interfaceOf (decode (now (pack .entry))) .entries) ⌝ }
     ensures { λ r. ⌜ chosenIn r (length (interfaceOf (decode (now (pack .entry))) .entries)) ≡ true ⌝ }
@@ -58,7 +58,7 @@ pub fn find_entry_point(pack: &[u32], heads: &[u32], stage: ShaderStage, name: &
 }
 
 // What is known of a stage's one entry point after the one at a place.
-fn met_one(pack: &[u32], heads: &[u32], stage: ShaderStage, found: Chosen, i: usize) -> Chosen
+fn met_one(pack: &[u32], heads: &[u16], stage: ShaderStage, found: Chosen, i: usize) -> Chosen
     requires { ⌜ (decodedNumber (decode (now pack)) ≡ 0) × Heads (now pack) (now heads) ⌝ }
     requires { ⌜ (i < length (interfaceOf (decode (now pack)) .entries)) × (chosenIn found i ≡ true) ⌝ }
     ensures { λ r. ⌜ r ≡ met found (ofStage stage (entryNth (interfaceOf (decode (now (pack .entry))) .entries) i)) i ⌝ }
@@ -75,7 +75,7 @@ fn met_one(pack: &[u32], heads: &[u32], stage: ShaderStage, found: Chosen, i: us
 }
 
 // A stage's one entry point.
-pub(crate) fn only_entry_point(pack: &[u32], heads: &[u32], stage: ShaderStage) -> Chosen
+pub(crate) fn only_entry_point(pack: &[u32], heads: &[u16], stage: ShaderStage) -> Chosen
     requires { ⌜ (decodedNumber (decode (now pack)) ≡ 0) × Heads (now pack) (now heads) ⌝ }
     ensures { λ r. ⌜ r ≡ onlyEntryPoint stage (interfaceOf (decode (now (pack .entry))) .entries) ⌝ }
     ensures { λ r. ⌜ chosenIn r (length (interfaceOf (decode (now (pack .entry))) .entries)) ≡ true ⌝ }
@@ -106,8 +106,8 @@ fn only_answer(chosen: Chosen) -> Answer
 pub fn finalize_entry_point_name(pack: &[u32], stage: u32) -> Answer
     ensures { λ r. ⌜ r ≡ finalizeName (decode (now (pack .entry))) stage ⌝ }
 {
-    let mut offsets: [u32; 128] = [0; 128];
-    let mut heads: [u32; 16] = [0; 16];
+    let mut offsets: [u16; 128] = [0; 128];
+    let mut heads: [u16; 16] = [0; 16];
     let refusal = index_pack(pack, &mut offsets, &mut heads);
     if refusal != 0 {
         return Answer::refused(refusal);

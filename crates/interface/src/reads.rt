@@ -163,7 +163,7 @@ pub(crate) fn resource_count(pack: &[u32]) -> usize
 }
 
 // The position that a table has at an index.
-pub fn position_at(table: &[u32], index: usize) -> u32
+pub fn position_at(table: &[u16], index: usize) -> u16
     requires { ⌜ index < length (now table) ⌝ }
     ensures { λ r. ⌜ r ≡ wordAt (now (table .entry)) index ⌝ }
 {
@@ -171,7 +171,7 @@ pub fn position_at(table: &[u32], index: usize) -> u32
 }
 
 // The parts of the entry point at a place among those of an accepted pack.
-pub fn entry_parts(pack: &[u32], heads: &[u32], position: usize) -> EntryParts
+pub fn entry_parts(pack: &[u32], heads: &[u16], position: usize) -> EntryParts
     requires { ⌜ (decodedNumber (decode (now pack)) ≡ 0) × Heads (now pack) (now heads) ⌝ }
     requires { ⌜ position < length (interfaceOf (decode (now pack)) .entries) ⌝ }
     ensures { λ r. ⌜ standing (now (pack .entry)) r ≡ entryNth (interfaceOf (decode (now (pack .entry))) .entries) position ⌝ }
