@@ -86,8 +86,28 @@ nth ws zero (suc n) at h = refl
 nth ws (suc p) zero at h = absurd (omega arith)
 nth ws (suc p) (suc n) at h = nth ws p n (entryEnd ws at) (omega arith)
 
+width-some : (ws : List ℕ) → 1 ≤ varyingWidth ws
+width-some ws = by-test (eqb (wordAt ws 0 / 2 ^ 27) 12) (λ t. rw t (omega arith)) (λ f. rw f (omega arith))
+
 pub varyings-past : (ws : List ℕ) (n at : ℕ) → at ≤ varyingsEnd ws n at
 varyings-past ws n at = past (varyingEnd ws) (λ at. omega arith) n at
+
+-- varyings that end before the pack does: the next one's words are there, and so are the others
+module _ (ws : List ℕ) (n at : ℕ) (i : varyingsEnd ws n at < length ws) (h : n ≡ 0 → ⊥) where
+  pub varyings-left : (w : ℕ) → w ≡ varyingWidth (drop at ws) → varyingsEnd ws (n - 1) (at + w) < length ws
+  varyings-left w e = rw e (rw (end-left (varyingEnd ws) n at h) at i)
+
+  pub varying-there : at + 1 < length ws
+  varying-there =
+      omega (arith, varyings-left (varyingWidth (drop at ws)) refl, varyings-past ws (n - 1) (varyingEnd ws at), width-some (drop at ws))
+
+-- the varyings of an entry point in its place end before the pack does
+module _ (ws : List ℕ) (p : EntryParts) (w : Placed ws p) where
+  pub inputs-placed : p .inputs ≤ p .outputs
+  inputs-placed = rw (← w .inputs) (varyings-past ws _ (p .inputs))
+
+  pub outputs-placed : p .outputs < length ws
+  outputs-placed = omega (arith, w .outputs, varyings-past ws (bits 5 0 (wordAt ws (p .counts))) (p .outputs))
 
 -- an entry point's parts rise from its first word to its end
 module _ (ws : List ℕ) (head : ℕ) where
@@ -95,9 +115,9 @@ module _ (ws : List ℕ) (head : ℕ) where
   unfolding entryEnd
   outputs-past = varyings-past ws _ (partsAt ws head .outputs)
 
-  rising : partsAt ws head .outputs ≤ length ws → length ws ≤ 4096 → Placed ws (partsAt ws head)
-  unfolding partsAt
-  rising o s = record { name = omega arith; workgroup = omega arith; counts = refl; resources = refl; pairs = refl; inputs = varyings-past ws _ _; outputs = o; short = s }
+  rising : entryEnd ws head < length ws → length ws ≤ 4096 → Placed ws (partsAt ws head)
+  unfolding partsAt entryEnd
+  rising o s = record { name = omega arith; workgroup = omega arith; counts = refl; resources = refl; pairs = refl; inputs = refl; outputs = o; short = s }
 
   head-outputs : head ≤ partsAt ws head .outputs
   unfolding partsAt
@@ -126,26 +146,26 @@ module _ (ws heads : List ℕ) (p head : ℕ) (h : decodedNumber (decode ws) ≡
   placed k =
       let a : head ≡ headAt ws p = e ∙ g .entries h p k in
       let i : entryEnd ws head ≤ endFrom (entryEnd ws) (entryCount ws) (entriesAt ws) = rw a (within (entryEnd ws) (head-past ws) p (entryCount ws) (entriesAt ws) k) in
-      rising ws head (omega (arith, outputs-past ws head, accepted ws h .ends)) (accepted ws h .short)
+      rising ws head (omega (arith, accepted ws h .ends)) (accepted ws h .short)
 
   module _ (k : p < length (interfaceOf (decode ws) .entries)) where
     pub head-inside : head < length ws
     unfolding partsAt
     head-inside =
         let w = placed (counted ws p h k) in
-        omega (arith, w .name, w .workgroup, w .counts, w .resources, w .pairs, w .inputs, w .outputs)
+        omega (arith, w .name, w .workgroup, w .counts, w .resources, w .pairs, inputs-placed ws _ w, outputs-placed ws _ w)
 
     pub name-placed : workgroupAt ws head ≤ length ws
     unfolding partsAt
     name-placed =
         let w = placed (counted ws p h k) in
-        omega (arith, w .workgroup, w .counts, w .resources, w .pairs, w .inputs, w .outputs)
+        omega (arith, w .workgroup, w .counts, w .resources, w .pairs, inputs-placed ws _ w, outputs-placed ws _ w)
 
     pub head-near : head < 2 ^ 50
     unfolding partsAt
     head-near =
         let w = placed (counted ws p h k) in
-        omega (arith, w .name, w .workgroup, w .counts, w .resources, w .pairs, w .inputs, w .outputs, w .short)
+        omega (arith, w .name, w .workgroup, w .counts, w .resources, w .pairs, inputs-placed ws _ w, outputs-placed ws _ w, w .short)
 
     module _ (parts : EntryParts) (d : parts ≡ partsAt ws head) where
       pub nth-placed : Placed ws parts

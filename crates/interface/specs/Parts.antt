@@ -110,15 +110,15 @@ headAt ws position = endFrom (entryEnd ws) position (entriesAt ws)
 abbrev pub entriesOf : List ℕ → List EntryPoint
 entriesOf ws = recordsFrom (entryAt ws) (entryEnd ws) (entryCount ws) (entriesAt ws)
 
--- the parts of an entry point lie one behind the other in a pack, which is short
+-- the parts of an entry point lie one behind the other before the end of a pack, which is short
 pub record Placed (ws : List ℕ) (p : EntryParts) : Type 0 where
   pub name : p .head < p .workgroup
   pub workgroup : p .workgroup + 4 ≤ p .counts
   pub counts : p .resources ≡ p .counts + 1
   pub resources : p .pairs ≡ p .resources + bits 23 18 (wordAt ws (p .counts))
   pub pairs : p .inputs ≡ p .pairs + bits 17 12 (wordAt ws (p .counts))
-  pub inputs : p .inputs ≤ p .outputs
-  pub outputs : p .outputs ≤ length ws
+  pub inputs : varyingsEnd ws (bits 11 6 (wordAt ws (p .counts))) (p .inputs) ≡ p .outputs
+  pub outputs : outputsEnd ws p < length ws
   pub short : length ws ≤ 4096
 
 -- a table begins with the positions of an accepted pack's resources, and three words stand from each on
