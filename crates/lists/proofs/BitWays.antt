@@ -1,29 +1,18 @@
 -- The code's ways through the bits of a visibility.
-use Prim.Native.Nat.{ℕ, _+_, _/_, _%_, _^_, _≤_}
+use Prim.Native.Nat.{ℕ, _+_, _*_, _/_, _%_, _^_, _≤_}
 use native.Mathlib.Omega.{arith}
-use native.Mathlib.Nat.{div-one}
 use mathlib.Core.Path.{_≡_, sym, _∙_}
 use mathlib.Core.Bool.{Bool, true, false}
-use lib.Dec.{eqb}
+use lib.Pow.{pow-mono}
 use borrow.Author.Tests.{eqb-true, eqb-false, eq-eqb, ne-eqb}
 use Rattle.lists.specs.Meaning.{seesBit, joinBit}
 
--- the stage by its number: the first, one between, and the last
-module _ (stage v : ℕ) where
-  pub sees-first : stage ≡ 0 → eqb (v % 2) 1 ≡ seesBit stage v
-  sees-first e = rw (e, div-one v)
+module _ (stage : ℕ) (h : stage ≤ 4) where
+  pub bit-small : 1 * 2 ^ stage % 2 ^ 32 ≤ 16
+  bit-small = omega (arith, pow-mono h)
 
-  pub sees-is : (k : ℕ) (r : Bool) → stage ≡ k → r ≡ seesBit k v → r ≡ seesBit stage v
-  sees-is k r e h = rw e h
-
-  pub sees-last : stage ≤ 4 → (stage ≡ 0 → ⊥) → (stage ≡ 1 → ⊥) → (stage ≡ 2 → ⊥) → (stage ≡ 3 → ⊥) → eqb (v / 16 % 2) 1 ≡ seesBit stage v
-  sees-last h a b c d = let e : stage ≡ 4 = omega arith in rw e
-
-pub bit-is : (stage k r : ℕ) → stage ≡ k → r ≡ 2 ^ k → r ≡ 2 ^ stage
-bit-is stage k r e h = rw e h
-
-pub bit-last : (stage : ℕ) → stage ≤ 4 → (stage ≡ 0 → ⊥) → (stage ≡ 1 → ⊥) → (stage ≡ 2 → ⊥) → (stage ≡ 3 → ⊥) → 16 ≡ 2 ^ stage
-bit-last stage h a b c d = let e : stage ≡ 4 = omega arith in rw e
+  pub bit-is : 1 * 2 ^ stage % 2 ^ 32 ≡ 2 ^ stage
+  bit-is = omega (arith, pow-mono h)
 
 module _ (stage v : ℕ) (b : Bool) (e : b ≡ seesBit stage v) where
   pub join-seen : b ≡ true → v ≡ joinBit stage v

@@ -75,6 +75,9 @@ module _ (ws : List ℕ) (n : ℕ) (f : layoutFiled ws ≡ true) (en : n ≡ cou
 pub head-there : (ws : List ℕ) → layoutFiled ws ≡ true → 1 ≤ length ws
 head-there ws f = omega (arith, filed ws f .holds)
 
+pub entries-within : (ws : List ℕ) (n : ℕ) → layoutFiled ws ≡ true → n ≡ countOf ws → 1 + 4 * n ≤ length ws
+entries-within ws n f e = omega (arith, filed ws f .holds)
+
 pub head-more : (ws : List ℕ) (w : ℕ) → layoutFiled ws ≡ true → w ≡ wordAt ws 0 → w + 1 < 2 ^ 32
 head-more ws w f e = let k : kindOf w ≡ 17 = rw e (filed ws f .kind) in omega arith
 

@@ -10,6 +10,7 @@ use borrow.Author.Tests.{eq-eqb, ne-eqb, lt-ltb, le-ltb, leb-true, not-false}
 use Rattle.word.specs.Choice.{pick}
 use Rattle.word.specs.Words.{wordAt, kindOf, contentOf, bits}
 use Rattle.varying.specs.Format.{locationFiled, varFiled, varOf, payloadFiled, payloadOf}
+use Rattle.numeric.specs.Format.{typeFiled}
 use Rattle.varying.specs.declared.InterfaceVar.{InterfaceVar}
 use Rattle.varying.specs.declared.Payload.{Payload}
 use Rattle.word.proofs.Truth.{first, second}
@@ -60,6 +61,20 @@ module _ (l : List ℕ) (at : ℕ) (a : Bool) (f : a ≡ locationFiled (wordAt l
 
   pub located-is : (b : Bool) → a ≡ true → b ≡ varFiled (wordAt l (at + 1)) → b ≡ locatedGood (drop at l)
   located-is b h k = rw (here l at, there l at 1, ← f, h, ← k)
+
+-- ---- a variable's word that is known to be one
+
+pub var-same : (w good : ℕ) → varFiled good ≡ true → w ≡ good → true ≡ varFiled w
+var-same w good f e = rw e (sym f)
+
+pub var-common : varFiled 0x6800_0123 ≡ true
+unfolding varFiled typeFiled
+var-common = refl
+
+pub located-var : (l : List ℕ) (at : ℕ) (b : Bool) → b ≡ locatedGood (drop at l) → not b ≡ false → varFiled (wordAt l (at + 1)) ≡ true
+located-var l at b e h =
+    let g : locatedGood (drop at l) ≡ true = sym e ∙ not-false b h in
+    rw (there l at 1) at (second (locationFiled (wordAt (drop at l) 0)) (varFiled (wordAt (drop at l) 1)) g)
 
 -- ---- rising locations
 

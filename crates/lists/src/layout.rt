@@ -13,7 +13,7 @@ use crate::heads::counted;
 use crate::heads::groups;
 use crate::places::distinct_places;
 use crate::places::find_place;
-use crate::places::find_word;
+use crate::places::find_within;
 use crate::stores::store_four;
 use crate::types::Found;
 use crate::visibility::join_bit;
@@ -25,6 +25,7 @@ use resource::resource_words::place_word;
 use resource::types::BindGroupLayoutEntry;
 use resource::types::BindingType;
 use resource::types::ResourceBinding;
+use word::content;
 use word::word;
 
 fn layout_head(l: &[u32]) -> bool
@@ -102,10 +103,11 @@ pub fn find_entry(l: &[u32], place: ResourceBinding) -> Found
 
 // The position of the entry at the place that a word tells.
 pub fn find_entry_word(l: &[u32], place: u32) -> Found
+    requires { ⌜ layoutFiled (now l) ≡ true ⌝ }
     ensures { λ r. ⌜ r ≡ findEntry (placeOf place) (decodeLayout (now (l .entry))) ⌝ }
     ensures { λ r. ⌜ foundBelow (length (decodeLayout (now (l .entry)) .entries)) r ≡ true ⌝ }
 {
-    find_word(l, 1, count(l), 4, place)
+    find_within(l, 1, counted(l), 4, content(place))
 }
 
 // The entry at a position; past the last, one that serves nothing.
@@ -190,6 +192,6 @@ pub fn join_visibility(l: &mut [u32], index: usize, stage: u32)
     ensures { λ _. ⌜ layoutFiled (now (l .exit)) ≡ true ⌝ }
 {
     let at = 4 * index + 4;
-    let visibility = join_bit(word::content(word(l, at)), stage);
+    let visibility = join_bit(content(word(l, at)), stage);
     l[at] = 0x9800_0000 + visibility;
 }

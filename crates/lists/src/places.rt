@@ -55,7 +55,7 @@ fn find_plain(l: &[u32], from: usize, n: usize, width: usize, place: ResourceBin
 }
 
 // Which of the records has the place that a word's content tells, where all lie within the slice.
-fn find_within(l: &[u32], from: usize, n: usize, width: usize, content: u32) -> Found
+pub(crate) fn find_within(l: &[u32], from: usize, n: usize, width: usize, content: u32) -> Found
     requires { ⌜ (from < 2 ^ 32) × (n < 2 ^ 32) × (width ≤ 4) ⌝ }
     requires { ⌜ (0 < width) × (from + width * n ≤ length (now l)) × (content < 2 ^ 27) ⌝ }
     ensures { λ r. ⌜ r ≡ placeFrom (placeOf content) (places width n (drop from (now (l .entry)))) 0 ⌝ }

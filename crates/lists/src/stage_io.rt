@@ -1,8 +1,10 @@
 // What the stage before provides: its variables by rising location, its payload and its primitive index.
 ghost use mathlib.Core.Path.{_≡_};
+ghost use mathlib.Core.Bool.{true};
 ghost use Prim.Native.Nat.{_<_, _≤_, _+_, _*_, _^_};
 ghost use lib.ListN.{length, drop};
 ghost use Rattle.word.specs.Words.{wordAt, contentOf};
+ghost use Rattle.varying.specs.Format.{varFiled};
 ghost use Rattle.lists.specs.Meaning.{rising, varyingAt};
 ghost use Rattle.lists.specs.Format.{countOf, each, locatedGood, readVaryings, variableFound, stageHead, outFiled, stageFiled, decodeStage};
 use crate::heads::count;
@@ -45,27 +47,41 @@ pub fn location_at(l: &[u32], at: usize) -> u32
     word::content(word(l, at))
 }
 
-fn located_good(l: &[u32], at: usize) -> bool
+// Whether a word is a variable, where another is known to be one: most words of a list are the same.
+fn var_good(w: u32, good: u32) -> bool
+    requires { ⌜ varFiled good ≡ true ⌝ }
+    ensures { λ r. ⌜ r ≡ varFiled w ⌝ }
+{
+    if w == good {
+        return true;
+    }
+    varying::var_filed(w)
+}
+
+fn located_good(l: &[u32], at: usize, good: u32) -> bool
     requires { ⌜ at + 2 ≤ length (now l) ⌝ }
+    requires { ⌜ varFiled good ≡ true ⌝ }
     ensures { λ r. ⌜ r ≡ locatedGood (drop at (now (l .entry))) ⌝ }
 {
     if varying::location_filed(l[at]) {
-        return varying::var_filed(l[at + 1]);
+        return var_good(l[at + 1], good);
     }
     false
 }
 
-// Whether each variable has a location and a variable's word.
+// Whether each variable has a location and a variable's word. The commonest is a vector of four f32.
 fn varyings_good(l: &[u32]) -> bool
     requires { ⌜ 2 + 2 * countOf (now l) ≤ length (now l) ⌝ }
     ensures { λ r. ⌜ r ≡ each 2 locatedGood (countOf (now (l .entry))) (drop 2 (now (l .entry))) ⌝ }
 {
+    let mut good: u32 = 0x6800_0123;
     let mut at: usize = 2;
     let mut left = counted(l);
     while left != 0 {
-        if !located_good(l, at) {
+        if !located_good(l, at, good) {
             return false;
         }
+        good = l[at + 1];
         at += 2;
         left -= 1;
     }

@@ -8,13 +8,7 @@ pub fn sees(visibility: u32, stage: u32) -> bool
     requires { ⌜ stage ≤ 4 ⌝ }
     ensures { λ r. ⌜ r ≡ seesBit stage visibility ⌝ }
 {
-    match stage {
-        0 => visibility % 2 == 1,
-        1 => visibility / 2 % 2 == 1,
-        2 => visibility / 4 % 2 == 1,
-        3 => visibility / 8 % 2 == 1,
-        _ => visibility / 16 % 2 == 1,
-    }
+    (visibility >> stage) % 2 == 1
 }
 
 // The visibility of one stage alone.
@@ -23,13 +17,7 @@ pub fn stage_bit(stage: u32) -> u32
     ensures { λ r. ⌜ r ≡ 2 ^ stage ⌝ }
     ensures { λ r. ⌜ r ≤ 16 ⌝ }
 {
-    match stage {
-        0 => 1,
-        1 => 2,
-        2 => 4,
-        3 => 8,
-        _ => 16,
-    }
+    1 << stage
 }
 
 // A stage's bit joined to a visibility.

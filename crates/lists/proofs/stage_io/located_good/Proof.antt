@@ -10,9 +10,9 @@ located-good-spec =
     (λ c. search needs)  -- mul-location-filed
     (λ c. search needs)  -- shared-slice-read-location-filed
     (λ c κs. search needs)  -- location-filed-requires
-    (λ c. search needs)  -- add-var-filed
-    (λ c. search needs)  -- mul-var-filed
-    (λ c. search needs)  -- shared-slice-read-var-filed
-    (λ c κs. search needs)  -- var-filed-requires
+    (λ c. search needs)  -- add-var-good
+    (λ c. search needs)  -- mul-var-good
+    (λ c. search needs)  -- shared-slice-read-var-good
+    (λ c κs. search needs)  -- var-good-requires
     (λ c. search located-is)  -- returns
     (λ c. search located-not))  -- returns-2

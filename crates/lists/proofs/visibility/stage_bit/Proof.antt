@@ -1,4 +1,4 @@
-use Rattle.lists.proofs.BitWays.{bit-is, bit-last}
+use Rattle.lists.proofs.BitWays.{bit-is, bit-small}
 use borrow.Author.Needs.{needs}
 use Rattle.lists.proofs.visibility.stage_bit.Statement.{statement}
 use Rattle.lists.proofs.visibility.stage_bit.Tie as tie
@@ -7,8 +7,5 @@ pub stage-bit-spec : {M : Type 1} → statement M
 stage-bit-spec =
     tie.close
     (tie.spec
-    (λ c. (search bit-is, search needs))  -- returns
-    (λ c. (search bit-is, search needs))  -- returns-2
-    (λ c. (search bit-is, search needs))  -- returns-3
-    (λ c. (search bit-is, search needs))  -- returns-4
-    (λ c. (search bit-last, search needs)))  -- returns-5
+    (λ c. search needs)  -- shl-result
+    (λ c. (search bit-is, search bit-small)))  -- returns

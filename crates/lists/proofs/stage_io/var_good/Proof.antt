@@ -1,0 +1,12 @@
+use Rattle.lists.proofs.StageWays.{var-same}
+use borrow.Author.Needs.{needs}
+use Rattle.lists.proofs.stage_io.var_good.Statement.{statement}
+use Rattle.lists.proofs.stage_io.var_good.Tie as tie
+
+pub var-good-spec : {M : Type 1} → statement M
+var-good-spec =
+    tie.close
+    (tie.spec
+    (λ c. search var-same)  -- returns
+    (λ c κs. search needs)  -- var-filed-requires
+    (λ c. search needs))  -- returns-2
