@@ -101,14 +101,6 @@ module _ (ws : List ℕ) (n at : ℕ) (i : varyingsEnd ws n at < length ws) (h :
   varying-there =
       omega (arith, varyings-left (varyingWidth (drop at ws)) refl, varyings-past ws (n - 1) (varyingEnd ws at), width-some (drop at ws))
 
--- the varyings of an entry point in its place end before the pack does
-module _ (ws : List ℕ) (p : EntryParts) (w : Placed ws p) where
-  pub inputs-placed : p .inputs ≤ p .outputs
-  inputs-placed = rw (← w .inputs) (varyings-past ws _ (p .inputs))
-
-  pub outputs-placed : p .outputs < length ws
-  outputs-placed = omega (arith, w .outputs, varyings-past ws (bits 5 0 (wordAt ws (p .counts))) (p .outputs))
-
 -- an entry point's parts rise from its first word to its end
 module _ (ws : List ℕ) (head : ℕ) where
   pub outputs-past : partsAt ws head .outputs ≤ entryEnd ws head
@@ -117,7 +109,20 @@ module _ (ws : List ℕ) (head : ℕ) where
 
   rising : entryEnd ws head < length ws → length ws ≤ 4096 → Placed ws (partsAt ws head)
   unfolding partsAt entryEnd
-  rising o s = record { name = omega arith; workgroup = omega arith; counts = refl; resources = refl; pairs = refl; inputs = refl; outputs = o; short = s }
+  rising o s =
+      let i : partsAt ws head .outputs < length ws = omega (arith, outputs-past) in
+      record {
+        name = omega arith;
+        workgroup = omega arith;
+        counts = refl;
+        resources = refl;
+        pairs = refl;
+        inputs = varyings-past ws _ _;
+        outputs = i;
+        inputsEnd = i;
+        outputsEnd = o;
+        short = s;
+      }
 
   head-outputs : head ≤ partsAt ws head .outputs
   unfolding partsAt
@@ -153,19 +158,19 @@ module _ (ws heads : List ℕ) (p head : ℕ) (h : decodedNumber (decode ws) ≡
     unfolding partsAt
     head-inside =
         let w = placed (counted ws p h k) in
-        omega (arith, w .name, w .workgroup, w .counts, w .resources, w .pairs, inputs-placed ws _ w, outputs-placed ws _ w)
+        omega (arith, w .name, w .workgroup, w .counts, w .resources, w .pairs, w .inputs, w .outputs)
 
     pub name-placed : workgroupAt ws head ≤ length ws
     unfolding partsAt
     name-placed =
         let w = placed (counted ws p h k) in
-        omega (arith, w .workgroup, w .counts, w .resources, w .pairs, inputs-placed ws _ w, outputs-placed ws _ w)
+        omega (arith, w .workgroup, w .counts, w .resources, w .pairs, w .inputs, w .outputs)
 
     pub head-near : head < 2 ^ 50
     unfolding partsAt
     head-near =
         let w = placed (counted ws p h k) in
-        omega (arith, w .name, w .workgroup, w .counts, w .resources, w .pairs, inputs-placed ws _ w, outputs-placed ws _ w, w .short)
+        omega (arith, w .name, w .workgroup, w .counts, w .resources, w .pairs, w .inputs, w .outputs, w .short)
 
     module _ (parts : EntryParts) (d : parts ≡ partsAt ws head) where
       pub nth-placed : Placed ws parts

@@ -117,8 +117,10 @@ pub record Placed (ws : List ℕ) (p : EntryParts) : Type 0 where
   pub counts : p .resources ≡ p .counts + 1
   pub resources : p .pairs ≡ p .resources + bits 23 18 (wordAt ws (p .counts))
   pub pairs : p .inputs ≡ p .pairs + bits 17 12 (wordAt ws (p .counts))
-  pub inputs : varyingsEnd ws (bits 11 6 (wordAt ws (p .counts))) (p .inputs) ≡ p .outputs
-  pub outputs : outputsEnd ws p < length ws
+  pub inputs : p .inputs ≤ p .outputs
+  pub outputs : p .outputs < length ws
+  pub inputsEnd : varyingsEnd ws (bits 11 6 (wordAt ws (p .counts))) (p .inputs) < length ws
+  pub outputsEnd : outputsEnd ws p < length ws
   pub short : length ws ≤ 4096
 
 -- a table begins with the positions of an accepted pack's resources, and three words stand from each on

@@ -39,7 +39,7 @@ use word::answer::Answer;
 fn check_resources(
     pack: &[u32],
     parts: EntryParts,
-    offsets: &[u32],
+    offsets: &[u16],
     layout: &mut [u32],
     sizes: &mut [u32],
     stage: u32,
@@ -77,7 +77,7 @@ fn judge_out(
     pack: &[u32],
     parts: EntryParts,
     outputs: Summary,
-    offsets: &[u32],
+    offsets: &[u16],
     layout: &[u32],
     inputs: &[u32],
     out: &mut [u32],
@@ -124,7 +124,7 @@ fn judge_call(
     pack: &[u32],
     parts: EntryParts,
     outputs: Summary,
-    offsets: &[u32],
+    offsets: &[u16],
     layout: &[u32],
     inputs: &[u32],
     out: &mut [u32],
@@ -165,7 +165,7 @@ fn run_body(
     pack: &[u32],
     parts: EntryParts,
     outputs: Summary,
-    offsets: &[u32],
+    offsets: &[u16],
     layout: &mut [u32],
     sizes: &mut [u32],
     inputs: &[u32],
@@ -207,8 +207,8 @@ fn run_body(
 // The room of the list out, then all steps of the entry point at a place among those of the pack.
 fn on_entry_point(
     pack: &[u32],
-    offsets: &[u32],
-    heads: &[u32],
+    offsets: &[u16],
+    heads: &[u16],
     position: usize,
     layout: &mut [u32],
     sizes: &mut [u32],
@@ -252,8 +252,8 @@ fn on_entry_point(
 // The entry point of a stage and a name, if there is one.
 fn on_named(
     pack: &[u32],
-    offsets: &[u32],
-    heads: &[u32],
+    offsets: &[u16],
+    heads: &[u16],
     layout: &mut [u32],
     sizes: &mut [u32],
     inputs: &[u32],
@@ -337,8 +337,8 @@ fn call_good(
 // The lists and codes of a call, and the entry point of its stage and name in a pack that was accepted.
 fn check_call(
     pack: &[u32],
-    offsets: &[u32],
-    heads: &[u32],
+    offsets: &[u16],
+    heads: &[u16],
     layout: &mut [u32],
     sizes: &mut [u32],
     inputs: &[u32],
@@ -391,8 +391,8 @@ pub fn check_stage(
     ensures { λ a. ⌜ outcome a (now (layout .exit)) (now (sizes .exit)) (now (out .exit)) ≡ checkStage (call (now (pack .entry)) (now (layout .entry)) (now (sizes .entry))
         (now (inputs .entry)) (now (out .entry)) stage (now (name .entry)) topology mode dual depth) ⌝ }
 {
-    let mut offsets: [u32; 128] = [0; 128];
-    let mut heads: [u32; 16] = [0; 16];
+    let mut offsets: [u16; 128] = [0; 128];
+    let mut heads: [u16; 16] = [0; 16];
     let refusal = index_pack(pack, &mut offsets, &mut heads);
     if refusal != 0 {
         return Answer::refused(refusal);

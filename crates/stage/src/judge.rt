@@ -154,7 +154,7 @@ fn judge_inputs(
 fn pair_step(
     pack: &[u32],
     parts: EntryParts,
-    offsets: &[u32],
+    offsets: &[u16],
     layout: &[u32],
     derived: bool,
 ) -> Answer
@@ -175,7 +175,7 @@ fn pair_step(
 pub(crate) fn judge(
     pack: &[u32],
     parts: EntryParts,
-    offsets: &[u32],
+    offsets: &[u16],
     limits: Limits,
     outputs: Summary,
     layout: &[u32],

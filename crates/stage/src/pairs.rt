@@ -80,7 +80,7 @@ fn pair_answer(number: u32, texture: ResourceBinding, sampler: ResourceBinding) 
 }
 
 // The place of the resource of an index.
-fn place_at(pack: &[u32], offsets: &[u32], i: u32) -> ResourceBinding
+fn place_at(pack: &[u32], offsets: &[u16], i: u32) -> ResourceBinding
     requires { ⌜ (i < length (resourceTable (now pack) (now offsets))) × Inside (now pack) (now offsets) ⌝ }
     ensures { λ r. ⌜ r ≡ resourceNth (resourceTable (now (pack .entry)) (now (offsets .entry))) i .bind ⌝ }
     ensures { λ r. ⌜ placeHeld r ≡ true ⌝ }
@@ -100,7 +100,7 @@ fn places_use(layout: &[u32], texture: ResourceBinding, sampler: ResourceBinding
 }
 
 // A texture with the sampler it is sampled with.
-fn pair_use(layout: &[u32], pack: &[u32], offsets: &[u32], pair: SamplingPair) -> Answer
+fn pair_use(layout: &[u32], pack: &[u32], offsets: &[u16], pair: SamplingPair) -> Answer
     requires { ⌜ (pairBelow (length (resourceTable (now pack) (now offsets))) pair ≡ true) × Inside (now pack) (now offsets) ⌝ }
     ensures { λ r. ⌜ r ≡ pairUse (decodeLayout (now (layout .entry))) (resourceTable (now (pack .entry)) (now (offsets .entry))) pair ⌝ }
 {
@@ -113,7 +113,7 @@ fn pair_use(layout: &[u32], pack: &[u32], offsets: &[u32], pair: SamplingPair) -
 pub(crate) fn pair_uses(
     layout: &[u32],
     pack: &[u32],
-    offsets: &[u32],
+    offsets: &[u16],
     from: usize,
     n: usize,
 ) -> Answer

@@ -240,7 +240,7 @@ fn named_sampled(pack: &[u32], from: usize, n: usize, w: u32, texture: u32) -> b
 // One resource of the entry point, by its index, in the mode of the call.
 fn resource_step(
     pack: &[u32],
-    offsets: &[u32],
+    offsets: &[u16],
     pairs_at: usize,
     pairs_n: usize,
     stage: ShaderStage,
@@ -272,7 +272,7 @@ fn resource_step(
 // Each resource of the entry point in list order, up to the first that is refused.
 pub(crate) fn resource_steps(
     pack: &[u32],
-    offsets: &[u32],
+    offsets: &[u16],
     from: usize,
     n: usize,
     pairs_at: usize,
