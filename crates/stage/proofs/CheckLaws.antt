@@ -12,7 +12,7 @@ use Rattle.word.specs.Answers.{refused}
 use Rattle.word.specs.declared.answer.Answer.{Answer}
 use Rattle.word.proofs.Truth.{first, second}
 use Rattle.lists.specs.Meaning.{Layout, Sizes, StageIo, every}
-use Rattle.lists.specs.Format.{layoutFiled, sizesFiled, stageFiled, decodeLayout, decodeSizes, decodeStage, encodeStage}
+use Rattle.lists.specs.Format.{layoutFiled, sizesFiled, outFiled, stageFiled, decodeLayout, decodeSizes, decodeStage, encodeStage}
 use Rattle.lists.proofs.LayoutLists as layouts
 use Rattle.lists.proofs.SizeLists as sizes
 use Rattle.interface.specs.Meaning.{EntryPoint, Interface}
@@ -23,7 +23,6 @@ use Rattle.interface.specs.Rules.{findEntryPoint}
 use Rattle.interface.specs.declared.types.Chosen.{Chosen}
 use Rattle.interface.specs.declared.types.Chosen.the-variants as Ch
 use Rattle.interface.specs.declared.types.EntryParts.{EntryParts}
-use Rattle.interface.specs.declared.types.Limits.{Limits}
 use Rattle.interface.specs.declared.types.ShaderStage.{ShaderStage}
 use Rattle.stage.specs.Meaning.{Call, Outcome, outcome, State, state}
 use Rattle.stage.specs.Resources.{resourceSteps}
@@ -78,10 +77,10 @@ module _ (ws offsets : List ℕ) (i : Interface) (e : EntryPoint) (g : Given ws 
   pub table-outputs : every outputHeld (e .outputs) ≡ true
   table-outputs = g .named .outputs
 
-  module _ (derived : Bool) (stage : ShaderStage) (topology : ℕ) (dual depth : Bool) (l : Limits) (inputs : StageIo) (L : Layout) (w : Walked)
-      (el : l ≡ i .limits) (ew : w ≡ judged derived (request stage topology dual depth) (resourceTable ws offsets) l e inputs L) where
+  module _ (derived : Bool) (stage : ShaderStage) (topology : ℕ) (dual depth : Bool) (inputs : StageIo) (L : Layout) (w : Walked)
+      (ew : w ≡ judged derived (request stage topology dual depth) (resourceTable ws offsets) (i .limits) e inputs L) where
     walk-at : w ≡ judged derived (request stage topology dual depth) (i .resources) (i .limits) e inputs L
-    walk-at = ew ∙ rw (g .table, el)
+    walk-at = ew ∙ rw (g .table)
 
     pub judged-is : w .answer ≡ judgement (requestWith derived stage topology dual depth) i e inputs L
     judged-is = ap (λ (x : Walked). x .answer) walk-at ∙ judged-answer derived (request stage topology dual depth) i e inputs L
@@ -201,6 +200,10 @@ module _ (layout sizes inputs : List ℕ) (stage topology mode dual depth : ℕ)
   pub good-sizes : r ≡ callGood called → r ≡ true → sizesFiled sizes ≡ true
   unfolding callGood
   good-sizes er t = let h = sym er ∙ t in search (first, second)
+
+  pub good-inputs : r ≡ callGood called → r ≡ true → outFiled inputs ≡ true
+  unfolding callGood
+  good-inputs er t = let h = sym er ∙ t in search (first, second)
 
   module _ (a b c : Bool) where
     pub layout-bad : a ≡ layoutFiled layout → a ≡ false → false ≡ callGood called

@@ -46,16 +46,18 @@ lastOf q l mesh payload input written w =
     (both (primitiveUse (q .stage) (w .«primitive_index») written)
     (both (drawUse (q .stage) (w .«draw_index») input) (perVertexUse (w .«per_vertex») (q .topology))))))
 
-module _ (q : Request) (l : Limits) (e : EntryPoint) (inputs : StageIo) (w : InputWalk) (a : Answer) (ea : a ≡ placesStep (q .stage) q l e (w .locals)) where
+module _ (q : Request) (l : Limits) (e : EntryPoint) (inputs : StageIo) (w : InputWalk) (a : Answer) (k : Limits) (ek : k ≡ l) (ea : a ≡ placesStep (q .stage) q k e (w .locals)) where
   pub behind-refused : (a .number ≡ 0 → ⊥) → a ≡ behindInputs q l e inputs w
   unfolding behindInputs
-  behind-refused n = rw (← ea, ne-eqb (a .number) 0 n)
+  behind-refused n = rw (← ek, ← ea, ne-eqb (a .number) 0 n)
 
-  pub behind-went : (mesh : MeshRecord) (payload input : Payload) (written : PrimitiveIndex) (r : Answer) → a .number ≡ 0
+  pub behind-went : (mesh : MeshRecord) (payload input : Payload) (written : PrimitiveIndex) (m : Limits) (r : Answer) → a .number ≡ 0 → m ≡ l
       → mesh ≡ e .mesh → payload ≡ e .payload → input ≡ inputs .payload → written ≡ inputs .primitive
-      → r ≡ lastOf q l mesh payload input written w → r ≡ behindInputs q l e inputs w
+      → r ≡ lastOf q m mesh payload input written w → r ≡ behindInputs q l e inputs w
   unfolding behindInputs lastStep
-  behind-went mesh payload input written r z em ep ei ew h = rw (← ea, eq-eqb (a .number) 0 z, ← em, ← ep, ← ei, ← ew) h
+  behind-went mesh payload input written m r z el em ep ei ew h =
+      let b : a ≡ placesStep (q .stage) q l e (w .locals) = rw (← ek) ea in
+      rw (← b, eq-eqb (a .number) 0 z, ← em, ← ep, ← ei, ← ew, ← el) h
 
 -- the inputs of an entry point that stands at positions
 pub inputs-standing : (ws : List ℕ) (p : EntryParts) → standing ws p .inputs ≡ varyings (bits 11 6 (wordAt ws (p .counts))) (drop (p .inputs) ws)
@@ -77,6 +79,9 @@ module _ (q : Request) (l : Limits) (ws : List ℕ) (p : EntryParts) (k n : ℕ)
   unfolding judgedInputs
   inputs-went a z ea = rw (← walk-is, eq-eqb (w .answer .number) 0 z, ← ea)
 
+pub size-read : (stage : ShaderStage) (g h : WorkgroupSize) (k l : Limits) (r : Answer) → g ≡ h → k ≡ l → r ≡ workgroupStep stage g k → r ≡ workgroupStep stage h l
+size-read stage g h k l r eg ek er = rw (← eg, ← ek) er
+
 -- the whole judgement: pairs, workgroup size, the rest
 module _ (derived : Bool) (q : Request) (rs : List Resource) (l : Limits) (e : EntryPoint) (inputs : StageIo) (L : Layout) (a : Answer) (s : Walked)
     (ea : a ≡ pick (yes derived) accepted (pairUses L rs (e .pairs))) where
@@ -84,14 +89,14 @@ module _ (derived : Bool) (q : Request) (rs : List Resource) (l : Limits) (e : E
   unfolding judged
   judged-pair es n = es ∙ rw (← ea, ne-eqb (a .number) 0 n)
 
-  module _ (b : Answer) (g : WorkgroupSize) (eg : g ≡ e .workgroup) (eb : b ≡ workgroupStep (q .stage) g l) where
+  module _ (b : Answer) (eb : b ≡ workgroupStep (q .stage) (e .workgroup) l) where
     pub judged-size : s ≡ walked startWalk b → a .number ≡ 0 → (b .number ≡ 0 → ⊥) → s ≡ judged derived q rs l e inputs L
     unfolding judged
-    judged-size es z n = es ∙ rw (← ea, eq-eqb (a .number) 0 z, ← eg, ← eb, ne-eqb (b .number) 0 n)
+    judged-size es z n = es ∙ rw (← ea, eq-eqb (a .number) 0 z, ← eb, ne-eqb (b .number) 0 n)
 
     pub judged-rest : a .number ≡ 0 → b .number ≡ 0 → s ≡ judgedInputs q l e inputs → s ≡ judged derived q rs l e inputs L
     unfolding judged
-    judged-rest z y es = es ∙ rw (← ea, eq-eqb (a .number) 0 z, ← eg, ← eb, eq-eqb (b .number) 0 y)
+    judged-rest z y es = es ∙ rw (← ea, eq-eqb (a .number) 0 z, ← eb, eq-eqb (b .number) 0 y)
 
 -- ---- the judgement of the definition
 

@@ -5,7 +5,7 @@ ghost use mathlib.Core.List.{[]};
 ghost use Prim.Native.Nat.{_+_, _*_, _<_, _≤_};
 ghost use lib.Dec.{eqb, ltb};
 ghost use lib.ListN.{length};
-ghost use Rattle.lists.specs.Format.{layoutFiled, sizesFiled, decodeLayout, decodeSizes, decodeStage};
+ghost use Rattle.lists.specs.Format.{layoutFiled, sizesFiled, outFiled, decodeLayout, decodeSizes, decodeStage};
 ghost use Rattle.interface.specs.Format.{decode, decodedNumber, stageAt};
 ghost use Rattle.interface.specs.Reads.{interfaceOf, entryNth, standing};
 ghost use Rattle.interface.specs.Parts.{Placed, Offsets, Heads};
@@ -25,7 +25,6 @@ use interface::choose::find_entry_point;
 use interface::parts::pairs_counted;
 use interface::parts::resources_counted;
 use interface::reads::entry_parts;
-use interface::reads::limits;
 use interface::reads::stage_at;
 use interface::types::Chosen;
 use interface::types::EntryParts;
@@ -88,6 +87,7 @@ fn judge_out(
     depth: bool,
 ) -> Answer
     requires { ⌜ (decodedNumber (decode (now pack)) ≡ 0) × Placed (now pack) parts ⌝ }
+    requires { ⌜ (layoutFiled (now layout) ≡ true) × (outFiled (now inputs) ≡ true) ⌝ }
     requires { ⌜ Summed (now pack) parts outputs × (outWords (standing (now pack) parts) ≤ length (now out)) ⌝ }
     requires { ⌜ Given (now pack) (now offsets) (interfaceOf (decode (now pack))) (standing (now pack) parts) ⌝ }
     ensures { λ r. ⌜ r ≡ judgement (requestWith derived stage topology dual depth) (interfaceOf (decode (now (pack .entry))))
@@ -96,12 +96,10 @@ fn judge_out(
         (inputWalk (requestWith derived stage topology dual depth) (standing (now (pack .entry)) parts) (decodeStage (now (inputs .entry))) .walk)
         (now (out .entry)) ⌝ }
 {
-    let limits = limits(pack);
     let judged = judge(
         pack,
         parts,
         offsets,
-        limits,
         outputs,
         layout,
         inputs,
@@ -135,6 +133,7 @@ fn judge_call(
     depth: u32,
 ) -> Answer
     requires { ⌜ (decodedNumber (decode (now pack)) ≡ 0) × Placed (now pack) parts ⌝ }
+    requires { ⌜ (layoutFiled (now layout) ≡ true) × (outFiled (now inputs) ≡ true) ⌝ }
     requires { ⌜ Given (now pack) (now offsets) (interfaceOf (decode (now pack))) (standing (now pack) parts) ⌝ }
     requires { ⌜ Summed (now pack) parts outputs × (outWords (standing (now pack) parts) ≤ length (now out)) ⌝ }
     ensures { λ r. ⌜ r ≡ judgement (requestWith (eqb mode 1) (stageAt stage) topology (eqb dual 1) (eqb depth 1)) (interfaceOf (decode (now (pack .entry))))
@@ -177,7 +176,7 @@ fn run_body(
     depth: u32,
 ) -> Answer
     requires { ⌜ (decodedNumber (decode (now pack)) ≡ 0) × Placed (now pack) parts ⌝ }
-    requires { ⌜ (layoutFiled (now layout) ≡ true) × (sizesFiled (now sizes) ≡ true) ⌝ }
+    requires { ⌜ (layoutFiled (now layout) ≡ true) × (sizesFiled (now sizes) ≡ true) × (outFiled (now inputs) ≡ true) ⌝ }
     requires { ⌜ Given (now pack) (now offsets) (interfaceOf (decode (now pack))) (standing (now pack) parts) ⌝ }
     requires { ⌜ Summed (now pack) parts outputs × (outWords (standing (now pack) parts) ≤ length (now out)) ⌝ }
     ensures { λ a. ⌜ outcome a (now (layout .exit)) (now (sizes .exit)) (now (out .exit)) ≡ runBody (call (now (pack .entry)) (now (layout .entry)) (now (sizes .entry))
@@ -222,7 +221,7 @@ fn on_entry_point(
 ) -> Answer
     requires { ⌜ (decodedNumber (decode (now pack)) ≡ 0) × Offsets (now pack) (now offsets) × Heads (now pack) (now heads) ⌝ }
     requires { ⌜ position < length (interfaceOf (decode (now pack)) .entries) ⌝ }
-    requires { ⌜ (layoutFiled (now layout) ≡ true) × (sizesFiled (now sizes) ≡ true) ⌝ }
+    requires { ⌜ (layoutFiled (now layout) ≡ true) × (sizesFiled (now sizes) ≡ true) × (outFiled (now inputs) ≡ true) ⌝ }
     ensures { λ a. ⌜ outcome a (now (layout .exit)) (now (sizes .exit)) (now (out .exit)) ≡ onEntryPoint (call (now (pack .entry)) (now (layout .entry)) (now (sizes .entry))
         (now (inputs .entry)) (now (out .entry)) stage [] topology mode dual depth)
         (interfaceOf (decode (now (pack .entry)))) (entryNth (interfaceOf (decode (now (pack .entry))) .entries) position) ⌝ }
@@ -266,7 +265,7 @@ fn on_named(
     depth: u32,
 ) -> Answer
     requires { ⌜ (decodedNumber (decode (now pack)) ≡ 0) × Offsets (now pack) (now offsets) × Heads (now pack) (now heads) ⌝ }
-    requires { ⌜ (layoutFiled (now layout) ≡ true) × (sizesFiled (now sizes) ≡ true) ⌝ }
+    requires { ⌜ (layoutFiled (now layout) ≡ true) × (sizesFiled (now sizes) ≡ true) × (outFiled (now inputs) ≡ true) ⌝ }
     ensures { λ a. ⌜ outcome a (now (layout .exit)) (now (sizes .exit)) (now (out .exit)) ≡ onChosen (call (now (pack .entry)) (now (layout .entry)) (now (sizes .entry))
         (now (inputs .entry)) (now (out .entry)) stage [] topology mode dual depth) (interfaceOf (decode (now (pack .entry))))
         (findEntryPoint (stageAt stage) (now (name .entry)) (interfaceOf (decode (now (pack .entry))) .entries)) ⌝ }

@@ -3,13 +3,14 @@ ghost use mathlib.Core.Path.{_≡_};
 ghost use mathlib.Core.Bool.{true, false};
 ghost use Prim.Native.Nat.{_+_};
 ghost use lib.ListN.{length};
-ghost use Rattle.lists.specs.Format.{decodeLayout, decodeStage};
-ghost use Rattle.interface.specs.Reads.{standing};
+ghost use Rattle.lists.specs.Format.{layoutFiled, outFiled, decodeLayout, decodeStage};
+ghost use Rattle.interface.specs.Format.{decode, decodedNumber};
+ghost use Rattle.interface.specs.Reads.{interfaceOf, standing};
 ghost use Rattle.interface.specs.Parts.{Placed};
 ghost use Rattle.word.specs.Choice.{pick, yes};
 ghost use Rattle.word.specs.Answers.{accepted};
 ghost use Rattle.stage.specs.Given.{resourceTable, Inside, pairsBelow, Summed};
-ghost use Rattle.stage.specs.Interfaces.{walked, startWalk};
+ghost use Rattle.stage.specs.Interfaces.{workgroupStep, walked, startWalk};
 ghost use Rattle.stage.specs.Resources.{pairUses};
 ghost use Rattle.stage.specs.Judging.{request, behindInputs, judgedInputs, judged};
 use crate::inputs::input_steps;
@@ -22,10 +23,10 @@ use crate::types::Walked;
 use crate::workgroup::workgroup_step;
 use interface::parts::inputs_counted;
 use interface::parts::pairs_counted;
+use interface::reads::limits;
 use interface::reads::topology_at;
 use interface::types::EntryParts;
 use interface::types::EntryPointMeshInfo;
-use interface::types::Limits;
 use interface::types::MeshRecord;
 use interface::types::ShaderStage;
 use interface::types::WorkgroupSize;
@@ -77,7 +78,6 @@ fn payload_of(pack: &[u32], parts: EntryParts) -> Payload
 fn after_inputs(
     pack: &[u32],
     parts: EntryParts,
-    limits: Limits,
     outputs: Summary,
     inputs: &[u32],
     stage: ShaderStage,
@@ -86,14 +86,14 @@ fn after_inputs(
     depth: bool,
     walk: InputWalk,
 ) -> Answer
-    requires { ⌜ Placed (now pack) parts × Summed (now pack) parts outputs ⌝ }
-    ensures { λ r. ⌜ r ≡ behindInputs (request stage topology dual depth) limits (standing (now (pack .entry)) parts)
-        (decodeStage (now (inputs .entry))) walk ⌝ }
+    requires { ⌜ (decodedNumber (decode (now pack)) ≡ 0) × Placed (now pack) parts × Summed (now pack) parts outputs ⌝ }
+    ensures { λ r. ⌜ r ≡ behindInputs (request stage topology dual depth) (interfaceOf (decode (now (pack .entry))) .limits)
+        (standing (now (pack .entry)) parts) (decodeStage (now (inputs .entry))) walk ⌝ }
 {
     let places = places_step(
         pack,
         parts,
-        limits,
+        limits(pack),
         outputs,
         stage,
         topology,
@@ -108,14 +108,22 @@ fn after_inputs(
     let payload = payload_of(pack, parts);
     let input = lists::stage_io::payload(inputs);
     let written = lists::stage_io::primitive_index(inputs);
-    last_step(topology, limits, stage, mesh, payload, input, written, walk)
+    last_step(
+        topology,
+        limits(pack),
+        stage,
+        mesh,
+        payload,
+        input,
+        written,
+        walk,
+    )
 }
 
 // The inputs, and what follows them.
 fn judge_inputs(
     pack: &[u32],
     parts: EntryParts,
-    limits: Limits,
     outputs: Summary,
     inputs: &[u32],
     stage: ShaderStage,
@@ -123,9 +131,10 @@ fn judge_inputs(
     dual: bool,
     depth: bool,
 ) -> Walked
-    requires { ⌜ Placed (now pack) parts × Summed (now pack) parts outputs ⌝ }
-    ensures { λ r. ⌜ r ≡ judgedInputs (request stage topology dual depth) limits (standing (now (pack .entry)) parts)
-        (decodeStage (now (inputs .entry))) ⌝ }
+    requires { ⌜ (decodedNumber (decode (now pack)) ≡ 0) × Placed (now pack) parts × Summed (now pack) parts outputs ⌝ }
+    requires { ⌜ outFiled (now inputs) ≡ true ⌝ }
+    ensures { λ r. ⌜ r ≡ judgedInputs (request stage topology dual depth) (interfaceOf (decode (now (pack .entry))) .limits)
+        (standing (now (pack .entry)) parts) (decodeStage (now (inputs .entry))) ⌝ }
 {
     let counts = parts.counts;
     let n = inputs_counted(pack[counts]);
@@ -138,7 +147,6 @@ fn judge_inputs(
     let answer = after_inputs(
         pack,
         parts,
-        limits,
         outputs,
         inputs,
         stage,
@@ -158,7 +166,7 @@ fn pair_step(
     layout: &[u32],
     derived: bool,
 ) -> Answer
-    requires { ⌜ Placed (now pack) parts × Inside (now pack) (now offsets) ⌝ }
+    requires { ⌜ Placed (now pack) parts × Inside (now pack) (now offsets) × (layoutFiled (now layout) ≡ true) ⌝ }
     requires { ⌜ pairsBelow (length (resourceTable (now pack) (now offsets))) (standing (now pack) parts .pairs) ≡ true ⌝ }
     ensures { λ r. ⌜ r ≡ pick (yes derived) accepted (pairUses (decodeLayout (now (layout .entry)))
         (resourceTable (now (pack .entry)) (now (offsets .entry))) (standing (now (pack .entry)) parts .pairs)) ⌝ }
@@ -171,12 +179,20 @@ fn pair_step(
     pair_uses(layout, pack, offsets, parts.pairs, n)
 }
 
+// The workgroup size of an entry point against the limits of its stage.
+fn size_step(pack: &[u32], parts: EntryParts, stage: ShaderStage) -> Answer
+    requires { ⌜ (decodedNumber (decode (now pack)) ≡ 0) × Placed (now pack) parts ⌝ }
+    ensures { λ r. ⌜ r ≡ workgroupStep stage (standing (now (pack .entry)) parts .workgroup) (interfaceOf (decode (now (pack .entry))) .limits) ⌝ }
+{
+    let size = workgroup_of(pack, parts);
+    workgroup_step(stage, size, limits(pack))
+}
+
 // All steps behind the resources: the walk over the inputs, and the answer.
 pub(crate) fn judge(
     pack: &[u32],
     parts: EntryParts,
     offsets: &[u16],
-    limits: Limits,
     outputs: Summary,
     layout: &[u32],
     inputs: &[u32],
@@ -186,31 +202,21 @@ pub(crate) fn judge(
     dual: bool,
     depth: bool,
 ) -> Walked
-    requires { ⌜ Placed (now pack) parts × Summed (now pack) parts outputs × Inside (now pack) (now offsets) ⌝ }
+    requires { ⌜ (decodedNumber (decode (now pack)) ≡ 0) × Placed (now pack) parts × Summed (now pack) parts outputs × Inside (now pack) (now offsets) ⌝ }
+    requires { ⌜ (layoutFiled (now layout) ≡ true) × (outFiled (now inputs) ≡ true) ⌝ }
     requires { ⌜ pairsBelow (length (resourceTable (now pack) (now offsets))) (standing (now pack) parts .pairs) ≡ true ⌝ }
-    ensures { λ r. ⌜ r ≡ judged derived (request stage topology dual depth) (resourceTable (now (pack .entry)) (now (offsets .entry))) limits
-        (standing (now (pack .entry)) parts) (decodeStage (now (inputs .entry))) (decodeLayout (now (layout .entry))) ⌝ }
+    ensures { λ r. ⌜ r ≡ judged derived (request stage topology dual depth) (resourceTable (now (pack .entry)) (now (offsets .entry)))
+        (interfaceOf (decode (now (pack .entry))) .limits) (standing (now (pack .entry)) parts) (decodeStage (now (inputs .entry))) (decodeLayout (now (layout .entry))) ⌝ }
 {
     let pairs = pair_step(pack, parts, offsets, layout, derived);
     if pairs.number != 0 {
         return stopped(pairs);
     }
-    let workgroup = workgroup_of(pack, parts);
-    let size = workgroup_step(stage, workgroup, limits);
+    let size = size_step(pack, parts, stage);
     if size.number != 0 {
         return stopped(size);
     }
-    judge_inputs(
-        pack,
-        parts,
-        limits,
-        outputs,
-        inputs,
-        stage,
-        topology,
-        dual,
-        depth,
-    )
+    judge_inputs(pack, parts, outputs, inputs, stage, topology, dual, depth)
 }
 
 // A walk that was not begun.

@@ -8,6 +8,6 @@ judge-call-spec =
     tie.close
     (tie.spec
     (λ c κs. search needs)  -- stage-at-requires
-    (λ c κs. search needs)  -- judge-out-requires
+    (λ c κs. (search needs, (search needs, (search needs, search needs))))  -- judge-out-requires
     (λ c. search needs)  -- same-length
     (λ c. (search judged-by, search out-by)))  -- returns

@@ -7,8 +7,7 @@ pub judge-out-spec : {M : Type 1} → statement M
 judge-out-spec =
     tie.close
     (tie.spec
-    (λ c κs. search needs)  -- limits-requires
-    (λ c κs. (search needs, search table-pairs))  -- judge-requires
+    (λ c κs. (search needs, (search needs, search table-pairs)))  -- judge-requires
     (λ c. (search judged-is, search judged-none))  -- returns
     (λ c κs. (search needs, (search table-outputs, search needs)))  -- list-out-requires
     (λ c. search needs)  -- same-length

@@ -11,7 +11,7 @@ run-body-spec =
     (λ c. search needs)  -- same-length
     (λ c. search needs)  -- same-length-2
     (λ c. search body-refused)  -- returns
-    (λ c κs. search needs)  -- judge-out-requires
+    (λ c κs. (search needs, (search needs, (search needs, search needs))))  -- judge-call-requires
     (λ c. search needs)  -- same-length-3
     (λ c. search needs)  -- same-length-4
     (λ c. search needs)  -- same-length-5

@@ -10,8 +10,7 @@ judge-spec =
     (λ c κs. search needs)  -- pair-step-requires
     (λ c κs. search needs)  -- stopped-requires
     (λ c. search judged-pair)  -- returns
-    (λ c κs. search needs)  -- workgroup-of-requires
-    (λ c κs. search needs)  -- workgroup-step-requires
+    (λ c κs. search needs)  -- size-step-requires
     (λ c κs. search needs)  -- stopped-requires-2
     (λ c. search judged-size)  -- returns-2
     (λ c κs. search needs)  -- judge-inputs-requires
