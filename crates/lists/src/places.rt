@@ -74,7 +74,7 @@ pub(crate) fn find_within(l: &[u32], from: usize, n: usize, width: usize, conten
 }
 
 // Which of the records from a position on has the place that a word tells.
-pub(crate) fn find_word(l: &[u32], from: usize, n: usize, width: usize, place: u32) -> Found
+fn find_word(l: &[u32], from: usize, n: usize, width: usize, place: u32) -> Found
     requires { ⌜ (from < 2 ^ 32) × (n < 2 ^ 32) × (width ≤ 4) ⌝ }
     ensures { λ r. ⌜ r ≡ placeFrom (placeOf place) (places width n (drop from (now (l .entry)))) 0 ⌝ }
     ensures { λ r. ⌜ foundBelow n r ≡ true ⌝ }
