@@ -1,21 +1,23 @@
 -- Places with a mark, and places distinct from some record on.
-use Prim.Native.Nat.{ℕ, zero, suc, _+_, _-_, _*_, _%_, _<_, _≤_}
+use Prim.Native.Nat.{ℕ, zero, suc, _+_, _-_, _*_, _/_, _%_, _^_, _<_, _≤_, max}
 use native.Mathlib.Omega.{arith}
 use native.Mathlib.Nat.{mul-suc, mul-zero, mul-add, mul-le-mul-left, mul-le-mul-right}
-use mathlib.Core.Path.{_≡_, refl, sym, ap, _∙_}
-use mathlib.Core.Bool.{Bool, true, false}
+use mathlib.Core.Path.{_≡_, refl, sym, ap, ap₂, _∙_}
+use mathlib.Core.Bool.{Bool, true, false, false≢true}
 use mathlib.Core.List.{List, [], _∷_}
 use lib.Dec.{eqb}
 use lib.ListN.{length, drop, getD, set}
 use lib.Seq.{getD-set-same, getD-set-other}
-use borrow.Author.Tests.{eqb-true, eqb-false}
-use Rattle.word.specs.Words.{wordAt}
-use Rattle.word.proofs.Truth.{by-test}
+use lib.Pow.{pow-lt, shl-shr}
+use lib.Bits.{bitOr, or-shr, or-step}
+use borrow.Author.Tests.{eqb-true, eqb-false, eq-eqb, ne-eqb}
+use Rattle.word.specs.Words.{wordAt, bits}
+use Rattle.word.proofs.Truth.{by-test, never}
 use Rattle.resource.specs.Format.{placeOf}
 use Rattle.resource.specs.declared.types.ResourceBinding.{ResourceBinding}
 use Rattle.lists.specs.Meaning.{samePlace, placeIn, distinctPlaces, every}
-use Rattle.lists.specs.Marks.{slot, marked}
-use Rattle.lists.specs.Format.{countOf, readPlace, places}
+use Rattle.lists.specs.Marks.{slot, marked, bitOf, taken}
+use Rattle.lists.specs.Format.{records, countOf, readPlace, places}
 use Rattle.lists.proofs.Words.{here}
 use Rattle.lists.proofs.PlaceLaws.{same-place-eq}
 use Rattle.lists.proofs.PlaceWays.{content-place}
@@ -23,20 +25,27 @@ use Rattle.lists.proofs.Records.{first-passes, rest-passes, one-less, l
 
 -- ---- marks
 
--- a place without its mark is none of those that have theirs
-pub unmarked : (marks : List ℕ) (p : ResourceBinding) (ps : List ResourceBinding) (s : ℕ) → every (marked marks) ps ≡ true → s ≡ slot p → getD marks s 0 ≡ 0
-    → false ≡ placeIn p ps
-unfolding placeIn every marked
-unmarked marks p [] s h e z = refl
-unmarked marks p (q ∷ ps) s h e z =
-    let m : marked marks q ≡ true = first-passes (marked marks q) (every (marked marks) ps) h in
-    let r : false ≡ placeIn p ps = unmarked marks p ps s (rest-passes (marked marks q) (every (marked marks) ps) h) e z in
-    by-test (samePlace q p)
-    (λ t.
-    let o : getD marks (slot q) 0 ≡ 1 = eqb-true (getD marks (slot q) 0) 1 m in
-    let w : getD marks (slot q) 0 ≡ 0 = rw (same-place-eq q p t, ← e) z in
-    absurd (omega arith))
-    (λ f. rw f r)
+-- a place that fails a test which others pass is none of them
+pub unmarked : (test : ResourceBinding → Bool) (p : ResourceBinding) (ps : List ResourceBinding) → every test ps ≡ true → test p ≡ false → false ≡ placeIn p ps
+unfolding placeIn every
+unmarked test p [] h z = refl
+unmarked test p (q ∷ ps) h z =
+    let m : test q ≡ true = first-passes (test q) (every test ps) h in
+    let r : false ≡ placeIn p ps = unmarked test p ps (rest-passes (test q) (every test ps) h) z in
+    by-test (samePlace q p) (λ t. never (test p) (rw (← same-place-eq q p t) m) z) (λ f. rw f r)
+
+-- places that pass a test pass one that asks no more
+marks-stay : (test more : ResourceBinding → Bool) (ps : List ResourceBinding) → ((p : ResourceBinding) → test p ≡ true → more p ≡ true)
+    → every test ps ≡ true → every more ps ≡ true
+unfolding every
+marks-stay test more [] h t = refl
+marks-stay test more (p ∷ ps) h t =
+    rw (h p (first-passes (test p) (every test ps) t), marks-stay test more ps h (rest-passes (test p) (every test ps) t))
+
+-- a table of marks
+pub mark-lacks : (marks : List ℕ) (p : ResourceBinding) (s : ℕ) → s ≡ slot p → getD marks s 0 ≡ 0 → marked marks p ≡ false
+unfolding marked
+mark-lacks marks p s e z = rw (← e, z)
 
 module _ (marks : List ℕ) (s : ℕ) (h : s < length marks) where
   mark-there : (p : ResourceBinding) → s ≡ slot p → marked (set marks s 1) p ≡ true
@@ -49,14 +58,37 @@ module _ (marks : List ℕ) (s : ℕ) (h : s < length marks) where
       by-test (eqb (slot p) s) (λ t. mark-there p (sym (eqb-true (slot p) s t)))
       (λ f. rw (getD-set-other marks s (slot p) 1 0 (eqb-false (slot p) s f)) m)
 
-  marks-stay : (ps : List ResourceBinding) → every (marked marks) ps ≡ true → every (marked (set marks s 1)) ps ≡ true
-  unfolding every
-  marks-stay [] t = refl
-  marks-stay (p ∷ ps) t =
-      rw (
-        mark-stays p (first-passes (marked marks p) (every (marked marks) ps) t),
-        marks-stay ps (rest-passes (marked marks p) (every (marked marks) ps) t),
-      )
+-- bits
+turned : (x y k : ℕ) → (x + (128 * k + y)) % 64 ≡ (x + y) % 64
+turned x y k = omega arith
+
+pub bit-is : (w : ℕ) → (w % 64 + w / 0x10_0000) % 64 ≡ bitOf (placeOf w)
+bit-is w =
+    let u : w % 64 ≡ bits 22 0 w % 64 = omega arith in
+    let h : w / 0x10_0000 ≡ 8 * (w / 0x80_0000) + bits 22 0 w / 2 ^ 20 = omega arith in
+    let g : w / 0x80_0000 ≡ 16 * (w / 0x800_0000) + bits 26 23 w = omega arith in
+    let v : w / 0x10_0000 ≡ 128 * (w / 0x800_0000) + (8 * bits 26 23 w + bits 22 0 w / 2 ^ 20) = omega arith in
+    ap₂ (λ x y. (x + y) % 64) u v ∙ turned (bits 22 0 w % 64) (8 * bits 26 23 w + bits 22 0 w / 2 ^ 20) (w / 0x800_0000)
+
+pub bit-lacks : (mask : ℕ) (p : ResourceBinding) (b : ℕ) → b ≡ bitOf p → (mask / 2 ^ b % 2 ≡ 1 → ⊥) → taken mask p ≡ false
+unfolding taken
+bit-lacks mask p b e z = rw (← e) (ne-eqb (mask / 2 ^ b % 2) 1 z)
+
+or-bit : (a b k : ℕ) → bitOr a b / 2 ^ k % 2 ≡ max (a / 2 ^ k % 2) (b / 2 ^ k % 2)
+or-bit a b k = rw (or-shr a b k) (omega (arith, or-step (a / 2 ^ k) (b / 2 ^ k)))
+
+module _ (mask b : ℕ) (h : b < 64) where
+  bit-there : (p : ResourceBinding) → b ≡ bitOf p → taken (bitOr mask (1 * 2 ^ b % 2 ^ 64)) p ≡ true
+  unfolding taken
+  bit-there p e =
+      let s : 1 * 2 ^ b % 2 ^ 64 ≡ 1 * 2 ^ b = omega (arith, pow-lt h) in
+      rw (← e, s) (eq-eqb (bitOr mask (1 * 2 ^ b) / 2 ^ b % 2) 1 (omega (arith, or-bit mask (1 * 2 ^ b) b, shl-shr 1 b)))
+
+  bit-stays : (p : ResourceBinding) → taken mask p ≡ true → taken (bitOr mask (1 * 2 ^ b % 2 ^ 64)) p ≡ true
+  unfolding taken
+  bit-stays p t =
+      let o : mask / 2 ^ bitOf p % 2 ≡ 1 = eqb-true (mask / 2 ^ bitOf p % 2) 1 t in
+      eq-eqb (bitOr mask (1 * 2 ^ b % 2 ^ 64) / 2 ^ bitOf p % 2) 1 (omega (arith, or-bit mask (1 * 2 ^ b % 2 ^ 64) (bitOf p)))
 
 -- ---- positions
 
@@ -128,12 +160,20 @@ module _ (width n left at : ℕ) (l : List ℕ) (fits : left ≤ n) (e : at ≡ 
       let a : at - width + width ≡ at = omega (arith, record-fits width at left e h) in
       left-cons width readPlace l (n - (left - 1)) (at - width) z ∙ rw (here l (at - width), content-place (wordAt l (at - width)), k, a)
 
+  all-onward : (test more : ResourceBinding → Bool) → ((q : ResourceBinding) → test q ≡ true → more q ≡ true) → more p ≡ true
+      → every test (places width (n - left) (drop at l)) ≡ true → every more (places width (n - (left - 1)) (drop (at - width) l)) ≡ true
+  unfolding every
+  all-onward test more s m t = rw (one-more, m) (marks-stay test more (places width (n - left) (drop at l)) s t)
+
   pub marks-onward : (marks : List ℕ) (s : ℕ) → s ≡ slot p → s < 1024 → length marks ≡ 1024 → every (marked marks) (places width (n - left) (drop at l)) ≡ true
       → every (marked (set marks s 1)) (places width (n - (left - 1)) (drop (at - width) l)) ≡ true
-  unfolding every
   marks-onward marks s es b m t =
       let k : s < length marks = omega arith in
-      rw (one-more, mark-there marks s k p es) (marks-stay marks s k (places width (n - left) (drop at l)) t)
+      all-onward (marked marks) (marked (set marks s 1)) (mark-stays marks s k) (mark-there marks s k p es) t
+
+  pub bits-onward : (mask b : ℕ) → b ≡ bitOf p → b < 64 → every (taken mask) (places width (n - left) (drop at l)) ≡ true
+      → every (taken (bitOr mask (1 * 2 ^ b % 2 ^ 64))) (places width (n - (left - 1)) (drop (at - width) l)) ≡ true
+  bits-onward mask b e h t = all-onward (taken mask) (taken (bitOr mask (1 * 2 ^ b % 2 ^ 64))) (bit-stays mask b h) (bit-there mask b h p e) t
 
   module _ (b : Bool) (eb : b ≡ placeIn p (places width (n - left) (drop at l))) where
     pub marked-twice : n ≡ countOf l → b ≡ true → false ≡ distinctPlaces (places width (countOf l) (drop 1 l))
@@ -148,9 +188,31 @@ module _ (width n left at : ℕ) (l : List ℕ) (fits : left ≤ n) (e : at ≡ 
     unfolding distinctPlaces
     marked-onward f d = rw (one-more, ← eb, f) d
 
+  pub bits-apart : (mask b : ℕ) → b ≡ bitOf p → (mask / 2 ^ b % 2 ≡ 1 → ⊥) → every (taken mask) (places width (n - left) (drop at l)) ≡ true
+      → distinctPlaces (places width (n - left) (drop at l)) ≡ true → distinctPlaces (places width (n - (left - 1)) (drop (at - width) l)) ≡ true
+  bits-apart mask b e z t = marked-onward false (unmarked (taken mask) p (places width (n - left) (drop at l)) t (bit-lacks mask p b e z)) refl
+
 pub marked-ended : (width n left at : ℕ) (l : List ℕ) → n ≡ countOf l → at ≡ 1 + width * left → left ≡ 0
     → distinctPlaces (places width (n - left) (drop at l)) ≡ true → true ≡ distinctPlaces (places width (countOf l) (drop 1 l))
 marked-ended width n left at l en e h d =
     let a : at ≡ 1 = e ∙ rw (h, mul-zero) in
     let k : n - left ≡ countOf l = omega arith in
     sym (rw (k, a) at d)
+
+-- ---- a list of a few records
+
+pub differ-not : (A : Type 0) → false ≡ true → A
+differ-not A h = absurd (false≢true h)
+
+pub differ-all : (width n left at : ℕ) (l : List ℕ) → n ≡ countOf l → at ≡ 1 + width * left → left ≡ 0
+    → distinctPlaces (places width (n - left) (drop at l)) ≡ true → true ≡ true → distinctPlaces (places width (countOf l) (drop 1 l)) ≡ true
+differ-all width n left at l en e h d t = sym (marked-ended width n left at l en e h d)
+
+pub differ-distinct : (b d : Bool) → (b ≡ true → d ≡ true) → b ≡ true → true ≡ d
+differ-distinct b d h t = sym (h t)
+
+pub few-distinct : (width n c : ℕ) (ws : List ℕ) → n ≡ c → n < 2 → true ≡ distinctPlaces (places width c ws)
+unfolding distinctPlaces records placeIn
+few-distinct width n zero ws e h = refl
+few-distinct width n (suc zero) ws e h = refl
+few-distinct width n (suc (suc c)) ws e h = absurd (omega arith)

@@ -13,7 +13,7 @@ use Rattle.word.proofs.Truth.{by-test}
 use Rattle.resource.specs.Format.{placeOf, placeWord, placeHeld}
 use Rattle.resource.specs.declared.types.ResourceBinding.{ResourceBinding}
 use Rattle.resource.proofs.EntryFormat.{place-read}
-use Rattle.lists.specs.Meaning.{samePlace, placeFrom, placeIn, distinctPlaces}
+use Rattle.lists.specs.Meaning.{samePlace, placeFrom, placeIn}
 use Rattle.lists.specs.Format.{readPlace, places}
 use Rattle.lists.specs.declared.types.Found.{Found}
 use Rattle.lists.specs.declared.types.Found.the-variants.{At, Nothing}
@@ -99,17 +99,6 @@ module _ (width n m : ℕ) where
         let s : width * (n - i) ≡ width * (n - (i + 1)) + width = rw e at (one-less width (n - i) (λ z. omega arith)) in
         omega arith
 
--- the records that are counted, and those that are left with their first
-pub counted-within : (width n k m : ℕ) → n ≡ k → 1 + width * k ≤ m → 1 + width * n ≤ m
-counted-within width n k m e h = rw e h
-
-module _ (width at left m : ℕ) (h : at + width * left ≤ m) (z : left ≡ 0 → ⊥) where
-  pub left-within : 0 < width → at < m
-  left-within o = omega (arith, one-less width left z)
-
-  pub left-onward : at + width + width * (left - 1) ≤ m
-  left-onward = omega (arith, one-less width left z)
-
 module _ (width n m : ℕ) (w : width ≤ 4) (h : n < 2 ^ 32) (k : 2 ^ 60 ≤ m) where
   pub sought-fit : width * n < m
   sought-fit = let q : width * n ≤ 4 * n = mul-le-mul-right n w in omega arith
@@ -157,25 +146,6 @@ module _ (place : ResourceBinding) (ps : List ResourceBinding) (f : Found) (e : 
 
   pub place-lacks : f ≡ Nothing → false ≡ placeIn place ps
   place-lacks h = rw (sought-in place ps 0, ← e, h)
-
--- ---- distinct places
-
-pub distinct-begins : (width m n : ℕ) (ws : List ℕ) → n ≡ m → distinctPlaces (places width m ws) ≡ distinctPlaces (places width n ws)
-distinct-begins width m n ws e = rw e
-
-module _ (width : ℕ) (l : List ℕ) (k at : ℕ) (goal : Bool) (inv : goal ≡ distinctPlaces (places width k (drop at l))) where
-  module _ (b : Bool) (h : k ≡ 0 → ⊥) (eb : b ≡ placeIn (placeOf (wordAt l at % 0x800_0000)) (places width (k - 1) (drop (at + width) l))) where
-    pub distinct-twice : b ≡ true → false ≡ goal
-    unfolding distinctPlaces
-    distinct-twice t = sym (inv ∙ rw (left-cons width readPlace l k at h, here l at, ← content-place (wordAt l at), ← eb, t))
-
-    pub distinct-onward : b ≡ false → goal ≡ distinctPlaces (places width (k - 1) (drop (at + width) l))
-    unfolding distinctPlaces
-    distinct-onward t = inv ∙ rw (left-cons width readPlace l k at h, here l at, ← content-place (wordAt l at), ← eb, t)
-
-  pub distinct-ended : k ≡ 0 → true ≡ goal
-  unfolding distinctPlaces
-  distinct-ended h = sym (inv ∙ rw (left-none width readPlace k (drop at l) h))
 
 -- ---- the place at a position
 

@@ -139,6 +139,9 @@ module _ (s : List ℕ) (place : ResourceBinding) (size n : ℕ) (f : sizesFiled
 pub head-there : (s : List ℕ) → sizesFiled s ≡ true → 1 ≤ length s
 head-there s f = omega (arith, filed s f .holds)
 
+pub records-within : (s : List ℕ) (n : ℕ) → sizesFiled s ≡ true → n ≡ countOf s → 1 + 2 * n ≤ length s
+records-within s n f e = omega (arith, filed s f .holds)
+
 pub head-more : (s : List ℕ) (w : ℕ) → sizesFiled s ≡ true → w ≡ wordAt s 0 → w + 1 < 2 ^ 32
 head-more s w f e = let k : kindOf w ≡ 20 = rw e (filed s f .kind) in omega arith
 

@@ -6,7 +6,7 @@ ghost use lib.ListN.{length, drop};
 ghost use Rattle.word.specs.Words.{wordAt};
 ghost use Rattle.resource.specs.Format.{placeOf, placeHeld};
 ghost use Rattle.lists.specs.Meaning.{samePlace, placeFrom, placeIn, distinctPlaces, foundBelow, every};
-ghost use Rattle.lists.specs.Marks.{slot, marked};
+ghost use Rattle.lists.specs.Marks.{slot, marked, bitOf};
 ghost use Rattle.lists.specs.Format.{countOf, places};
 use crate::heads::counted;
 use crate::types::Found;
@@ -74,7 +74,7 @@ pub(crate) fn find_within(l: &[u32], from: usize, n: usize, width: usize, conten
 }
 
 // Which of the records from a position on has the place that a word tells.
-pub(crate) fn find_word(l: &[u32], from: usize, n: usize, width: usize, place: u32) -> Found
+fn find_word(l: &[u32], from: usize, n: usize, width: usize, place: u32) -> Found
     requires { ⌜ (from < 2 ^ 32) × (n < 2 ^ 32) × (width ≤ 4) ⌝ }
     ensures { λ r. ⌜ r ≡ placeFrom (placeOf place) (places width n (drop from (now (l .entry)))) 0 ⌝ }
     ensures { λ r. ⌜ foundBelow n r ≡ true ⌝ }
@@ -115,24 +115,6 @@ fn has_place(l: &[u32], from: usize, n: usize, width: usize, content: u32) -> bo
         Found::At { index: _ } => true,
         Found::Nothing => false,
     }
-}
-
-// Whether no two records have one place: each is compared with all behind it.
-fn distinct_pairs(l: &[u32], width: usize) -> bool
-    requires { ⌜ (0 < width) × (width ≤ 4) × (1 + width * countOf (now l) ≤ length (now l)) ⌝ }
-    ensures { λ r. ⌜ r ≡ distinctPlaces (places width (countOf (now (l .entry))) (drop 1 (now (l .entry)))) ⌝ }
-{
-    let mut at: usize = 1;
-    let mut left = counted(l);
-    while left != 0 {
-        let content = l[at] % 0x800_0000;
-        at += width;
-        left -= 1;
-        if has_place(l, at, left, width, content) {
-            return false;
-        }
-    }
-    true
 }
 
 // Where the place that a word's content tells has its mark.
@@ -187,13 +169,48 @@ fn distinct_marked(l: &[u32], width: usize) -> bool
     true
 }
 
-// Whether no two records have one place, where all lie within the slice. Marks pay where there are more than a few.
+// Which of 64 bits the place that a word's content tells has.
+fn bit_of(content: u32) -> u32
+    ensures { λ r. ⌜ r ≡ bitOf (placeOf content) ⌝ }
+    ensures { λ r. ⌜ r < 64 ⌝ }
+{
+    (content % 64 + content / 0x10_0000) % 64
+}
+
+// Whether each record has a bit of its own. Then no two have one place.
+fn bits_differ(l: &[u32], width: usize) -> bool
+    requires { ⌜ (0 < width) × (width ≤ 4) × (1 + width * countOf (now l) ≤ length (now l)) ⌝ }
+    ensures { λ r. ⌜ (r ≡ true → distinctPlaces (places width (countOf (now (l .entry))) (drop 1 (now (l .entry)))) ≡ true) ⌝ }
+{
+    let n = counted(l);
+    let mut mask: u64 = 0;
+    let mut at = 1 + width * n;
+    let mut left = n;
+    while left != 0 {
+        at -= width;
+        let bit = bit_of(l[at] % 0x800_0000);
+        if (mask >> bit) % 2 == 1 {
+            return false;
+        }
+        mask = mask | (1 << bit);
+        left -= 1;
+    }
+    true
+}
+
+// Whether no two records have one place, where all lie within the slice. The places of a few mostly have bits that differ.
 pub(crate) fn distinct_places(l: &[u32], width: usize) -> bool
     requires { ⌜ (0 < width) × (width ≤ 4) × (1 + width * countOf (now l) ≤ length (now l)) ⌝ }
     ensures { λ r. ⌜ r ≡ distinctPlaces (places width (countOf (now (l .entry))) (drop 1 (now (l .entry)))) ⌝ }
 {
-    if counted(l) <= 6 {
-        return distinct_pairs(l, width);
+    let n = counted(l);
+    if n < 2 {
+        return true;
+    }
+    if n <= 32 {
+        if bits_differ(l, width) {
+            return true;
+        }
     }
     distinct_marked(l, width)
 }

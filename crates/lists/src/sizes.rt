@@ -9,12 +9,13 @@ ghost use Rattle.lists.specs.Meaning.{sizeHas, sizeFits, recorded};
 ghost use Rattle.lists.specs.Format.{countOf, each, sizeGood, sizesHead, sizesFiled, decodeSizes, encodeSizes};
 use crate::heads::counted;
 use crate::places::distinct_places;
-use crate::places::find_word;
+use crate::places::find_within;
 use crate::stores::raise_word;
 use crate::stores::store_two;
 use crate::types::Found;
 use resource::resource_words::place_word;
 use resource::types::ResourceBinding;
+use word::content;
 use word::word;
 
 fn sizes_head(l: &[u32]) -> bool
@@ -103,7 +104,7 @@ pub fn record_words(s: &mut [u32], place: u32, size: u32) -> bool
     ensures { λ r. ⌜ decodeSizes (now (s .exit)) ≡ recorded (placeOf place) (contentOf size) (decodeSizes (now (s .entry))) ⌝ }
     ensures { λ r. ⌜ sizesFiled (now (s .exit)) ≡ true ⌝ }
 {
-    match find_word(s, 1, counted(s), 2, place) {
+    match find_within(s, 1, counted(s), 2, content(place)) {
         Found::At { index } => {
             raise_word(s, 2 * index + 2, size);
             true

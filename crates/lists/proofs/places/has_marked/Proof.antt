@@ -1,5 +1,5 @@
 use borrow.Author.Needs.{needs}
-use Rattle.lists.proofs.MarkLaws.{unmarked}
+use Rattle.lists.proofs.MarkLaws.{unmarked, mark-lacks}
 use Rattle.lists.proofs.places.has_marked.Statement.{statement}
 use Rattle.lists.proofs.places.has_marked.Tie as tie
 
@@ -9,6 +9,6 @@ has-marked-spec =
     (tie.spec
     (λ c κs. search needs)  -- slot-of-requires
     (λ c. search needs)  -- element-copy-out-if1
-    (λ c. search unmarked)  -- returns
+    (λ c. search (unmarked, mark-lacks))  -- returns
     (λ c κs. search needs)  -- has-place-requires
     (λ c. search needs))  -- returns-2

@@ -1,4 +1,5 @@
-use Rattle.lists.proofs.SizeStores.{head-there, index-inside, index-scaled, index-placed, size-lacks, size-fits, size-raised, record-decoded, record-filed, raised-filed}
+use Rattle.lists.proofs.PlaceWays.{content-tells}
+use Rattle.lists.proofs.SizeStores.{head-there, records-within, index-inside, index-scaled, index-placed, size-lacks, size-fits, size-raised, record-decoded, record-filed, raised-filed}
 use borrow.Author.Needs.{needs}
 use Rattle.lists.proofs.sizes.record_words.Statement.{statement}
 use Rattle.lists.proofs.sizes.record_words.Tie as tie
@@ -8,14 +9,15 @@ record-words-spec =
     tie.close
     (tie.spec
     (λ c κs. search head-there)  -- counted-requires
-    (λ c κs. search needs)  -- find-word-requires
+    (λ c κs. search needs)  -- content-requires
+    (λ c κs. (search needs, (search needs, search records-within, search needs)))  -- find-within-requires
     (λ c. search needs)  -- enum-known-index
     (λ c. search index-scaled)  -- mul-raise-word
     (λ c. search index-placed)  -- add-raise-word
     (λ c κs. search index-inside)  -- raise-word-requires
     (λ c. search needs)  -- enum-told
-    (λ c κs. (search needs, (search needs, search size-lacks)))  -- push-size-requires
+    (λ c κs. (search needs, (search needs, search (size-lacks, content-tells))))  -- push-size-requires
     (λ c. search needs)  -- same-length
-    (λ c. (search size-fits, (search size-raised, (search (record-decoded, size-raised), search raised-filed))))  -- returns
+    (λ c. (search (size-fits, content-tells), (search (size-raised, content-tells), (search (record-decoded, size-raised, content-tells), search raised-filed))))  -- returns
     (λ c. search needs)  -- same-length-2
     (λ c. (search needs, (search needs, (search record-decoded, search record-filed)))))  -- returns-2
