@@ -1,11 +1,11 @@
 -- A variable put into a stage list by its location, over its meaning.
-use Prim.Native.Nat.{ℕ, suc, _+_, _<_, _≤_}
+use Prim.Native.Nat.{ℕ, zero, suc, _+_, _<_, _≤_}
 use native.Mathlib.Omega.{arith}
 use mathlib.Core.Path.{_≡_, refl, sym, ap, _∙_}
 use mathlib.Core.Bool.{Bool, true, false}
 use mathlib.Core.List.{List, [], _∷_, _++_}
 use lib.Dec.{eqb, ltb}
-use lib.ListN.{length}
+use lib.ListN.{length, getD}
 use borrow.Author.Tests.{eqb-true, eqb-false, ltb-true, ltb-false, eq-eqb, ne-eqb, lt-ltb, le-ltb}
 use Rattle.word.specs.Choice.{pick}
 use Rattle.varying.specs.Format.{locatedHeld}
@@ -153,6 +153,23 @@ insert-beside v location (w ∷ vs) n =
     (λ b. rw (insert-before v w vs b, other))
     (λ e. rw (insert-over v w vs e, other, ne-eqb (w .location) location (λ q. n (e ∙ q))))
     (λ a. rw (insert-behind v w vs (omega arith) (λ e. omega arith), insert-beside v location vs n))
+
+-- ---- of rising locations, each is found at its position
+
+nth-above : (v : Located) (vs : List Located) (i : ℕ) (d : Located) → rising (v ∷ vs) ≡ true → i < length vs → v .location < getD vs i d .location
+nth-above v [] i d h k = absurd (omega arith)
+nth-above v (w ∷ vs) zero d h k = ltb-true (v .location) (w .location) (rising-first v (w ∷ vs) h)
+nth-above v (w ∷ vs) (suc i) d h k =
+    omega (arith, ltb-true (v .location) (w .location) (rising-first v (w ∷ vs) h), nth-above w vs i d (rising-rest v (w ∷ vs) h) (omega arith))
+
+pub varying-nth : (vs : List Located) (i : ℕ) (d : Located) → rising vs ≡ true → i < length vs → varyingAt (getD vs i d .location) vs ≡ Pro.Var (getD vs i d .var)
+unfolding varyingAt
+varying-nth [] i d h k = absurd (omega arith)
+varying-nth (v ∷ vs) zero d h k = rw (eq-eqb (v .location) (v .location) refl)
+varying-nth (v ∷ vs) (suc i) d h k =
+    let m : i < length vs = omega arith in
+    let a = nth-above v vs i d h m in
+    rw (ne-eqb (v .location) (getD vs i d .location) (λ e. omega arith)) (varying-nth vs i d (rising-rest v vs h) m)
 
 -- ---- the rules stay
 

@@ -78,6 +78,13 @@ head-there ws f = omega (arith, filed ws f .holds)
 pub entries-within : (ws : List ℕ) (n : ℕ) → layoutFiled ws ≡ true → n ≡ countOf ws → 1 + 4 * n ≤ length ws
 entries-within ws n f e = omega (arith, filed ws f .holds)
 
+pub near-inside : (ws : List ℕ) (n i : ℕ) → layoutFiled ws ≡ true → n ≡ countOf ws → i < n → 1 + 4 * i < length ws
+near-inside ws n i f e h = omega (arith, entries-within ws n f e)
+
+-- a list of 1,024 words has at most 255 entries
+pub layout-few : (ws : List ℕ) → layoutFiled ws ≡ true → length (decodeLayout ws .entries) ≤ 255
+layout-few ws f = omega (arith, filed ws f .holds, filed ws f .short, entries-counted ws)
+
 pub head-more : (ws : List ℕ) (w : ℕ) → layoutFiled ws ≡ true → w ≡ wordAt ws 0 → w + 1 < 2 ^ 32
 head-more ws w f e = let k : kindOf w ≡ 17 = rw e (filed ws f .kind) in omega arith
 
@@ -124,6 +131,10 @@ module _ (l : List ℕ) (i : ℕ) (h : i < length (decodeLayout l .entries)) whe
 -- ---- positions of an entry's words
 
 module _ (l : List ℕ) (i : ℕ) (f : layoutFiled l ≡ true) (h : i < length (decodeLayout l .entries)) where
+  -- a position fits a byte
+  pub index-few : i < 2 ^ 8
+  index-few = omega (arith, layout-few l f)
+
   pub index-inside : 4 * i + 4 < length l
   index-inside = omega (arith, filed l f .holds, entries-counted l)
 

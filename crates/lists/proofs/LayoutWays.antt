@@ -1,22 +1,26 @@
 -- The code's ways through a layout list.
-use Prim.Native.Nat.{ℕ, zero, suc, _+_, _*_, _<_, _≤_}
+use Prim.Native.Nat.{ℕ, zero, suc, _+_, _*_, _%_, _<_, _≤_}
 use native.Mathlib.Omega.{arith}
-use mathlib.Core.Path.{_≡_, refl, sym, _∙_}
+use mathlib.Core.Path.{_≡_, refl, sym, ap, _∙_}
 use mathlib.Core.Bool.{Bool, true, false, not, _&&_}
 use mathlib.Core.List.{List}
 use lib.Dec.{eqb, leb, ltb}
-use lib.ListN.{length, drop}
+use lib.ListN.{length, drop, getD}
 use lib.Seq.{drop-drop}
 use borrow.Author.Tests.{not-false, leb-true}
-use Rattle.word.specs.Words.{wordAt, kindOf, bits}
-use Rattle.resource.specs.Format.{entryFiledAt, entryAt, entryOf}
+use Rattle.word.specs.Words.{wordAt, kindOf, contentOf, bits}
+use Rattle.resource.specs.Format.{placeOf, entryFiledAt, entryAt, entryOf}
 use Rattle.resource.specs.declared.types.ResourceBinding.{ResourceBinding}
 use Rattle.resource.specs.declared.types.BindGroupLayoutEntry.{BindGroupLayoutEntry}
 use Rattle.word.proofs.Truth.{second}
 use Rattle.lists.specs.Meaning.{placeFrom, distinctPlaces, distinctEntries, entryPlaces, findEntry, foundBelow, entryNth, emptyEntry}
-use Rattle.lists.specs.Format.{records, each, countOf, groupsOf, places, readEntry, entryGood, readEntries, layoutHead, decodeLayout}
+use Rattle.lists.specs.Format.{records, each, countOf, groupsOf, readPlace, places, readEntry, entryGood, readEntries, layoutHead, layoutFiled, decodeLayout}
 use Rattle.lists.specs.declared.types.Found.{Found}
+use Rattle.lists.specs.declared.types.Found.the-variants.{At}
 use Rattle.lists.proofs.Records.{read-length, read-mapped, nth-record}
+use Rattle.lists.proofs.PlaceLaws.{found-nth}
+use Rattle.lists.proofs.PlaceWays.{content-place}
+use Rattle.lists.proofs.LayoutLists.{filed}
 use Rattle.lists.proofs.LayoutLaws.{nth-getD}
 use Rattle.lists.proofs.Words.{here, there}
 
@@ -66,6 +70,20 @@ entries-counted l = read-length 4 readEntry (countOf l) (drop 1 l)
 
 pub entry-below : (l : List ℕ) (n : ℕ) (r : Found) → n ≡ countOf l → foundBelow n r ≡ true → foundBelow (length (decodeLayout l .entries)) r ≡ true
 entry-below l n r e h = rw (entries-counted l, ← e) h
+
+-- the entry at a position, sought by the content of its place's word
+pub near-found : (l : List ℕ) (n i place c : ℕ) → layoutFiled l ≡ true → n ≡ countOf l → i < n → c ≡ contentOf place
+    → wordAt l (1 + 4 * i) % 0x800_0000 ≡ c → At i ≡ findEntry (placeOf place) (decodeLayout l)
+unfolding decodeLayout
+near-found l n i place c f e h ec q =
+    let ps = places 4 (countOf l) (drop 1 l) in
+    let k : i < countOf l = omega arith in
+    let d : distinctPlaces ps ≡ true = rw (entry-places (countOf l) (drop 1 l)) at (filed l f .distinct) in
+    let g : getD ps i (placeOf place) ≡ placeOf place
+    = nth-record 4 readPlace (countOf l) i (drop 1 l) (placeOf place) k
+    ∙ rw (drop-drop (4 * i) 1 l, here l (1 + 4 * i)) (sym (content-place (wordAt l (1 + 4 * i))) ∙ ap placeOf (q ∙ ec) ∙ content-place place) in
+    let z : 0 + i ≡ i = omega arith in
+    rw (entry-places (countOf l) (drop 1 l)) (sym (rw (g, z) at (found-nth ps 0 i (placeOf place) d (omega (arith, read-length 4 readPlace (countOf l) (drop 1 l))))))
 
 pub groups-decoded : (l : List ℕ) (r : ℕ) → r ≡ groupsOf l → r ≡ decodeLayout l .groups
 unfolding decodeLayout

@@ -1,5 +1,5 @@
 -- Places in a list: one more at the end, and the position of one.
-use Prim.Native.Nat.{ℕ, suc, _+_, _-_, _<_, _≤_}
+use Prim.Native.Nat.{ℕ, zero, suc, _+_, _-_, _<_, _≤_}
 use native.Mathlib.Omega.{arith}
 use mathlib.Core.Path.{_≡_, refl}
 use mathlib.Core.Bool.{Bool, true, false}
@@ -94,3 +94,24 @@ found-there place d (p ∷ ps) i j h =
     let a : i + 1 ≤ j = r .from in
     let z : j - i ≡ suc (j - (i + 1)) = omega arith in
     record { from = omega arith; there = omega (arith, r .there); same = rw z (r .same) })
+
+-- ---- of distinct places, the one at a position is found there
+
+in-nth : (ps : List ResourceBinding) (j : ℕ) (d : ResourceBinding) → j < length ps → placeIn (getD ps j d) ps ≡ true
+unfolding placeIn
+in-nth [] j d h = absurd (omega arith)
+in-nth (p ∷ ps) zero d h = rw (same-place-refl p)
+in-nth (p ∷ ps) (suc j) d h = by-test (samePlace p (getD ps j d)) (λ t. rw t) (λ f. rw f (in-nth ps j d (omega arith)))
+
+pub found-nth : (ps : List ResourceBinding) (i j : ℕ) (d : ResourceBinding) → distinctPlaces ps ≡ true → j < length ps
+    → placeFrom (getD ps j d) ps i ≡ At (i + j)
+unfolding placeFrom distinctPlaces
+found-nth [] i j d t h = absurd (omega arith)
+found-nth (p ∷ ps) i zero d t h = let z : i + 0 ≡ i = omega arith in rw (same-place-refl p, z)
+found-nth (p ∷ ps) i (suc j) d t h =
+    let n = passed-not (placeIn p ps) (distinctPlaces ps) t in
+    let k : j < length ps = omega arith in
+    let z : i + suc j ≡ i + 1 + j = omega arith in
+    by-test (samePlace p (getD ps j d))
+    (λ s. never (placeIn p ps) (rw (same-place-eq p (getD ps j d) s) (in-nth ps j d k)) (n .0))
+    (λ f. rw (f, z) (found-nth ps (i + 1) j d (n .1) k))

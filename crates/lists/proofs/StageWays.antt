@@ -1,12 +1,13 @@
 -- The code's ways through a stage list.
-use Prim.Native.Nat.{ℕ, zero, suc, _+_, _-_, _*_, _%_, _<_, _≤_}
+use Prim.Native.Nat.{ℕ, zero, suc, _+_, _-_, _*_, _%_, _^_, _<_, _≤_}
 use native.Mathlib.Omega.{arith}
 use mathlib.Core.Path.{_≡_, refl, sym, _∙_}
 use mathlib.Core.Bool.{Bool, true, false, not, _&&_}
-use mathlib.Core.List.{List}
+use mathlib.Core.List.{List, []}
 use lib.Dec.{eqb, leb, ltb}
 use lib.ListN.{length, drop}
-use borrow.Author.Tests.{eq-eqb, ne-eqb, lt-ltb, le-ltb, leb-true, not-false}
+use lib.Seq.{drop-drop}
+use borrow.Author.Tests.{eq-eqb, ne-eqb, lt-ltb, le-ltb, leb-true, ltb-true, not-false}
 use Rattle.word.specs.Choice.{pick}
 use Rattle.word.specs.Words.{wordAt, kindOf, contentOf, bits}
 use Rattle.varying.specs.Format.{locationFiled, varFiled, varOf, payloadFiled, payloadOf}
@@ -14,15 +15,17 @@ use Rattle.numeric.specs.Format.{typeFiled}
 use Rattle.varying.specs.declared.InterfaceVar.{InterfaceVar}
 use Rattle.varying.specs.declared.Payload.{Payload}
 use Rattle.word.proofs.Truth.{first, second}
-use Rattle.lists.specs.Meaning.{rising, varyingAt}
-use Rattle.lists.specs.Format.{records, countOf, primitiveAt, readLocated, locatedGood, readVaryings, variableFound, stageHead, decodeStage}
+use Rattle.lists.specs.Meaning.{foundBelow, rising, varyingAt}
+use Rattle.lists.specs.Format.{records, countOf, primitiveAt, readLocated, locatedGood, readVaryings, variableFound, stageHead, outFiled, decodeStage}
 use Rattle.lists.specs.declared.types.Found.{Found}
 use Rattle.lists.specs.declared.types.Found.the-variants.{At, Nothing}
 use Rattle.lists.specs.declared.types.PrimitiveIndex.{PrimitiveIndex}
 use Rattle.lists.specs.declared.types.Provided.{Provided}
 use Rattle.lists.specs.declared.types.Provided.the-variants as Pro
-use Rattle.lists.proofs.Records.{left-cons, left-none}
+use Rattle.lists.proofs.Records.{read-length, nth-record, left-cons, left-none}
 use Rattle.lists.proofs.Words.{here, there}
+use Rattle.lists.proofs.StageLists.{filed}
+use Rattle.lists.proofs.InsertLaws.{varying-nth}
 
 -- ---- the head
 
@@ -133,9 +136,45 @@ pub location-found : (l : List ℕ) (n location : ℕ) (f : Found) → n ≡ cou
 unfolding decodeStage
 location-found l n location f e h = rw (← e) h
 
-module _ (l : List ℕ) (f : Found) (goal : Provided) (e : variableFound l f ≡ goal) where
-  pub variable-found : (i y : ℕ) (v : InterfaceVar) → f ≡ At i → y ≡ wordAt l i → v ≡ varOf y → Pro.Var v ≡ goal
-  variable-found i y v n g h = rw (h, g) (rw n at e)
+-- a position found lies in the list
+pub within-below : (l : List ℕ) (k at : ℕ) → (k ≡ 0 → ⊥) → at + 2 * k ≤ length l → foundBelow (length l) (At (at + 1)) ≡ true
+within-below l k at h f = lt-ltb (at + 1) (length l) (omega arith)
 
-  pub variable-missing : f ≡ Nothing → Pro.Missing ≡ goal
-  variable-missing n = rw n at e
+-- and its word can be read
+module _ (n i : ℕ) (f : Found) (h : foundBelow n f ≡ true) (e : f ≡ At i) where
+  pub found-inside : i < n
+  found-inside = ltb-true i n (rw e at h)
+
+  pub found-bytes : n * 4 < 2 ^ 63 → i * 4 < 2 ^ 64
+  found-bytes k = omega (arith, found-inside)
+
+pub first-there : (l : List ℕ) → outFiled l ≡ true → 1 ≤ length l
+first-there l f = omega (arith, filed l f .holds)
+
+module _ (l : List ℕ) (n : ℕ) (f : outFiled l ≡ true) (e : n ≡ countOf l) where
+  pub varyings-within : 2 + 2 * n ≤ length l
+  varyings-within = omega (arith, filed l f .holds)
+
+  -- the variable at a position
+  module _ (i : ℕ) (h : i < n) where
+    pub near-inside : 2 + 2 * i < length l
+    near-inside = omega (arith, varyings-within)
+
+    pub near-below : foundBelow (length l) (At (3 + 2 * i)) ≡ true
+    near-below = lt-ltb (3 + 2 * i) (length l) (omega (arith, varyings-within))
+
+    pub near-found : (location : ℕ) → wordAt l (2 + 2 * i) % 0x800_0000 ≡ location → variableFound l (At (3 + 2 * i)) ≡ varyingAt location (decodeStage l .varyings)
+    unfolding decodeStage
+    near-found location q =
+        let k : i < countOf l = omega arith in
+        let vs = readVaryings (countOf l) (drop 2 l) in
+        let z : 2 + 2 * i + 1 ≡ 3 + 2 * i = omega arith in
+        let a = varying-nth vs i (readLocated []) (filed l f .rises) (omega (arith, read-length 2 readLocated (countOf l) (drop 2 l))) in
+        sym (rw (nth-record 2 readLocated (countOf l) i (drop 2 l) (readLocated []) k, drop-drop (2 * i) 2 l, here l (2 + 2 * i), there l (2 + 2 * i) 1, z, q) at a)
+
+module _ (l : List ℕ) (n location : ℕ) (f : Found) (en : n ≡ countOf l) (e : variableFound l f ≡ varyingAt location (readVaryings n (drop 2 l))) where
+  pub variable-found : (i y : ℕ) (v : InterfaceVar) → f ≡ At i → y ≡ wordAt l i → v ≡ varOf y → Pro.Var v ≡ varyingAt location (decodeStage l .varyings)
+  variable-found i y v q g h = rw (h, g) (rw q at (location-found l n location f en e))
+
+  pub variable-missing : f ≡ Nothing → Pro.Missing ≡ varyingAt location (decodeStage l .varyings)
+  variable-missing q = rw q at (location-found l n location f en e)

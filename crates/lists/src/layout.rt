@@ -110,6 +110,20 @@ pub fn find_entry_word(l: &[u32], place: u32) -> Found
     find_within(l, 1, counted(l), 4, content(place))
 }
 
+// The same where a position is likely to have the entry: that one is tried first.
+pub fn find_entry_near(l: &[u32], place: u32, near: usize) -> Found
+    requires { ⌜ layoutFiled (now l) ≡ true ⌝ }
+    ensures { λ r. ⌜ r ≡ findEntry (placeOf place) (decodeLayout (now (l .entry))) ⌝ }
+    ensures { λ r. ⌜ foundBelow (length (decodeLayout (now (l .entry)) .entries)) r ≡ true ⌝ }
+{
+    if near < counted(l) {
+        if l[1 + 4 * near] % 0x800_0000 == content(place) {
+            return Found::At { index: near };
+        }
+    }
+    find_entry_word(l, place)
+}
+
 // The entry at a position; past the last, one that serves nothing.
 pub fn entry(l: &[u32], index: usize) -> BindGroupLayoutEntry
     ensures { λ r. ⌜ r ≡ entryNth (decodeLayout (now (l .entry)) .entries) index ⌝ }

@@ -5,7 +5,7 @@ ghost use Prim.Native.Nat.{_<_, _≤_, _+_, _*_, _^_};
 ghost use lib.ListN.{length, drop};
 ghost use Rattle.word.specs.Words.{wordAt, contentOf};
 ghost use Rattle.varying.specs.Format.{varFiled};
-ghost use Rattle.lists.specs.Meaning.{rising, varyingAt};
+ghost use Rattle.lists.specs.Meaning.{foundBelow, rising, varyingAt};
 ghost use Rattle.lists.specs.Format.{countOf, each, locatedGood, readVaryings, variableFound, stageHead, outFiled, stageFiled, decodeStage};
 use crate::heads::count;
 use crate::heads::counted;
@@ -150,6 +150,7 @@ fn find_within(l: &[u32], n: usize, location: u32) -> Found
     requires { ⌜ n < 0x1_0000 ⌝ }
     requires { ⌜ 2 + 2 * n ≤ length (now l) ⌝ }
     ensures { λ r. ⌜ variableFound (now (l .entry)) r ≡ varyingAt location (readVaryings n (drop 2 (now (l .entry)))) ⌝ }
+    ensures { λ r. ⌜ foundBelow (length (now (l .entry))) r ≡ true ⌝ }
 {
     let mut at: usize = 2;
     let mut left = n;
@@ -163,22 +164,28 @@ fn find_within(l: &[u32], n: usize, location: u32) -> Found
     Found::Nothing
 }
 
-// Where the word of the variable at a location stands.
-pub fn find_location(l: &[u32], location: u32) -> Found
+// Where the word of the variable at a location stands in a stage list. The variable at a likely position is tried first.
+pub fn find_location(l: &[u32], location: u32, near: usize) -> Found
+    requires { ⌜ outFiled (now l) ≡ true ⌝ }
     ensures { λ r. ⌜ variableFound (now (l .entry)) r ≡ varyingAt location (decodeStage (now (l .entry)) .varyings) ⌝ }
+    ensures { λ r. ⌜ foundBelow (length (now (l .entry))) r ≡ true ⌝ }
 {
-    let n = count(l);
-    if 2 + 2 * n <= l.len() {
-        return find_within(l, n, location);
+    let n = counted(l);
+    if near < n {
+        if l[2 + 2 * near] % 0x800_0000 == location {
+            return Found::At {
+                index: 3 + 2 * near,
+            };
+        }
     }
-    find_plain(l, n, location)
+    find_within(l, n, location)
 }
 
 // The variable provided at a location.
 pub fn varying_at(l: &[u32], location: u32) -> Provided
     ensures { λ r. ⌜ r ≡ varyingAt location (decodeStage (now (l .entry)) .varyings) ⌝ }
 {
-    match find_location(l, location) {
+    match find_plain(l, count(l), location) {
         Found::At { index } => Provided::Var {
             var: varying::var_of(word(l, index)),
         },

@@ -7,7 +7,8 @@ pub varying-at-spec : {M : Type 1} → statement M
 varying-at-spec =
     tie.close
     (tie.spec
-    (λ c κs. search needs)  -- find-location-requires
+    (λ c κs. search needs)  -- count-requires
+    (λ c κs. search needs)  -- find-plain-requires
     (λ c. search needs)  -- enum-known-index
     (λ c κs. search needs)  -- word-requires
     (λ c κs. search needs)  -- var-of-requires
