@@ -9,12 +9,13 @@ use mathlib.Core.Bool.{Bool, true, false, not}
 use mathlib.Core.List.{List, [], _∷_}
 use lib.Dec.{eqb, ltb}
 use borrow.Author.Tests.{ne-eqb, ltb-true, not-true, not-false}
-use lib.ListN.{getD, length, drop, length-drop, List·getD-eq-default}
+use lib.ListN.{getD, length, drop, length-drop}
 use Rattle.word.specs.Choice.{pick}
 use Rattle.word.specs.Words.{wordAt, kindOf, bits}
 use Rattle.word.specs.Parse.{fault, got, next, one, Rest, restAt}
 use Rattle.word.proofs.Parse.{rest-from, first-of, others-of, one-fault, one-got, one-in, Yields, yields-next, yields-pick}
 use Rattle.word.proofs.Truth.{first, second}
+use Rattle.numeric.specs.Format.{typeFiled}
 use Rattle.varying.specs.Format.{locationFiled, varFiled}
 use Rattle.interface.specs.Format.{builtInFiled, builtInOf, readVarying, local, isClip}
 use Rattle.interface.specs.Walks.{thence, varyingsBehind}
@@ -30,8 +31,13 @@ var-zero : varFiled 0 ≡ false
 unfolding varFiled
 var-zero = refl
 
-pub var-past : (ws : List ℕ) (at : ℕ) → length ws ≤ at → false ≡ varFiled (wordAt ws at)
-var-past ws at h = sym (rw (List·getD-eq-default ws 0 h) var-zero)
+-- a vector of four 32-bit floats, as the first good one
+pub var-vector : varFiled 1744830755 ≡ true
+unfolding varFiled typeFiled
+var-vector = refl
+
+pub var-same : (w good : ℕ) → varFiled good ≡ true → w ≡ good → true ≡ varFiled w
+var-same w good h e = sym (rw e h)
 
 -- by the first word: a location, a built-in, neither
 module _ (codes : ℕ) where
@@ -104,6 +110,21 @@ below codes (w ∷ l) h =
     (yields-next (Below codes) (one varFiled l) (λ var rest. got (local w var) rest) (λ var rest. h))
     (by-test (builtInFiled codes w) (λ t. Yields (Below codes) (pick t (got (Var.BuiltIn (builtInOf w)) l) fault)) (λ f. below-built-in codes w h f) (λ f. tt))
 
+-- a word that the test of a built-in passed
+module _ (codes w : ℕ) (d : Bool) (y : not d ≡ false) (g : d ≡ builtInFiled codes w) where
+  code-at : bits 26 24 w < codes
+  code-at = code-below codes w (sym g ∙ not-false d y)
+
+  pub codes-stay : 4 ≤ codes → codes ≤ 5 → 4 ≤ codes - w / 67108864 % 2
+  codes-stay low high = omega (arith, code-at)
+
+  module _ (ws : List ℕ) (at : ℕ) (e : w ≡ wordAt ws at) where
+    filed-at : builtInFiled codes (getD (drop at ws) 0 0) ≡ true
+    filed-at = rw (first-of ws at, ← e, ← g) (not-false d y)
+
+    pub built-in-in : at + 1 ≤ length ws
+    built-in-in = omega (arith, held codes (drop at ws) filed-at, length-drop at ws)
+
 -- ---- the walk over varyings: a location with and without its variable, a built-in, neither, the end
 
 varyings-left : (k codes : ℕ) (l : List ℕ) → (k ≡ 0 → ⊥) → varyingsBehind k codes l ≡ thence (readVarying codes l) λ v rest. varyingsBehind (k - 1) (codes - isClip v) rest
@@ -112,9 +133,12 @@ varyings-left zero codes l h = absurd (h refl)
 varyings-left (suc k) codes l h = rw sub-one
 
 module _ (ws : List ℕ) (at w : ℕ) (b d : Bool) (e : w ≡ wordAt ws at) (f : b ≡ locationFiled w) where
-  module _ (t : b ≡ true) (g : d ≡ varFiled (wordAt ws (at + 1))) where
+  module _ (t : b ≡ true) (v : ℕ) (i : v ≡ wordAt ws (at + 1)) (g : d ≡ varFiled v) where
     pub local-in : not d ≡ false → at + 2 ≤ length ws
-    local-in y = omega (arith, one-in varFiled ws (at + 1) (wordAt ws (at + 1)) d refl g (not-false d y) var-zero)
+    local-in y = omega (arith, one-in varFiled ws (at + 1) v d i g (not-false d y) var-zero)
+
+    pub local-good : not d ≡ false → varFiled v ≡ true
+    local-good y = sym g ∙ not-false d y
 
     module _ (k codes : ℕ) (goal : Rest) (inv : goal ≡ varyingsBehind k codes (drop at ws)) (h : k ≡ 0 → ⊥) where
       local-at : readVarying codes (drop at ws) ≡ next (one varFiled (drop (at + 1) ws)) λ var rest. got (local w var) rest
@@ -122,41 +146,28 @@ module _ (ws : List ℕ) (at w : ℕ) (b d : Bool) (e : w ≡ wordAt ws at) (f :
 
       pub local-stop : not d ≡ true → restAt ws 0 ≡ goal
       local-stop y =
-          sym (inv ∙ rw (varyings-left k codes (drop at ws) h, local-at, one-fault varFiled ws (at + 1) (wordAt ws (at + 1)) d refl g (not-true d y)))
+          sym (inv ∙ rw (varyings-left k codes (drop at ws) h, local-at, one-fault varFiled ws (at + 1) v d i g (not-true d y)))
 
       pub local-go : not d ≡ false → goal ≡ varyingsBehind (k - 1) codes (drop (at + 2) ws)
       local-go y =
           let x : at + 1 + 1 ≡ at + 2 = omega arith in
-          inv ∙ rw (varyings-left k codes (drop at ws) h, local-at, one-got varFiled ws (at + 1) (wordAt ws (at + 1)) d refl g (not-false d y) var-zero, x, sub-zero)
+          inv ∙ rw (varyings-left k codes (drop at ws) h, local-at, one-got varFiled ws (at + 1) v d i g (not-false d y) var-zero, x, sub-zero)
 
-  module _ (codes : ℕ) (t : b ≡ false) (g : d ≡ builtInFiled codes w) where
-    filed-at : not d ≡ false → builtInFiled codes (getD (drop at ws) 0 0) ≡ true
-    filed-at y = rw (first-of ws at, ← e, ← g) (not-false d y)
+  module _ (t : b ≡ false) (codes k : ℕ) (goal : Rest) (inv : goal ≡ varyingsBehind k codes (drop at ws)) (h : k ≡ 0 → ⊥) where
+    pub built-in-stop : not d ≡ true → d ≡ builtInFiled codes w → restAt ws 0 ≡ goal
+    built-in-stop y g =
+        sym (inv ∙ rw (varyings-left k codes (drop at ws) h, is-neither codes (drop at ws) (rw (first-of ws at, ← e, ← f) t) (rw (first-of ws at, ← e, ← g) (not-true d y))))
 
-    pub built-in-in : not d ≡ false → at + 1 ≤ length ws
-    built-in-in y = omega (arith, held codes (drop at ws) (filed-at y), length-drop at ws)
-
-    code-at : not d ≡ false → bits 26 24 w < codes
-    code-at y = code-below codes w (sym g ∙ not-false d y)
-
-    pub codes-stay : not d ≡ false → 4 ≤ codes → codes ≤ 5 → 4 ≤ codes - w / 67108864 % 2
-    codes-stay y low high = omega (arith, code-at y)
-
-    module _ (k : ℕ) (goal : Rest) (inv : goal ≡ varyingsBehind k codes (drop at ws)) (h : k ≡ 0 → ⊥) where
-      pub built-in-stop : not d ≡ true → restAt ws 0 ≡ goal
-      built-in-stop y =
-          sym (inv ∙ rw (varyings-left k codes (drop at ws) h, is-neither codes (drop at ws) (rw (first-of ws at, ← e, ← f) t) (rw (first-of ws at, ← e, ← g) (not-true d y))))
-
-      pub built-in-go : not d ≡ false → codes ≤ 5 → goal ≡ varyingsBehind (k - 1) (codes - w / 67108864 % 2) (drop (at + 1) ws)
-      built-in-go y high =
-          inv ∙ rw (
-            varyings-left k codes (drop at ws) h,
-            is-built-in codes (drop at ws) (rw (first-of ws at, ← e, ← f) t) (filed-at y),
-            first-of ws at,
-            ← e,
-            clip-bit w (omega (arith, code-at y)),
-            others-of ws at,
-          )
+    pub built-in-go : not d ≡ false → d ≡ builtInFiled codes w → codes ≤ 5 → goal ≡ varyingsBehind (k - 1) (codes - w / 67108864 % 2) (drop (at + 1) ws)
+    built-in-go y g high =
+        inv ∙ rw (
+          varyings-left k codes (drop at ws) h,
+          is-built-in codes (drop at ws) (rw (first-of ws at, ← e, ← f) t) (filed-at codes w d y g ws at e),
+          first-of ws at,
+          ← e,
+          clip-bit w (omega (arith, code-at codes w d y g)),
+          others-of ws at,
+        )
 
 pub varyings-ended : (ws : List ℕ) (k codes at : ℕ) (goal : Rest) → goal ≡ varyingsBehind k codes (drop at ws) → k ≡ 0 → 1 ≤ at → restAt ws at ≡ goal
 unfolding varyingsBehind

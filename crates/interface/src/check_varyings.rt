@@ -1,8 +1,8 @@
 // Varyings: a location and a variable, or a built-in.
 ghost use mathlib.Core.Path.{_≡_};
+ghost use mathlib.Core.Bool.{true};
 ghost use Prim.Native.Nat.{_≤_};
 ghost use lib.ListN.{length, drop};
-ghost use Rattle.word.specs.Words.{wordAt};
 ghost use Rattle.word.specs.Parse.{restAt};
 ghost use Rattle.varying.specs.Format.{varFiled};
 ghost use Rattle.interface.specs.Format.{builtInFiled};
@@ -21,14 +21,15 @@ fn built_in_filed(w: u32, codes: u32) -> bool
     word::kind(w) == 14
 }
 
-// Whether a variable stands at a position.
-fn var_at(body: &[u32], at: usize) -> bool
-    ensures { λ r. ⌜ r ≡ varFiled (wordAt (now (body .entry)) at) ⌝ }
+// Whether a word is a variable, where another is known to be one.
+fn var_good(w: u32, good: u32) -> bool
+    requires { ⌜ varFiled good ≡ true ⌝ }
+    ensures { λ r. ⌜ r ≡ varFiled w ⌝ }
 {
-    if at >= body.len() {
-        return false;
+    if w == good {
+        return true;
     }
-    varying::var_filed(body[at])
+    varying::var_filed(w)
 }
 
 // The position behind so many varyings, or 0. Where the codes are below 5, one of them may be clip distances; where below 4, none.
@@ -40,12 +41,16 @@ pub(crate) fn varyings_next(body: &[u32], from: usize, n: u32, codes: u32) -> us
     let mut at = from;
     let mut left = n;
     let mut below = codes;
+    // The last variable, at first a vector of four 32-bit floats: most are alike, and the like is not tested again.
+    let mut good: u32 = 0x6800_0123;
     while left != 0 {
         let w = word::word(body, at);
         if varying::location_filed(w) {
-            if !var_at(body, at + 1) {
+            let second = word::word(body, at + 1);
+            if !var_good(second, good) {
                 return 0;
             }
+            good = second;
             at += 2;
             left -= 1;
         } else {

@@ -1,0 +1,12 @@
+use borrow.Author.Needs.{needs}
+use Rattle.interface.proofs.CheckVaryings.{var-same}
+use Rattle.interface.proofs.check_varyings.var_good.Statement.{statement}
+use Rattle.interface.proofs.check_varyings.var_good.Tie as tie
+
+pub var-good-spec : {M : Type 1} → statement M
+var-good-spec =
+    tie.close
+    (tie.spec
+    (λ c. search var-same)  -- returns
+    (λ c κs. search needs)  -- var-filed-requires
+    (λ c. search needs))  -- returns-2
