@@ -20,7 +20,7 @@ use Rattle.interface.proofs.CheckNames.{words-left}
 
 -- ---- the bytes of two words
 
-last-byte : (t : Bool) → pick t true false ≡ t
+pub last-byte : (t : Bool) → pick t true false ≡ t
 last-byte true = refl
 last-byte false = refl
 
@@ -96,13 +96,13 @@ pub ruleset same-words = (same-1, same-2, same-3, same-4)
 
 -- ---- two names, word after word
 
-take-more : (k : ℕ) (xs ys : List ℕ) → take k (xs ++ ys) ≡ take k xs ++ take (k - length xs) ys
+pub take-more : (k : ℕ) (xs ys : List ℕ) → take k (xs ++ ys) ≡ take k xs ++ take (k - length xs) ys
 take-more zero [] ys = refl
 take-more (suc k) [] ys = rw sub-zero
 take-more zero (x ∷ xs) ys = rw zero-sub
 take-more (suc k) (x ∷ xs) ys = rw suc-sub-suc (ap (_∷_ x) (take-more k xs ys))
 
-same-append : (xs ys us vs : List ℕ) → length xs ≡ length ys → sameBytes (xs ++ us) (ys ++ vs) ≡ pick (sameBytes xs ys) (sameBytes us vs) false
+pub same-append : (xs ys us vs : List ℕ) → length xs ≡ length ys → sameBytes (xs ++ us) (ys ++ vs) ≡ pick (sameBytes xs ys) (sameBytes us vs) false
 unfolding sameBytes
 same-append [] [] us vs e = refl
 same-append [] (y ∷ ys) us vs e = absurd (omega arith)
@@ -153,7 +153,7 @@ pub name-long : (n : ℕ) (ws : List ℕ) → length (nameOf n ws) ≡ n
 unfolding nameOf
 name-long n ws = omega (arith, length-take n (bytesOf (firstWords (nameWords n) ws)), bytes-long (firstWords (nameWords n) ws), words-long (nameWords n) ws)
 
-other-length : (xs ys : List ℕ) → (length xs ≡ length ys → ⊥) → sameBytes xs ys ≡ false
+pub other-length : (xs ys : List ℕ) → (length xs ≡ length ys → ⊥) → sameBytes xs ys ≡ false
 unfolding sameBytes
 other-length [] [] h = absurd (h refl)
 other-length [] (y ∷ ys) h = refl

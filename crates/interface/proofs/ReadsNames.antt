@@ -1,63 +1,96 @@
--- A name's bytes, one by one, and their comparison with others.
-use Prim.Native.Nat.{ℕ, zero, suc, _+_, _*_, _/_, _%_, _<_, _≤_}
+-- A name's bytes, word after word, and their comparison with others.
+use Prim.Native.Nat.{ℕ, zero, suc, _+_, _-_, _*_, _/_, _%_, _<_, _≤_}
 use native.Mathlib.Omega.{arith}
+use native.Mathlib.Nat.{add-zero, sub-zero}
 use native.Mathlib.Numerals.{add-one}
 use mathlib.Core.Path.{_≡_, refl, sym, ap, _∙_}
 use mathlib.Core.Bool.{Bool, true, false, not}
-use mathlib.Core.List.{List, [], _∷_}
-use borrow.Author.Tests.{eq-eqb, ne-eqb, not-true, not-false}
-use lib.Dec.{eqb}
-use lib.ListN.{length, getD, take, drop, length-drop, drop-of-length-le}
-use lib.Seq.{getD-drop, getD-take, take-take, drop-cons, length-take-le}
+use mathlib.Core.List.{List, [], _∷_, _++_}
+use borrow.Author.Tests.{not-true, not-false}
+use lib.ListN.{length, getD, take, drop, length-drop, drop-of-length-le, take-append-drop}
+use lib.Seq.{take-take, take-all, drop-cons, drop-drop, length-take-le}
 use Rattle.word.specs.Choice.{pick}
 use Rattle.word.specs.Words.{wordAt, bits}
 use Rattle.interface.specs.Format.{bytesOf, nameWords, sameBytes}
 use Rattle.interface.specs.Reads.{nameAt}
-use Rattle.interface.specs.Parts.{workgroupAt, bytesFrom, byteAt}
+use Rattle.interface.specs.Parts.{workgroupAt, bytesFrom}
+use Rattle.interface.specs.Walks.{sameFirst}
+use Rattle.interface.proofs.CheckHeads.{last-byte, take-more, same-append, other-length}
 
--- ---- bytes of words
+-- ---- bytes put together
 
-abbrev byteIn : ℕ → ℕ → ℕ
-byteIn r w = pick (eqb r 0) (bits 7 0 w) (pick (eqb r 1) (bits 15 8 w) (pick (eqb r 2) (bits 23 16 w) (bits 31 24 w)))
-
-same-way : (b : Bool) (n : ℕ) → pick b n n ≡ n
-same-way true n = refl
-same-way false n = refl
-
-no-byte : (r : ℕ) → 0 ≡ byteIn r 0
-no-byte r = rw (same-way (eqb r 2) 0, same-way (eqb r 1) 0, same-way (eqb r 0) 0)
-
-byte-in : (l : List ℕ) (k : ℕ) → getD (bytesOf l) k 0 ≡ byteIn (k % 4) (wordAt l (k / 4))
+-- a word made of four bytes has these
+packed : (r a b c d : ℕ) → a < 256 → b < 256 → c < 256 → d < 256 → r ≡ a + 256 * b + 65536 * c + 16777216 * d → bytesOf (r ∷ []) ≡ a ∷ b ∷ c ∷ d ∷ []
 unfolding bytesOf
-byte-in [] k = no-byte (k % 4)
-byte-in (w ∷ l) zero = refl
-byte-in (w ∷ l) (suc zero) = refl
-byte-in (w ∷ l) (suc (suc zero)) = refl
-byte-in (w ∷ l) (suc (suc (suc zero))) = refl
-byte-in (w ∷ l) (suc (suc (suc (suc k)))) =
-    let r : suc (suc (suc (suc k))) % 4 ≡ k % 4 = omega arith in
-    let q : suc (suc (suc (suc k))) / 4 ≡ suc (k / 4) = omega arith in
-    rw (r, q) (byte-in l k)
+packed r a b c d ha hb hc hd e =
+    let p : r / 256 ≡ b + 256 * c + 65536 * d = omega arith in
+    let q : r / 65536 ≡ c + 256 * d = omega arith in
+    let s : r / 16777216 ≡ d = omega arith in
+    let x : r % 256 ≡ a = omega arith in
+    let y : (b + 256 * c + 65536 * d) % 256 ≡ b = omega arith in
+    let z : (c + 256 * d) % 256 ≡ c = omega arith in
+    let u : d % 256 ≡ d = omega arith in
+    rw (x, p, q, s, y, z, u)
 
-module _ (ws : List ℕ) (from k w : ℕ) (hw : w ≡ wordAt ws (from + k / 4)) where
-  byte-from : byteAt ws from k ≡ byteIn (k % 4) w
-  unfolding byteAt
-  byte-from = byte-in (drop from ws) k ∙ rw (getD-drop from ws (k / 4) 0, ← hw)
+-- a name's bytes from a position on, one after the other
+take-next : (m : ℕ) (l : List ℕ) (k : ℕ) → k < length l → take (suc m) (drop k l) ≡ getD l k 0 ∷ take m (drop (k + 1) l)
+take-next m l k h = rw (drop-cons l k 0 h, add-one k)
 
-  pub byte-0 : k % 4 ≡ 0 → w % 256 ≡ byteAt ws from k
-  byte-0 h = rw (byte-from, eq-eqb (k % 4) 0 h)
+-- the word of one, two, three and four of them
+module _ (name : List ℕ) (k count a : ℕ) (h : k + count ≤ length name) (ha : a ≡ getD name k 0) (la : a < 256) where
+  pub word-1 : count ≡ 1 → take count (bytesOf (a ∷ [])) ≡ take count (drop k name)
+  word-1 e = rw (e, packed a a 0 0 0 la (omega arith) (omega arith) (omega arith) (omega arith), take-next 0 name k (omega arith), ha)
 
-  pub byte-1 : k % 4 ≡ 1 → w / 256 % 256 ≡ byteAt ws from k
-  byte-1 h = rw (byte-from, h)
+  module _ (b : ℕ) (hb : b ≡ getD name (k + 1) 0) (lb : b < 256) where
+    pub word-2 : count ≡ 2 → take count (bytesOf ((a + 256 * b) ∷ [])) ≡ take count (drop k name)
+    word-2 e =
+        rw (
+          e,
+          packed (a + 256 * b) a b 0 0 la lb (omega arith) (omega arith) (omega arith),
+          take-next 1 name k (omega arith),
+          take-next 0 name (k + 1) (omega arith),
+          ha,
+          hb,
+        )
 
-  pub byte-2 : k % 4 ≡ 2 → w / 65536 % 256 ≡ byteAt ws from k
-  byte-2 h = rw (byte-from, h)
+    module _ (c : ℕ) (hc : c ≡ getD name (k + 2) 0) (lc : c < 256) where
+      pub word-3 : count ≡ 3 → take count (bytesOf ((a + 256 * b + 65536 * c) ∷ [])) ≡ take count (drop k name)
+      word-3 e =
+          let x : k + 1 + 1 ≡ k + 2 = omega arith in
+          rw (
+            e,
+            packed (a + 256 * b + 65536 * c) a b c 0 la lb lc (omega arith) (omega arith),
+            take-next 2 name k (omega arith),
+            take-next 1 name (k + 1) (omega arith),
+            x,
+            take-next 0 name (k + 2) (omega arith),
+            ha,
+            hb,
+            hc,
+          )
 
-  pub byte-3 : (k % 4 ≡ 0 → ⊥) → (k % 4 ≡ 1 → ⊥) → (k % 4 ≡ 2 → ⊥) → w / 16777216 % 256 ≡ byteAt ws from k
-  byte-3 a b c = rw (byte-from, ne-eqb (k % 4) 0 a, ne-eqb (k % 4) 1 b, ne-eqb (k % 4) 2 c)
+      pub word-4 : (d : ℕ) → d ≡ getD name (k + 3) 0 → d < 256 → (count ≡ 1 → ⊥) → (count ≡ 2 → ⊥) → (count ≡ 3 → ⊥) → 1 ≤ count → count ≤ 4
+          → take count (bytesOf ((a + 256 * b + 65536 * c + 16777216 * d) ∷ [])) ≡ take count (drop k name)
+      word-4 d hd ld m n o low high =
+          let e : count ≡ 4 = omega arith in
+          let x : k + 1 + 1 ≡ k + 2 = omega arith in
+          let y : k + 2 + 1 ≡ k + 3 = omega arith in
+          rw (
+            e,
+            packed (a + 256 * b + 65536 * c + 16777216 * d) a b c d la lb lc ld (omega arith),
+            take-next 3 name k (omega arith),
+            take-next 2 name (k + 1) (omega arith),
+            x,
+            take-next 1 name (k + 2) (omega arith),
+            y,
+            take-next 0 name (k + 3) (omega arith),
+            ha,
+            hb,
+            hc,
+            hd,
+          )
 
-pub byte-same : (ws : List ℕ) (from k r b : ℕ) → r ≡ byteAt ws from k → eqb r b ≡ eqb (byteAt ws from k) b
-byte-same ws from k r b e = rw e
+pub ruleset words-of = (word-1, word-2, word-3, word-4)
 
 -- ---- a name
 
@@ -85,54 +118,88 @@ from-length : (ws : List ℕ) (from n : ℕ) → from + nameWords n ≤ length w
 unfolding bytesFrom
 from-length ws from n h = length-take-le n (bytesOf (drop from ws)) (omega (arith, bytes-length (drop from ws), length-drop from ws))
 
--- ---- bytes compared
-
-unlike : (bs cs : List ℕ) → (length cs ≡ length bs → ⊥) → sameBytes bs cs ≡ false
-unfolding sameBytes
-unlike [] [] h = absurd (h refl)
-unlike [] (c ∷ cs) h = refl
-unlike (b ∷ bs) [] h = refl
-unlike (b ∷ bs) (c ∷ cs) h = rw (unlike bs cs (λ e. h (ap suc e))) (go (eqb b c))
-  where
-    go : (t : Bool) → pick t false false ≡ false
-    go true = refl
-    go false = refl
-
-same-step : (bs cs : List ℕ) (k : ℕ) → k < length bs → k < length cs → sameBytes (drop k bs) (drop k cs)
-    ≡ pick (eqb (getD bs k 0) (getD cs k 0)) (sameBytes (drop (suc k) bs) (drop (suc k) cs)) false
-unfolding sameBytes
-same-step bs cs k h j = rw (drop-cons bs k 0 h, drop-cons cs k 0 j)
-
-same-end : (bs cs : List ℕ) (k : ℕ) → length bs ≤ k → length cs ≤ k → sameBytes (drop k bs) (drop k cs) ≡ true
-unfolding sameBytes
-same-end bs cs k h j = rw (drop-of-length-le bs h, drop-of-length-le cs j)
-
-module _ (ws name : List ℕ) (head w n : ℕ) (h : workgroupAt ws head ≤ length ws) (hw : w ≡ wordAt ws head) (hn : n ≡ bits 22 16 w) where
+module _ (ws name : List ℕ) (head n : ℕ) (h : workgroupAt ws head ≤ length ws) (hn : n ≡ bits 22 16 (wordAt ws head)) where
   pub name-fits : length name ≡ n → head + 1 + nameWords (length name) ≤ length ws
-  name-fits e = rw (e, hn, hw) h
+  name-fits e = rw (e, hn) h
 
   pub name-counts : (length name ≡ n → ⊥) → false ≡ sameBytes (nameAt ws head) name
   name-counts d =
-      rw (name-is ws head, ← hw, ← hn)
-      (sym (unlike (bytesFrom ws (head + 1) n) name (rw (from-length ws (head + 1) n (rw (hn, hw) h)) d)))
+      rw (name-is ws head, ← hn)
+      (sym (other-length (bytesFrom ws (head + 1) n) name (λ e. d (sym e ∙ from-length ws (head + 1) n (rw hn h)))))
 
   pub name-bytes : (b : Bool) → length name ≡ n → b ≡ sameBytes (bytesFrom ws (head + 1) (length name)) name → b ≡ sameBytes (nameAt ws head) name
-  name-bytes b e g = rw (name-is ws head, ← hw, ← hn, ← e) g
+  name-bytes b e g = rw (name-is ws head, ← hn, ← e) g
 
-module _ (ws name : List ℕ) (from k : ℕ) (b goal : Bool) (h : from + nameWords (length name) ≤ length ws)
-    (inv : goal ≡ sameBytes (drop k (bytesFrom ws from (length name))) (drop k name)) (j : k < length name) (e : b ≡ eqb (byteAt ws from k) (getD name k 0)) where
-  bytes-step : goal ≡ pick b (sameBytes (drop (k + 1) (bytesFrom ws from (length name))) (drop (k + 1) name)) false
-  unfolding bytesFrom byteAt
-  bytes-step =
-      let g : getD (bytesFrom ws from (length name)) k 0 ≡ byteAt ws from k = getD-take (length name) (bytesOf (drop from ws)) k 0 j in
-      inv ∙ rw (add-one k, e, ← g) (same-step (bytesFrom ws from (length name)) name k (rw (from-length ws from (length name) h) j) j)
+-- ---- a name compared with bytes
 
-  pub bytes-differ : not b ≡ true → false ≡ goal
-  bytes-differ d = sym (bytes-step ∙ rw (not-true b d))
+-- a word compared by its first bytes, where those of another are the name's
+pub word-compared : (name : List ℕ) (k count v w : ℕ) (b : Bool) → take count (bytesOf (v ∷ [])) ≡ take count (drop k name) → b ≡ sameFirst count w v
+    → b ≡ sameBytes (take count (bytesOf (w ∷ []))) (take count (drop k name))
+unfolding sameFirst
+word-compared name k count v w b e f = rw (← e) f
 
-  pub bytes-onward : not b ≡ false → goal ≡ sameBytes (drop (k + 1) (bytesFrom ws from (length name))) (drop (k + 1) name)
-  bytes-onward d = bytes-step ∙ rw (not-false b d)
+-- the bytes of words from a position on: those of the first, and those behind it
+bytes-next : (ws : List ℕ) (from n : ℕ) → from < length ws → bytesFrom ws from n ≡ take n (bytesOf (wordAt ws from ∷ [])) ++ bytesFrom ws (from + 1) (n - 4)
+unfolding bytesFrom bytesOf
+bytes-next ws from n h = rw (drop-cons ws from 0 h, add-one from) (take-more n (bytesOf (wordAt ws from ∷ [])) (bytesOf (drop (suc from) ws)))
 
-pub bytes-ended : (ws name : List ℕ) (from k : ℕ) (goal : Bool) → from + nameWords (length name) ≤ length ws
-    → goal ≡ sameBytes (drop k (bytesFrom ws from (length name))) (drop k name) → length name ≤ k → true ≡ goal
-bytes-ended ws name from k goal h inv j = sym (inv ∙ same-end (bytesFrom ws from (length name)) name k (rw (from-length ws from (length name) h) j) j)
+-- as many of those of the first as are compared
+bytes-step : (ws l : List ℕ) (from n count : ℕ) → from < length ws → count ≤ 4 → count ≤ length l
+    → take n (bytesOf (wordAt ws from ∷ [])) ≡ take count (bytesOf (wordAt ws from ∷ []))
+    → sameBytes (bytesFrom ws from n) l ≡ pick (sameBytes (take count (bytesOf (wordAt ws from ∷ []))) (take count l)) (sameBytes (bytesFrom ws (from + 1) (n - 4)) (drop count l)) false
+bytes-step ws l from n count h j k e =
+    let x : length (take count (bytesOf (wordAt ws from ∷ []))) ≡ count = length-take-le count (bytesOf (wordAt ws from ∷ [])) (rw (bytes-length (wordAt ws from ∷ [])) j) in
+    ap (sameBytes (bytesFrom ws from n)) (sym (take-append-drop count l))
+    ∙ rw (bytes-next ws from n h, e)
+    (same-append (take count (bytesOf (wordAt ws from ∷ []))) (take count l) (bytesFrom ws (from + 1) (n - 4)) (drop count l) (x ∙ sym (length-take-le count l k)))
+
+-- the walk over a name: before it, words that differ, words that agree, the bytes behind the last whole word
+pub words-begin : (ws name : List ℕ) (from : ℕ) → sameBytes (bytesFrom ws from (length name)) name ≡ sameBytes (bytesFrom ws (from + 0) (length name - 4 * 0)) (drop (4 * 0) name)
+words-begin ws name from = rw (add-zero from, sub-zero)
+
+module _ (ws name : List ℕ) (from i : ℕ) (b goal : Bool) (h : from + nameWords (length name) ≤ length ws) (j : i < length name / 4)
+    (inv : goal ≡ sameBytes (bytesFrom ws (from + i) (length name - 4 * i)) (drop (4 * i) name)) where
+  words-step : b ≡ sameBytes (take 4 (bytesOf (wordAt ws (from + i) ∷ []))) (take 4 (drop (4 * i) name))
+      → goal ≡ pick b (sameBytes (bytesFrom ws (from + (i + 1)) (length name - 4 * (i + 1))) (drop (4 * (i + 1)) name)) false
+  words-step e =
+      let n : ℕ = length name - 4 * i in
+      let l : List ℕ = bytesOf (wordAt ws (from + i) ∷ []) in
+      let four : length l ≡ 4 = bytes-length (wordAt ws (from + i) ∷ []) in
+      let x : from + i + 1 ≡ from + (i + 1) = omega arith in
+      let y : length name - 4 * i - 4 ≡ length name - 4 * (i + 1) = omega arith in
+      let z : 4 * i + 4 ≡ 4 * (i + 1) = omega arith in
+      inv
+      ∙ bytes-step ws (drop (4 * i) name) (from + i) n 4 (omega arith) (omega arith) (omega (arith, length-drop (4 * i) name))
+      (take-all n l (omega arith) ∙ sym (take-all 4 l (omega arith)))
+      ∙ rw (drop-drop 4 (4 * i) name, x, y, z, ← e)
+
+  pub words-differ : not b ≡ true → b ≡ sameBytes (take 4 (bytesOf (wordAt ws (from + i) ∷ []))) (take 4 (drop (4 * i) name)) → false ≡ goal
+  words-differ d e = sym (words-step e ∙ rw (not-true b d))
+
+  pub words-agree : not b ≡ false → b ≡ sameBytes (take 4 (bytesOf (wordAt ws (from + i) ∷ []))) (take 4 (drop (4 * i) name))
+      → goal ≡ sameBytes (bytesFrom ws (from + (i + 1)) (length name - 4 * (i + 1))) (drop (4 * (i + 1)) name)
+  words-agree d e = words-step e ∙ rw (not-false b d)
+
+module _ (ws name : List ℕ) (from i : ℕ) (goal : Bool) (h : from + nameWords (length name) ≤ length ws)
+    (inv : goal ≡ sameBytes (bytesFrom ws (from + i) (length name - 4 * i)) (drop (4 * i) name)) (low : i ≤ length name / 4) (high : length name / 4 ≤ i) where
+  none-left : sameBytes (bytesFrom ws (from + i + 1) (length name % 4 - 4)) (drop (length name % 4) (drop (4 * i) name)) ≡ true
+  unfolding bytesFrom sameBytes
+  none-left =
+      let x : length name % 4 - 4 ≡ 0 = omega arith in
+      let y : length name ≤ 4 * i + length name % 4 = omega arith in
+      rw (x, drop-drop (length name % 4) (4 * i) name, drop-of-length-le name y)
+
+  pub words-ended : length name % 4 ≡ 0 → true ≡ goal
+  unfolding bytesFrom sameBytes
+  words-ended z =
+      let x : length name - 4 * i ≡ 0 = omega arith in
+      let y : length name ≤ 4 * i = omega arith in
+      sym (inv ∙ rw (x, drop-of-length-le name y))
+
+  pub words-left : (b : Bool) → (length name % 4 ≡ 0 → ⊥)
+      → b ≡ sameBytes (take (length name % 4) (bytesOf (wordAt ws (from + i) ∷ []))) (take (length name % 4) (drop (4 * i) name)) → b ≡ goal
+  words-left b z e =
+      let n : length name - 4 * i ≡ length name % 4 = omega arith in
+      sym ((rw n at inv)
+      ∙ bytes-step ws (drop (4 * i) name) (from + i) (length name % 4) (length name % 4) (omega arith) (omega arith) (omega (arith, length-drop (4 * i) name)) refl
+      ∙ rw (none-left, ← e) (last-byte b))

@@ -61,7 +61,7 @@ pub(crate) fn name_next(body: &[u32], from: usize, bytes: u32) -> usize
 }
 
 // Whether two words have the same first bytes of what is left of a name.
-fn same_bytes(v: u32, w: u32, left: u32) -> bool
+pub(crate) fn same_first(v: u32, w: u32, left: u32) -> bool
     requires { ⌜ 1 ≤ left ⌝ }
     ensures { λ r. ⌜ r ≡ sameFirst left v w ⌝ }
 {
@@ -81,7 +81,7 @@ fn same_words(body: &[u32], i: usize, j: usize, left: u32) -> bool
     requires { ⌜ 1 ≤ left ⌝ }
     ensures { λ r. ⌜ r ≡ sameFirst left (wordAt (now (body .entry)) i) (wordAt (now (body .entry)) j) ⌝ }
 {
-    same_bytes(word::word(body, i), word::word(body, j), left)
+    same_first(word::word(body, i), word::word(body, j), left)
 }
 
 // Whether the names at two positions, of the same number of bytes, are the same.

@@ -1,39 +1,13 @@
 // The name of an entry point compared with bytes.
 ghost use mathlib.Core.Path.{_≡_};
-ghost use Prim.Native.Nat.{_+_, _/_, _<_, _≤_, _^_};
-ghost use lib.Dec.{eqb};
-ghost use lib.ListN.{length};
+ghost use mathlib.Core.List.{[], _∷_};
+ghost use Prim.Native.Nat.{_+_, _<_, _≤_};
+ghost use lib.ListN.{length, take, drop};
 ghost use Rattle.word.specs.Words.{bits};
-ghost use Rattle.interface.specs.Format.{nameWords, sameBytes};
+ghost use Rattle.interface.specs.Format.{bytesOf, nameWords, sameBytes};
 ghost use Rattle.interface.specs.Reads.{nameAt};
-ghost use Rattle.interface.specs.Parts.{workgroupAt, bytesFrom, byteAt};
-use word::word;
-
-// A byte of the words from a position on, four to a word, low first.
-fn byte_at(pack: &[u32], from: usize, k: usize) -> u32
-    requires { ⌜ from + k / 4 < 2 ^ 62 ⌝ }
-    ensures { λ r. ⌜ r ≡ byteAt (now (pack .entry)) from k ⌝ }
-{
-    let w = word(pack, from + k / 4);
-    if k % 4 == 0 {
-        return w % 256;
-    }
-    if k % 4 == 1 {
-        return w / 256 % 256;
-    }
-    if k % 4 == 2 {
-        return w / 0x1_0000 % 256;
-    }
-    w / 0x100_0000 % 256
-}
-
-// Whether that byte is this one.
-fn same_byte(pack: &[u32], from: usize, k: usize, b: u8) -> bool
-    requires { ⌜ from + k / 4 < 2 ^ 62 ⌝ }
-    ensures { λ r. ⌜ r ≡ eqb (byteAt (now (pack .entry)) from k) b ⌝ }
-{
-    byte_at(pack, from, k) == b as u32
-}
+ghost use Rattle.interface.specs.Parts.{workgroupAt, bytesFrom};
+use crate::check_names::same_first;
 
 // How many bytes a name has, by the entry point's first word.
 pub fn name_count(head: u32) -> usize
@@ -42,19 +16,57 @@ pub fn name_count(head: u32) -> usize
     (head / 0x1_0000 % 128) as usize
 }
 
+fn wide(b: u8) -> u32
+    ensures { λ r. ⌜ (r ≡ b) × (r < 256) ⌝ }
+{
+    b as u32
+}
+
+// The word of so many bytes of a name from a position on, one to four, low first.
+fn word_of(name: &[u8], k: usize, count: u32) -> u32
+    requires { ⌜ (1 ≤ count) × (count ≤ 4) × (k + count ≤ length (now name)) ⌝ }
+    ensures { λ r. ⌜ take count (bytesOf (r ∷ [])) ≡ take count (drop k (now (name .entry))) ⌝ }
+{
+    let one = wide(name[k]);
+    if count == 1 {
+        return one;
+    }
+    let two = one + 0x100 * wide(name[k + 1]);
+    if count == 2 {
+        return two;
+    }
+    let three = two + 0x1_0000 * wide(name[k + 2]);
+    if count == 3 {
+        return three;
+    }
+    three + 0x100_0000 * wide(name[k + 3])
+}
+
+// Whether a word begins with so many bytes of a name.
+fn same_word(w: u32, name: &[u8], k: usize, count: u32) -> bool
+    requires { ⌜ (1 ≤ count) × (count ≤ 4) × (k + count ≤ length (now name)) ⌝ }
+    ensures { λ r. ⌜ r ≡ sameBytes (take count (bytesOf (w ∷ []))) (take count (drop k (now (name .entry)))) ⌝ }
+{
+    same_first(w, word_of(name, k, count), count)
+}
+
 // Whether the bytes of the words from a position on begin with these.
 fn same_bytes(pack: &[u32], from: usize, name: &[u8]) -> bool
     requires { ⌜ from + nameWords (length (now name)) ≤ length (now pack) ⌝ }
     ensures { λ r. ⌜ r ≡ sameBytes (bytesFrom (now (pack .entry)) from (length (now (name .entry)))) (now (name .entry)) ⌝ }
 {
-    let mut k: usize = 0;
-    while k < name.len() {
-        if !same_byte(pack, from, k, name[k]) {
+    let mut i: usize = 0;
+    while i < name.len() / 4 {
+        if !same_word(pack[from + i], name, 4 * i, 4) {
             return false;
         }
-        k += 1;
+        i += 1;
     }
-    true
+    let left = name.len() % 4;
+    if left == 0 {
+        return true;
+    }
+    same_word(pack[from + i], name, 4 * i, left as u32)
 }
 
 // Whether the name of the entry point that begins at a position is these bytes.
@@ -62,7 +74,7 @@ pub(crate) fn same_name(pack: &[u32], head: usize, name: &[u8]) -> bool
     requires { ⌜ workgroupAt (now pack) head ≤ length (now pack) ⌝ }
     ensures { λ r. ⌜ r ≡ sameBytes (nameAt (now (pack .entry)) head) (now (name .entry)) ⌝ }
 {
-    if name.len() != name_count(word(pack, head)) {
+    if name.len() != name_count(pack[head]) {
         return false;
     }
     same_bytes(pack, head + 1, name)

@@ -9,5 +9,5 @@ same-words-spec =
     (tie.spec
     (λ c κs. search needs)  -- word-requires
     (λ c κs. search needs)  -- word-requires-2
-    (λ c κs. search needs)  -- same-bytes-requires
+    (λ c κs. search needs)  -- same-first-requires
     (λ c. search words-compared))  -- returns

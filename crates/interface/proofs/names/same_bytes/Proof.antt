@@ -1,5 +1,5 @@
-use Rattle.interface.proofs.ReadsNames.{bytes-differ, bytes-onward, bytes-ended}
-use Prim.Native.Nat.{_-_, _≤_}
+use Rattle.interface.proofs.ReadsNames.{words-begin, words-differ, words-agree, words-ended, words-left}
+use Prim.Native.Nat.{_+_, _-_, _*_, _/_, _≤_}
 use mathlib.Core.Path.{_≡_}
 use lib.ListN.{length, drop}
 use Rattle.interface.specs.Format.{sameBytes}
@@ -9,10 +9,11 @@ use Rattle.interface.proofs.names.same_bytes.Statement.{statement}
 use Rattle.interface.proofs.names.same_bytes.Tie as tie
 
 abbrev Inv-loop : tie.InvT-loop
-Inv-loop pack from name k₀ k = (k ≤ length name) × (sameBytes (bytesFrom pack from (length name)) name ≡ sameBytes (drop k (bytesFrom pack from (length name))) (drop k name))
+Inv-loop pack from name i₀ i =
+    (i ≤ length name / 4) × (sameBytes (bytesFrom pack from (length name)) name ≡ sameBytes (bytesFrom pack (from + i) (length name - 4 * i)) (drop (4 * i) name))
 
 abbrev μ-loop : tie.MeasureT-loop
-μ-loop pack from name k₀ k = length name - k
+μ-loop pack from name i₀ i = length name / 4 - i
 
 pub same-bytes-spec : {M : Type 1} → statement M
 same-bytes-spec =
@@ -20,11 +21,21 @@ same-bytes-spec =
     (tie.spec
     Inv-loop
     μ-loop
-    (λ c. search needs)  -- loop-holds
-    (λ c. search needs)  -- shared-slice-read-same-byte
-    (λ c κs. search needs)  -- same-byte-requires
-    (λ c. search bytes-differ)  -- returns
-    (λ c. search needs)  -- add-k
+    (λ c. (search needs, search words-begin))  -- loop-holds
+    (λ c. search needs)  -- add-same-word
+    (λ c. search needs)  -- mul-same-word
+    (λ c. search needs)  -- shared-slice-read-same-word
+    (λ c. search needs)  -- mul-same-word-2
+    (λ c κs. search needs)  -- same-word-requires
+    (λ c. search words-differ)  -- returns
+    (λ c. search needs)  -- add-i
     (λ c. search needs)  -- loop-less
-    (λ c. (search needs, search bytes-onward))  -- loop-again
-    (λ c. search bytes-ended))  -- returns-2
+    (λ c. (search needs, search words-agree))  -- loop-again
+    (λ c. search words-ended)  -- returns-2
+    (λ c. search needs)  -- add-same-word-2
+    (λ c. search needs)  -- mul-same-word-3
+    (λ c. search needs)  -- shared-slice-read-same-word-2
+    (λ c. search needs)  -- mul-same-word-4
+    (λ c. search needs)  -- cast-same-word
+    (λ c κs. search needs)  -- same-word-requires-2
+    (λ c. search words-left))  -- returns-3

@@ -7,7 +7,8 @@ pub same-name-spec : {M : Type 1} → statement M
 same-name-spec =
     tie.close
     (tie.spec
-    (λ c κs. search needs)  -- word-requires
+    (λ c. search needs)  -- mul-name-count
+    (λ c. search needs)  -- shared-slice-read-name-count
     (λ c κs. search needs)  -- name-count-requires
     (λ c. search name-counts)  -- returns
     (λ c. search needs)  -- add-same-bytes

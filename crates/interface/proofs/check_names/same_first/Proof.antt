@@ -1,9 +1,9 @@
 use Rattle.interface.proofs.CheckHeads.{same-words}
-use Rattle.interface.proofs.check_names.same_bytes.Statement.{statement}
-use Rattle.interface.proofs.check_names.same_bytes.Tie as tie
+use Rattle.interface.proofs.check_names.same_first.Statement.{statement}
+use Rattle.interface.proofs.check_names.same_first.Tie as tie
 
-pub same-bytes-spec : {M : Type 1} → statement M
-same-bytes-spec =
+pub same-first-spec : {M : Type 1} → statement M
+same-first-spec =
     tie.close
     (tie.spec
     (λ c. search same-words)  -- returns
