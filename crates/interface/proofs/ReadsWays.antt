@@ -28,9 +28,6 @@ module _ (ws : List ℕ) (at w k : ℕ) (hw : w ≡ wordAt ws at) (hk : k ≡ ki
   pub width-built-in : (k ≡ 12 → ⊥) → 1 ≡ varyingWidth (drop at ws)
   width-built-in h = rw (first-word ws at, ← hw, ← hk, ne-eqb k 12 h)
 
-pub pair-read : (ws : List ℕ) (at w : ℕ) → w ≡ wordAt ws at → record { texture = w / 256 % 256; sampler = w % 256 } ≡ pairOf (wordAt ws at)
-pair-read ws at w h = rw h
-
 abbrev limit : List ℕ → ℕ → ℕ
 limit ws at = contentOf (wordAt ws at)
 

@@ -100,12 +100,11 @@ pub fn varying_width(pack: &[u32], at: usize) -> usize
     1
 }
 
-// The sampling pair at a position.
-pub fn pair_at(pack: &[u32], at: usize) -> SamplingPair
-    ensures { λ r. ⌜ r ≡ pairOf (wordAt (now (pack .entry)) at) ⌝ }
+// The sampling pair that a word means.
+pub fn pair_of(w: u32) -> SamplingPair
+    ensures { λ r. ⌜ r ≡ pairOf w ⌝ }
     ensures { λ r. ⌜ (r .texture < 256) × (r .sampler < 256) ⌝ }
 {
-    let w = word(pack, at);
     SamplingPair {
         texture: w / 256 % 256,
         sampler: w % 256,

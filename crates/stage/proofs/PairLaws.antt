@@ -19,9 +19,9 @@ use Rattle.resource.specs.declared.types.BindingType.the-variants as Bind
 use Rattle.resource.specs.declared.types.BindGroupLayoutEntry.{BindGroupLayoutEntry}
 use Rattle.word.proofs.Truth.{first, second, by-test}
 use Rattle.lists.proofs.Records.{first-passes, rest-passes}
-use Rattle.lists.proofs.LayoutWays.{entries-counted, entry-read}
+use Rattle.lists.proofs.LayoutStores.{entry-there}
 use Rattle.lists.specs.Meaning.{every, Layout, findEntry, foundBelow, entryNth}
-use Rattle.lists.specs.Format.{countOf, decodeLayout}
+use Rattle.lists.specs.Format.{decodeLayout}
 use Rattle.lists.specs.declared.types.Found.{Found}
 use Rattle.lists.specs.declared.types.Found.the-variants.{At, Nothing}
 use Rattle.interface.specs.Format.{pairOf, pairsOf}
@@ -29,6 +29,7 @@ use Rattle.interface.specs.declared.types.SamplingPair.{SamplingPair}
 use Rattle.stage.specs.Given.{resourceTable, pairBelow, pairsBelow, wordMeans}
 use Rattle.stage.specs.Resources.{resourceNth, filtering, sampleNumber, pairNumber, typeAt, pairAnswer, pairUse, pairUses}
 use Rattle.stage.proofs.ResourceParts.{pairs-cons, pairs-none, nth-at}
+use Rattle.stage.proofs.ResourceLaws.{found-within}
 
 -- ---- type words
 
@@ -118,59 +119,54 @@ module _ (t s : ℕ) where
 
 -- ---- the type word at a place
 
-module _ (l : List ℕ) (f : Found) (i : ℕ) (b : foundBelow (length (decodeLayout l .entries)) f ≡ true) (n : f ≡ At i) where
-  found-counted : i < countOf l
-  found-counted = let h : i < length (decodeLayout l .entries) = ltb-true i (length (decodeLayout l .entries)) (rw n at b) in omega (arith, entries-counted l)
+pub type-found : (l : List ℕ) (place : ℕ) (f : Found) (i w : ℕ) → foundBelow (length (decodeLayout l .entries)) f ≡ true → f ≡ At i
+    → f ≡ findEntry (placeOf place) (decodeLayout l) → w ≡ wordAt l (1 + 4 * i + 1) → wordMeans w (typeAt (decodeLayout l) (placeOf place))
+unfolding entryOf
+type-found l place f i w b n q e =
+    let t : entryNth (decodeLayout l .entries) i .ty ≡ bindingTypeOf (wordAt l (1 + 4 * i + 1)) (contentOf (wordAt l (1 + 4 * i + 2)))
+    = ap (λ (e : BindGroupLayoutEntry). e .ty) (entry-there l i (found-within (decodeLayout l) f i b n)) in
+    (contentOf (wordAt l (1 + 4 * i + 2)), rw (← q, n, e) t)
 
-  module _ (m : ℕ) (k : 2 ^ 60 ≤ m) where
-    pub entry-fits : 4 * i < m
-    unfolding countOf
-    entry-fits = omega (arith, found-counted)
-
-    pub type-fits : 4 * i + 2 < m
-    unfolding countOf
-    type-fits = omega (arith, found-counted)
-
-  pub type-found : (bind : ResourceBinding) (w : ℕ) → f ≡ findEntry bind (decodeLayout l) → w ≡ wordAt l (4 * i + 2) → wordMeans w (typeAt (decodeLayout l) bind)
-  unfolding entryOf
-  type-found bind w q e =
-      let j : 1 + 4 * i + 1 ≡ 4 * i + 2 = omega arith in
-      let t : entryNth (decodeLayout l .entries) i .ty ≡ bindingTypeOf (wordAt l (1 + 4 * i + 1)) (contentOf (wordAt l (1 + 4 * i + 2)))
-      = ap (λ (e : BindGroupLayoutEntry). e .ty) (sym (entry-read l i (countOf l) refl (entryAt l (1 + 4 * i)) found-counted refl)) in
-      (contentOf (wordAt l (1 + 4 * i + 2)), rw (← q, n, e, ← j) t)
-
-pub type-none : (l : List ℕ) (bind : ResourceBinding) (f : Found) → f ≡ findEntry bind (decodeLayout l) → f ≡ Nothing → wordMeans 0x9300_0000 (typeAt (decodeLayout l) bind)
+pub type-none : (l : List ℕ) (place : ℕ) (f : Found) → f ≡ findEntry (placeOf place) (decodeLayout l) → f ≡ Nothing
+    → wordMeans 0x9300_0000 (typeAt (decodeLayout l) (placeOf place))
 unfolding bindingTypeOf
-type-none l bind f q n = (0, rw (← q, n))
+type-none l place f q n = (0, rw (← q, n))
 
 -- ---- one pair
 
-pub pair-refused : (number t s : ℕ) (texture sampler : ResourceBinding) (a : Answer) → (number ≡ 0 → ⊥) → t ≡ placeWord texture → s ≡ placeWord sampler
-    → a ≡ answer number t s 0 → a ≡ pairAnswer number texture sampler
-pair-refused number t s texture sampler a n p q h = rw (ne-eqb number 0 n, ← p, ← q) h
+pub pair-refused : (number t s x y : ℕ) (a : Answer) → (number ≡ 0 → ⊥) → x ≡ contentOf t → y ≡ contentOf s
+    → a ≡ answer number (0x20000000 + x) (0x20000000 + y) 0 → a ≡ pairAnswer number (placeOf t) (placeOf s)
+pair-refused number t s x y a n p q h =
+    let v : 0x20000000 + x ≡ placeWord (placeOf t) = omega arith in
+    let w : 0x20000000 + y ≡ placeWord (placeOf s) = omega arith in
+    rw (ne-eqb number 0 n, ← v, ← w) h
 
-module _ (count : ℕ) (p : SamplingPair) (h : pairBelow count p ≡ true) where
+module _ (count w : ℕ) (p : SamplingPair) (h : pairBelow count (pairOf w) ≡ true) (e : p ≡ pairOf w) where
   pub texture-below : p .texture < count
-  texture-below = ltb-true (p .texture) count (first (ltb (p .texture) count) (ltb (p .sampler) count) h)
+  texture-below = rw e (ltb-true (pairOf w .texture) count (first (ltb (pairOf w .texture) count) (ltb (pairOf w .sampler) count) h))
 
   pub sampler-below : p .sampler < count
-  sampler-below = ltb-true (p .sampler) count (second (ltb (p .texture) count) (ltb (p .sampler) count) h)
+  sampler-below = rw e (ltb-true (pairOf w .sampler) count (second (ltb (pairOf w .texture) count) (ltb (pairOf w .sampler) count) h))
 
-pub place-listed : (ws offsets : List ℕ) (i o : ℕ) (p : ResourceBinding) → i < length (resourceTable ws offsets) → o ≡ wordAt offsets i → p ≡ placeOf (wordAt ws o)
-    → p ≡ resourceNth (resourceTable ws offsets) i .bind
-place-listed ws offsets i o p h q d = rw (nth-at ws offsets i h, ← q) d
+pub place-listed : (ws offsets : List ℕ) (i o w : ℕ) → i < length (resourceTable ws offsets) → o ≡ wordAt offsets i → w ≡ wordAt ws o
+    → placeOf w ≡ resourceNth (resourceTable ws offsets) i .bind
+place-listed ws offsets i o w h q d = rw (nth-at ws offsets i h, ← q, d)
 
-pub places-used : (L : Layout) (texture sampler : ResourceBinding) (x y number : ℕ) (a : Answer) → wordMeans x (typeAt L texture) → wordMeans y (typeAt L sampler)
-    → number ≡ pairNumber (bindingTypeOf x 0) (bindingTypeOf y 0) → a ≡ pairAnswer number texture sampler
-    → a ≡ pairAnswer (pairNumber (typeAt L texture) (typeAt L sampler)) texture sampler
-places-used L texture sampler x y number a p q n h =
+pub places-used : (L : Layout) (t s x y number : ℕ) (a : Answer) → wordMeans x (typeAt L (placeOf t)) → wordMeans y (typeAt L (placeOf s))
+    → number ≡ pairNumber (bindingTypeOf x 0) (bindingTypeOf y 0) → a ≡ pairAnswer number (placeOf t) (placeOf s)
+    → a ≡ pairAnswer (pairNumber (typeAt L (placeOf t)) (typeAt L (placeOf s))) (placeOf t) (placeOf s)
+places-used L t s x y number a p q n h =
     rw (p .1, q .1, number-texture x (p .0) (bindingTypeOf y (q .0)), number-sampler (bindingTypeOf x 0) y (q .0), ← n) h
 
-pub pair-used : (L : Layout) (resources : List Resource) (p : SamplingPair) (texture sampler : ResourceBinding) (a : Answer)
-    → texture ≡ resourceNth resources (p .texture) .bind → sampler ≡ resourceNth resources (p .sampler) .bind
-    → a ≡ pairAnswer (pairNumber (typeAt L texture) (typeAt L sampler)) texture sampler → a ≡ pairUse L resources p
-unfolding pairUse
-pair-used L resources p texture sampler a t s h = rw (← t, ← s) h
+module _ (L : Layout) (resources : List Resource) (p : SamplingPair) (t s : ℕ) (a : Answer)
+    (et : placeOf t ≡ resourceNth resources (p .texture) .bind) (es : placeOf s ≡ resourceNth resources (p .sampler) .bind)
+    (h : a ≡ pairAnswer (pairNumber (typeAt L (placeOf t)) (typeAt L (placeOf s))) (placeOf t) (placeOf s)) where
+  used : a ≡ pairUse L resources p
+  unfolding pairUse
+  used = rw (← et, ← es) h
+
+  pub pair-used : (w : ℕ) → p ≡ pairOf w → a ≡ pairUse L resources (pairOf w)
+  pair-used w e = used ∙ ap (pairUse L resources) e
 
 -- ---- one after the other
 
@@ -178,24 +174,25 @@ module _ (ws : List ℕ) (count k at : ℕ) (b : pairsBelow count (pairsOf (take
   paired : pairsBelow count (pairOf (wordAt ws at) ∷ pairsOf (take (k - 1) (drop (at + 1) ws))) ≡ true
   paired = rw (pairs-cons ws k at n h) at b
 
-  pub pair-below : (p : SamplingPair) → p ≡ pairOf (wordAt ws at) → pairBelow count p ≡ true
+  pub pair-below : pairBelow count (pairOf (wordAt ws at)) ≡ true
   unfolding every
-  pair-below p e = rw e (first-passes (pairBelow count (pairOf (wordAt ws at))) (pairsBelow count (pairsOf (take (k - 1) (drop (at + 1) ws)))) paired)
+  pair-below = (first-passes (pairBelow count (pairOf (wordAt ws at))) (pairsBelow count (pairsOf (take (k - 1) (drop (at + 1) ws)))) paired)
 
   pub pairs-rest : pairsBelow count (pairsOf (take (k - 1) (drop (at + 1) ws))) ≡ true
   unfolding every
   pairs-rest = rest-passes (pairBelow count (pairOf (wordAt ws at))) (pairsBelow count (pairsOf (take (k - 1) (drop (at + 1) ws)))) paired
 
-module _ (ws : List ℕ) (L : Layout) (resources : List Resource) (k at : ℕ) (goal : Answer) (inv : goal ≡ pairUses L resources (pairsOf (take k (drop at ws)))) where
-  module _ (p : SamplingPair) (a : Answer) (n : k ≡ 0 → ⊥) (h : at + k ≤ length ws) (q : p ≡ pairOf (wordAt ws at)) (e : a ≡ pairUse L resources p) where
-    pub pairs-refused : (a .number ≡ 0 → ⊥) → a ≡ goal
+module _ (ws : List ℕ) (L : Layout) (resources : List Resource) (k at : ℕ) (goal : Answer) where
+  module _ (a : Answer) (n : k ≡ 0 → ⊥) (h : at + k ≤ length ws) where
+    pub pairs-refused : (a .number ≡ 0 → ⊥) → a ≡ pairUse L resources (pairOf (wordAt ws at)) → goal ≡ pairUses L resources (pairsOf (take k (drop at ws))) → a ≡ goal
     unfolding pairUses
-    pairs-refused z = sym (inv ∙ rw (pairs-cons ws k at n h, ← q, ← e, ne-eqb (a .number) 0 z))
+    pairs-refused z e inv = sym (inv ∙ rw (pairs-cons ws k at n h, ← e, ne-eqb (a .number) 0 z))
 
-    pub pairs-onward : a .number ≡ 0 → goal ≡ pairUses L resources (pairsOf (take (k - 1) (drop (at + 1) ws)))
+    pub pairs-onward : a .number ≡ 0 → a ≡ pairUse L resources (pairOf (wordAt ws at)) → goal ≡ pairUses L resources (pairsOf (take k (drop at ws)))
+        → goal ≡ pairUses L resources (pairsOf (take (k - 1) (drop (at + 1) ws)))
     unfolding pairUses
-    pairs-onward z = inv ∙ rw (pairs-cons ws k at n h, ← q, ← e, eq-eqb (a .number) 0 z)
+    pairs-onward z e inv = inv ∙ rw (pairs-cons ws k at n h, ← e, eq-eqb (a .number) 0 z)
 
-  pub pairs-ended : k ≡ 0 → (a : Answer) → a ≡ accepted → a ≡ goal
+  pub pairs-ended : k ≡ 0 → (a : Answer) → a ≡ accepted → goal ≡ pairUses L resources (pairsOf (take k (drop at ws))) → a ≡ goal
   unfolding pairUses
-  pairs-ended z a e = e ∙ sym (inv ∙ rw (pairs-none (drop at ws) k z))
+  pairs-ended z a e inv = e ∙ sym (inv ∙ rw (pairs-none (drop at ws) k z))

@@ -31,7 +31,7 @@ use Rattle.resource.proofs.WordLaws.{derived-least, same-by-words}
 use Rattle.lists.specs.Meaning.{Layout, Sizes, entryPlaces, findEntry, foundBelow, entryHas, entryNth, seesBit, fits, pushed, joined, sizeHas, sizeFits, recorded}
 use Rattle.lists.specs.Format.{entryFits, layoutFiled, decodeLayout}
 use Rattle.lists.proofs.PlaceWays.{place-lacks}
-use Rattle.lists.proofs.LayoutStores.{entry-there, entry-filed-there}
+use Rattle.lists.proofs.LayoutStores.{layout-few, entry-there, entry-filed-there}
 use Rattle.lists.specs.declared.types.Found.{Found}
 use Rattle.lists.specs.declared.types.Found.the-variants.{At, Nothing}
 use Rattle.interface.specs.Format.{stageCode}
@@ -44,6 +44,20 @@ use Rattle.stage.proofs.StateLaws.{then-ended, then-went}
 pub answer-there : (number place : ℕ) (bind : ResourceBinding) (a : Answer) → bind ≡ placeOf place → a ≡ bindingAnswer number bind
     → a ≡ bindingAnswer number (placeOf place)
 answer-there number place bind a e h = h ∙ ap (bindingAnswer number) e
+
+-- ---- positions that were found
+
+-- the position that was found is one of an entry
+pub found-within : (L : Layout) (f : Found) (i : ℕ) → foundBelow (length (L .entries)) f ≡ true → f ≡ At i → i < length (L .entries)
+found-within L f i h e = ltb-true i (length (L .entries)) (rw e at h)
+
+-- and fits into a byte
+pub found-few : (l : List ℕ) (f : Found) → layoutFiled l ≡ true → foundBelow (length (decodeLayout l .entries)) f ≡ true → foundBelow 256 f ≡ true
+found-few l (At i) h b = lt-ltb i 256 (omega (arith, layout-few l h, ltb-true i (length (decodeLayout l .entries)) b))
+found-few l Nothing h b = refl
+
+pub found-byte : (f : Found) (i : ℕ) → foundBelow 256 f ≡ true → f ≡ At i → i < 2 ^ 8
+found-byte f i h e = ltb-true i 256 (rw e at h)
 
 -- ---- provided
 
@@ -202,10 +216,6 @@ module _ (place ty least p v : ℕ) (b : BindingType) (t : TypeWords ty least b)
     pub vacant-full : k ≡ false → a ≡ bindingAnswer 5 (placeOf place) → (w size : ℕ) (S : Sizes) → state a M S ≡ vacant stage (resource place w size) b L S
     unfolding vacant
     vacant-full y h w size S = rw (← q, m, y, h)
-
--- the position that was found is one of an entry
-pub found-within : (L : Layout) (f : Found) (i : ℕ) → foundBelow (length (L .entries)) f ≡ true → f ≡ At i → i < length (L .entries)
-found-within L f i h e = ltb-true i (length (L .entries)) (rw e at h)
 
 module _ (stage : ShaderStage) (place : ℕ) (b : BindingType) (L M : Layout) (a : Answer) (f : Found) (q : f ≡ findEntry (placeOf place) L) where
   pub place-occupied : (i : ℕ) → f ≡ At i → ((w size : ℕ) (S : Sizes) → state a M S ≡ occupied stage (resource place w size) b i L S)

@@ -39,6 +39,7 @@ fn check_resources(
     pack: &[u32],
     parts: EntryParts,
     offsets: &[u16],
+    entries: &mut [u8; 128],
     layout: &mut [u32],
     sizes: &mut [u32],
     stage: u32,
@@ -66,6 +67,7 @@ fn check_resources(
         pairs,
         stage_at(stage),
         mode == 1,
+        entries,
         layout,
         sizes,
     )
@@ -77,6 +79,7 @@ fn judge_out(
     parts: EntryParts,
     outputs: Summary,
     offsets: &[u16],
+    entries: &[u8; 128],
     layout: &[u32],
     inputs: &[u32],
     out: &mut [u32],
@@ -100,6 +103,7 @@ fn judge_out(
         pack,
         parts,
         offsets,
+        entries,
         outputs,
         layout,
         inputs,
@@ -123,6 +127,7 @@ fn judge_call(
     parts: EntryParts,
     outputs: Summary,
     offsets: &[u16],
+    entries: &[u8; 128],
     layout: &[u32],
     inputs: &[u32],
     out: &mut [u32],
@@ -148,6 +153,7 @@ fn judge_call(
         parts,
         outputs,
         offsets,
+        entries,
         layout,
         inputs,
         out,
@@ -183,7 +189,17 @@ fn run_body(
         (now (inputs .entry)) (now (out .entry)) stage [] topology mode dual depth)
         (interfaceOf (decode (now (pack .entry)))) (standing (now (pack .entry)) parts) ⌝ }
 {
-    let resources = check_resources(pack, parts, offsets, layout, sizes, stage, mode);
+    let mut entries: [u8; 128] = [0; 128];
+    let resources = check_resources(
+        pack,
+        parts,
+        offsets,
+        &mut entries,
+        layout,
+        sizes,
+        stage,
+        mode,
+    );
     if resources.number != 0 {
         return resources;
     }
@@ -192,6 +208,7 @@ fn run_body(
         parts,
         outputs,
         offsets,
+        &entries,
         layout,
         inputs,
         out,

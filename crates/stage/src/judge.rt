@@ -163,6 +163,7 @@ fn pair_step(
     pack: &[u32],
     parts: EntryParts,
     offsets: &[u16],
+    entries: &[u8; 128],
     layout: &[u32],
     derived: bool,
 ) -> Answer
@@ -176,7 +177,7 @@ fn pair_step(
     }
     let counts = parts.counts;
     let n = pairs_counted(pack[counts]);
-    pair_uses(layout, pack, offsets, parts.pairs, n)
+    pair_uses(layout, pack, offsets, entries, parts.pairs, n)
 }
 
 // The workgroup size of an entry point against the limits of its stage.
@@ -193,6 +194,7 @@ pub(crate) fn judge(
     pack: &[u32],
     parts: EntryParts,
     offsets: &[u16],
+    entries: &[u8; 128],
     outputs: Summary,
     layout: &[u32],
     inputs: &[u32],
@@ -208,7 +210,7 @@ pub(crate) fn judge(
     ensures { λ r. ⌜ r ≡ judged derived (request stage topology dual depth) (resourceTable (now (pack .entry)) (now (offsets .entry)))
         (interfaceOf (decode (now (pack .entry))) .limits) (standing (now (pack .entry)) parts) (decodeStage (now (inputs .entry))) (decodeLayout (now (layout .entry))) ⌝ }
 {
-    let pairs = pair_step(pack, parts, offsets, layout, derived);
+    let pairs = pair_step(pack, parts, offsets, entries, layout, derived);
     if pairs.number != 0 {
         return stopped(pairs);
     }

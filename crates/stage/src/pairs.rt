@@ -4,21 +4,19 @@ ghost use mathlib.Core.Bool.{true};
 ghost use Prim.Native.Nat.{_+_, _<_, _≤_};
 ghost use lib.ListN.{length, take, drop};
 ghost use Rattle.word.specs.Words.{bits};
-ghost use Rattle.resource.specs.Format.{placeHeld, sampleAt, bindingTypeOf};
-ghost use Rattle.lists.specs.Format.{decodeLayout};
-ghost use Rattle.interface.specs.Format.{pairsOf};
+ghost use Rattle.resource.specs.Format.{placeOf, sampleAt, bindingTypeOf};
+ghost use Rattle.lists.specs.Format.{layoutFiled, decodeLayout};
+ghost use Rattle.interface.specs.Format.{pairOf, pairsOf};
 ghost use Rattle.stage.specs.Given.{resourceTable, Inside, pairBelow, pairsBelow, wordMeans};
 ghost use Rattle.stage.specs.Resources.{resourceNth, filtering, sampleNumber, pairNumber, typeAt, pairAnswer, pairUse, pairUses};
-use interface::reads::pair_at;
+use crate::resources::noted;
+use interface::reads::pair_of;
 use interface::reads::position_at;
-use interface::types::SamplingPair;
-use lists::layout::find_entry;
+use lists::layout::entry_word;
+use lists::layout::find_entry_near;
 use lists::types::Found;
-use resource::resource_words::place_of;
-use resource::resource_words::place_word;
-use resource::types::ResourceBinding;
 use word::answer::Answer;
-use word::word;
+use word::content;
 
 // Whether a type word is a filtering sampler's.
 fn filtering(sampler: u32) -> bool
@@ -58,55 +56,75 @@ fn pair_number(texture: u32, sampler: u32) -> u32
     34
 }
 
-// The type word of the entry at a place; where there is none, one that is no texture and no sampler.
-fn type_word_at(layout: &[u32], bind: ResourceBinding) -> u32
-    ensures { λ r. ⌜ wordMeans r (typeAt (decodeLayout (now (layout .entry))) bind) ⌝ }
+// The type word of the entry at a word's place, tried at a position first; where there is none, one that is no texture and no sampler.
+fn type_word_at(layout: &[u32], place: u32, near: usize) -> u32
+    requires { ⌜ layoutFiled (now layout) ≡ true ⌝ }
+    ensures { λ r. ⌜ wordMeans r (typeAt (decodeLayout (now (layout .entry))) (placeOf place)) ⌝ }
 {
-    match find_entry(layout, bind) {
-        Found::At { index } => word(layout, 4 * index + 2),
+    match find_entry_near(layout, place, near) {
+        Found::At { index } => entry_word(layout, index, 1),
         Found::Nothing => 0x9300_0000,
     }
 }
 
-// The answer of a number that names two places.
-fn pair_answer(number: u32, texture: ResourceBinding, sampler: ResourceBinding) -> Answer
-    requires { ⌜ (placeHeld texture ≡ true) × (placeHeld sampler ≡ true) ⌝ }
-    ensures { λ r. ⌜ r ≡ pairAnswer number texture sampler ⌝ }
+// The answer of a number that names the places of two words.
+fn pair_answer(number: u32, texture: u32, sampler: u32) -> Answer
+    ensures { λ r. ⌜ r ≡ pairAnswer number (placeOf texture) (placeOf sampler) ⌝ }
 {
     if number == 0 {
         return Answer::accepted();
     }
-    Answer::new(number, place_word(texture), place_word(sampler), 0)
+    Answer::new(
+        number,
+        0x2000_0000 + content(texture),
+        0x2000_0000 + content(sampler),
+        0,
+    )
 }
 
-// The place of the resource of an index.
-fn place_at(pack: &[u32], offsets: &[u16], i: u32) -> ResourceBinding
+// The word that tells the place of the resource of an index.
+fn place_at(pack: &[u32], offsets: &[u16], i: u32) -> u32
     requires { ⌜ (i < length (resourceTable (now pack) (now offsets))) × Inside (now pack) (now offsets) ⌝ }
-    ensures { λ r. ⌜ r ≡ resourceNth (resourceTable (now (pack .entry)) (now (offsets .entry))) i .bind ⌝ }
-    ensures { λ r. ⌜ placeHeld r ≡ true ⌝ }
+    ensures { λ r. ⌜ placeOf r ≡ resourceNth (resourceTable (now (pack .entry)) (now (offsets .entry))) i .bind ⌝ }
 {
     let at = position_at(offsets, i as usize) as usize;
-    place_of(pack[at])
+    pack[at]
 }
 
-// The entries at a texture's and a sampler's place.
-fn places_use(layout: &[u32], texture: ResourceBinding, sampler: ResourceBinding) -> Answer
-    requires { ⌜ (placeHeld texture ≡ true) × (placeHeld sampler ≡ true) ⌝ }
-    ensures { λ r. ⌜ r ≡ pairAnswer (pairNumber (typeAt (decodeLayout (now (layout .entry))) texture) (typeAt (decodeLayout (now (layout .entry))) sampler))
-        texture sampler ⌝ }
+// The entries at a texture's and a sampler's place, each tried at a position first.
+fn places_use(
+    layout: &[u32],
+    texture: u32,
+    sampler: u32,
+    texture_near: usize,
+    sampler_near: usize,
+) -> Answer
+    requires { ⌜ layoutFiled (now layout) ≡ true ⌝ }
+    ensures { λ r. ⌜ r ≡ pairAnswer
+        (pairNumber (typeAt (decodeLayout (now (layout .entry))) (placeOf texture)) (typeAt (decodeLayout (now (layout .entry))) (placeOf sampler)))
+        (placeOf texture) (placeOf sampler) ⌝ }
 {
-    let number = pair_number(type_word_at(layout, texture), type_word_at(layout, sampler));
+    let number = pair_number(
+        type_word_at(layout, texture, texture_near),
+        type_word_at(layout, sampler, sampler_near),
+    );
     pair_answer(number, texture, sampler)
 }
 
-// A texture with the sampler it is sampled with.
-fn pair_use(layout: &[u32], pack: &[u32], offsets: &[u16], pair: SamplingPair) -> Answer
-    requires { ⌜ (pairBelow (length (resourceTable (now pack) (now offsets))) pair ≡ true) × Inside (now pack) (now offsets) ⌝ }
-    ensures { λ r. ⌜ r ≡ pairUse (decodeLayout (now (layout .entry))) (resourceTable (now (pack .entry)) (now (offsets .entry))) pair ⌝ }
+// A texture with the sampler it is sampled with, by the word of the pair.
+fn pair_use(layout: &[u32], pack: &[u32], offsets: &[u16], entries: &[u8; 128], w: u32) -> Answer
+    requires { ⌜ (pairBelow (length (resourceTable (now pack) (now offsets))) (pairOf w) ≡ true) × Inside (now pack) (now offsets) ⌝ }
+    requires { ⌜ layoutFiled (now layout) ≡ true ⌝ }
+    ensures { λ r. ⌜ r ≡ pairUse (decodeLayout (now (layout .entry))) (resourceTable (now (pack .entry)) (now (offsets .entry))) (pairOf w) ⌝ }
 {
-    let texture = place_at(pack, offsets, pair.texture);
-    let sampler = place_at(pack, offsets, pair.sampler);
-    places_use(layout, texture, sampler)
+    let pair = pair_of(w);
+    places_use(
+        layout,
+        place_at(pack, offsets, pair.texture),
+        place_at(pack, offsets, pair.sampler),
+        noted(entries, pair.texture),
+        noted(entries, pair.sampler),
+    )
 }
 
 // Each pair of the entry point in pack order, up to the first that is refused.
@@ -114,10 +132,11 @@ pub(crate) fn pair_uses(
     layout: &[u32],
     pack: &[u32],
     offsets: &[u16],
+    entries: &[u8; 128],
     from: usize,
     n: usize,
 ) -> Answer
-    requires { ⌜ (from + n ≤ length (now pack)) × Inside (now pack) (now offsets) ⌝ }
+    requires { ⌜ (from + n ≤ length (now pack)) × Inside (now pack) (now offsets) × (layoutFiled (now layout) ≡ true) ⌝ }
     requires { ⌜ pairsBelow (length (resourceTable (now pack) (now offsets))) (pairsOf (take n (drop from (now pack)))) ≡ true ⌝ }
     ensures { λ r. ⌜ r ≡ pairUses (decodeLayout (now (layout .entry))) (resourceTable (now (pack .entry)) (now (offsets .entry)))
         (pairsOf (take n (drop from (now (pack .entry))))) ⌝ }
@@ -125,7 +144,7 @@ pub(crate) fn pair_uses(
     let mut at = from;
     let mut left = n;
     while left != 0 {
-        let a = pair_use(layout, pack, offsets, pair_at(pack, at));
+        let a = pair_use(layout, pack, offsets, entries, pack[at]);
         if a.number != 0 {
             return a;
         }

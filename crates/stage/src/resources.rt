@@ -7,7 +7,7 @@ ghost use lib.ListN.{length, take, drop};
 ghost use Rattle.word.specs.Words.{contentOf};
 ghost use Rattle.resource.specs.Format.{placeOf, typeCode, resourceTypeOf, resource, bindingTypeOf, sameBinding, typeHeld};
 ghost use Rattle.resource.specs.Answers.{bindingAnswer};
-ghost use Rattle.lists.specs.Meaning.{Layout, Sizes, findEntry, entryNth};
+ghost use Rattle.lists.specs.Meaning.{Layout, Sizes, findEntry, foundBelow, entryNth};
 ghost use Rattle.lists.specs.declared.types.Found.the-variants.{Nothing};
 ghost use Rattle.lists.specs.Format.{layoutFiled, sizesFiled, decodeLayout, decodeSizes};
 ghost use Rattle.interface.specs.Format.{contents, pairsOf};
@@ -18,6 +18,7 @@ use interface::reads::position_at;
 use interface::reads::stage_code;
 use interface::types::ShaderStage;
 use lists::layout::entry_word;
+use lists::layout::find_entry_near;
 use lists::layout::find_entry_word;
 use lists::layout::group_count;
 use lists::layout::join_visibility;
@@ -39,6 +40,40 @@ fn place_answer(number: u32, place: u32) -> Answer
     ensures { λ r. ⌜ r ≡ bindingAnswer number (placeOf place) ⌝ }
 {
     binding_answer(number, place_of(place))
+}
+
+// ---- where the entries of resources stand: positions to try first, which need not be right
+
+// A byte as a position.
+fn wide(b: u8) -> usize
+    ensures { λ r. ⌜ r < 256 ⌝ }
+{
+    b as usize
+}
+
+// The position that was noted for the resource of an index.
+pub(crate) fn noted(entries: &[u8; 128], i: u32) -> usize
+    ensures { λ r. ⌜ r < 256 ⌝ }
+{
+    if i < 128 {
+        wide(entries[i as usize])
+    } else {
+        0
+    }
+}
+
+// Notes the position that was found for the resource of an index.
+fn note(entries: &mut [u8; 128], i: u32, found: Found)
+    requires { ⌜ foundBelow 256 found ≡ true ⌝ }
+{
+    match found {
+        Found::At { index } => {
+            if i < 128 {
+                entries[i as usize] = index as u8;
+            }
+        }
+        Found::Nothing => {}
+    }
 }
 
 // ---- provided
@@ -78,20 +113,57 @@ fn entry_use(stage: ShaderStage, w: u32, size: u32, layout: &[u32], index: usize
     words_use(w, size, ty, least)
 }
 
-// Whether a provided layout serves a resource: 20 where it has no entry at the place.
-fn provided_use(stage: ShaderStage, layout: &[u32], place: u32, w: u32, size: u32) -> Answer
+// Whether a provided layout serves a resource, by what was found at its place: 20 where there is no entry.
+fn provided_use(
+    stage: ShaderStage,
+    layout: &[u32],
+    found: Found,
+    place: u32,
+    w: u32,
+    size: u32,
+) -> Answer
     requires { ⌜ layoutFiled (now layout) ≡ true ⌝ }
+    requires { ⌜ found ≡ findEntry (placeOf place) (decodeLayout (now layout)) ⌝ }
+    requires { ⌜ foundBelow (length (decodeLayout (now layout) .entries)) found ≡ true ⌝ }
     ensures { λ a. ⌜ a ≡ providedUse stage (decodeLayout (now (layout .entry))) (resource place w (contentOf size)) ⌝ }
 {
-    match find_entry_word(layout, place) {
+    match found {
         Found::Nothing => place_answer(20, place),
         Found::At { index } => place_answer(entry_use(stage, w, size, layout, index), place),
     }
 }
 
 // A resource against a provided layout, its size recorded first.
+fn provide_found(
+    stage: ShaderStage,
+    found: Found,
+    place: u32,
+    w: u32,
+    size: u32,
+    layout: &[u32],
+    sizes: &mut [u32],
+) -> Answer
+    requires { ⌜ (layoutFiled (now layout) ≡ true) × (sizesFiled (now sizes) ≡ true) ⌝ }
+    requires { ⌜ found ≡ findEntry (placeOf place) (decodeLayout (now layout)) ⌝ }
+    requires { ⌜ foundBelow (length (decodeLayout (now layout) .entries)) found ≡ true ⌝ }
+    requires { ⌜ typeHeld (resourceTypeOf w (contentOf size)) ≡ true ⌝ }
+    ensures { λ a. ⌜ state a (decodeLayout (now (layout .entry))) (decodeSizes (now (sizes .exit)))
+        ≡ provideStep stage (resource place w (contentOf size)) (decodeLayout (now (layout .entry))) (decodeSizes (now (sizes .entry))) ⌝ }
+    ensures { λ a. ⌜ sizesFiled (now (sizes .exit)) ≡ true ⌝ }
+{
+    let recorded = record_size(place, w, size, sizes);
+    if recorded.number != 0 {
+        return recorded;
+    }
+    provided_use(stage, layout, found, place, w, size)
+}
+
+// The same, with its entry tried at a position first, and the position noted where it stands.
 fn provide_step(
     stage: ShaderStage,
+    i: u32,
+    near: usize,
+    entries: &mut [u8; 128],
     place: u32,
     w: u32,
     size: u32,
@@ -104,11 +176,9 @@ fn provide_step(
         ≡ provideStep stage (resource place w (contentOf size)) (decodeLayout (now (layout .entry))) (decodeSizes (now (sizes .entry))) ⌝ }
     ensures { λ a. ⌜ sizesFiled (now (sizes .exit)) ≡ true ⌝ }
 {
-    let recorded = record_size(place, w, size, sizes);
-    if recorded.number != 0 {
-        return recorded;
-    }
-    provided_use(stage, layout, place, w, size)
+    let found = find_entry_near(layout, place, near);
+    note(entries, i, found);
+    provide_found(stage, found, place, w, size, layout, sizes)
 }
 
 // ---- derived
@@ -246,6 +316,8 @@ fn resource_step(
     stage: ShaderStage,
     derived: bool,
     i: u32,
+    near: usize,
+    entries: &mut [u8; 128],
     layout: &mut [u32],
     sizes: &mut [u32],
 ) -> Answer
@@ -266,10 +338,10 @@ fn resource_step(
         let named = named_sampled(pack, pairs_at, pairs_n, w, i);
         return derive_step(stage, named, place, w, size, layout);
     }
-    provide_step(stage, place, w, size, layout, sizes)
+    provide_step(stage, i, near, entries, place, w, size, layout, sizes)
 }
 
-// Each resource of the entry point in list order, up to the first that is refused.
+// Each resource of the entry point in list order, up to the first that is refused. Entries mostly stand in the same order.
 pub(crate) fn resource_steps(
     pack: &[u32],
     offsets: &[u16],
@@ -279,6 +351,7 @@ pub(crate) fn resource_steps(
     pairs_n: usize,
     stage: ShaderStage,
     derived: bool,
+    entries: &mut [u8; 128],
     layout: &mut [u32],
     sizes: &mut [u32],
 ) -> Answer
@@ -294,6 +367,7 @@ pub(crate) fn resource_steps(
 {
     let mut at = from;
     let mut left = n;
+    let mut near: usize = 0;
     while left != 0 {
         let i = content(pack[at]);
         let a = resource_step(
@@ -304,12 +378,15 @@ pub(crate) fn resource_steps(
             stage,
             derived,
             i,
+            near,
+            entries,
             layout,
             sizes,
         );
         if a.number != 0 {
             return a;
         }
+        near = noted(entries, i) + 1;
         at += 1;
         left -= 1;
     }

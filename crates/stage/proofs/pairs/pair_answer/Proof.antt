@@ -10,7 +10,9 @@ pair-answer-spec =
     (tie.spec
     (λ c κs. search needs)  -- accepted-requires
     (λ c. search tests)  -- returns
-    (λ c κs. search needs)  -- place-word-requires
-    (λ c κs. search needs)  -- place-word-requires-2
+    (λ c κs. search needs)  -- content-requires
+    (λ c. search needs)  -- add-new
+    (λ c κs. search needs)  -- content-requires-2
+    (λ c. search needs)  -- add-new-2
     (λ c κs. search needs)  -- new-requires
     (λ c. search pair-refused))  -- returns-2

@@ -7,7 +7,10 @@ pub pair-use-spec : {M : Type 1} → statement M
 pair-use-spec =
     tie.close
     (tie.spec
+    (λ c κs. search needs)  -- pair-of-requires
     (λ c κs. search texture-below)  -- place-at-requires
     (λ c κs. search sampler-below)  -- place-at-requires-2
+    (λ c κs. search needs)  -- noted-requires
+    (λ c κs. search needs)  -- noted-requires-2
     (λ c κs. search needs)  -- places-use-requires
     (λ c. search pair-used))  -- returns

@@ -12,13 +12,13 @@ use Rattle.stage.proofs.pairs.pair_uses.Statement.{statement}
 use Rattle.stage.proofs.pairs.pair_uses.Tie as tie
 
 abbrev Inv-loop : tie.InvT-loop
-Inv-loop layout pack offsets from n at₀ left₀ at left =
+Inv-loop layout pack offsets entries from n at₀ left₀ at left =
     (at + left ≤ length pack) × (pairsBelow (length (resourceTable pack offsets)) (pairsOf (take left (drop at pack))) ≡ true)
     × (pairUses (decodeLayout layout) (resourceTable pack offsets) (pairsOf (take n (drop from pack)))
     ≡ pairUses (decodeLayout layout) (resourceTable pack offsets) (pairsOf (take left (drop at pack))))
 
 abbrev μ-loop : tie.MeasureT-loop
-μ-loop layout pack offsets from n at₀ left₀ at left = left
+μ-loop layout pack offsets entries from n at₀ left₀ at left = left
 
 pub pair-uses-spec : {M : Type 1} → statement M
 pair-uses-spec =
@@ -27,8 +27,9 @@ pair-uses-spec =
     Inv-loop
     μ-loop
     (λ c. search needs)  -- loop-holds
-    (λ c κs. search needs)  -- pair-at-requires
-    (λ c κs. search (pair-below, needs))  -- pair-use-requires
+    (λ c. search needs)  -- mul-pair-use
+    (λ c. search needs)  -- shared-slice-read-pair-use
+    (λ c κs. ((search pair-below, search needs), search needs))  -- pair-use-requires
     (λ c. search pairs-refused)  -- returns
     (λ c. search needs)  -- add-at
     (λ c. search needs)  -- sub-left

@@ -11,7 +11,6 @@ place-at-spec =
     (tie.spec
     (λ c κs. search position-there)  -- position-at-requires
     (λ c. search needs)  -- cast-at
-    (λ c. search needs)  -- mul-place-of
-    (λ c. search place-inside)  -- shared-slice-read-place-of
-    (λ c κs. search needs)  -- place-of-requires
-    (λ c. (search place-listed, search needs)))  -- returns
+    (λ c. search needs)  -- mul-result
+    (λ c. search place-inside)  -- shared-slice-read-result
+    (λ c. search place-listed))  -- returns

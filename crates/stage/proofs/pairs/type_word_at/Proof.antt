@@ -1,4 +1,5 @@
-use Rattle.stage.proofs.PairLaws.{entry-fits, type-fits, type-found, type-none}
+use Rattle.stage.proofs.ResourceLaws.{found-within}
+use Rattle.stage.proofs.PairLaws.{type-found, type-none}
 use borrow.Author.Needs.{needs}
 use Rattle.stage.proofs.pairs.type_word_at.Statement.{statement}
 use Rattle.stage.proofs.pairs.type_word_at.Tie as tie
@@ -7,11 +8,9 @@ pub type-word-at-spec : {M : Type 1} → statement M
 type-word-at-spec =
     tie.close
     (tie.spec
-    (λ c κs. search needs)  -- find-entry-requires
+    (λ c κs. search needs)  -- find-entry-near-requires
     (λ c. search needs)  -- enum-known-index
-    (λ c. search (entry-fits, needs))  -- mul-word
-    (λ c. search (type-fits, needs))  -- add-word
-    (λ c κs. search needs)  -- word-requires
+    (λ c κs. (search needs, (search found-within, search needs)))  -- entry-word-requires
     (λ c. search needs)  -- enum-told
     (λ c. search type-found)  -- returns
     (λ c. search type-none))  -- returns-2

@@ -1,4 +1,4 @@
-use Rattle.stage.proofs.ResourceLaws.{provide-ended, provide-went}
+use Rattle.stage.proofs.ResourceLaws.{found-few}
 use borrow.Author.Needs.{needs}
 use Rattle.stage.proofs.resources.provide_step.Statement.{statement}
 use Rattle.stage.proofs.resources.provide_step.Tie as tie
@@ -7,9 +7,8 @@ pub provide-step-spec : {M : Type 1} → statement M
 provide-step-spec =
     tie.close
     (tie.spec
-    (λ c κs. (search needs, search needs))  -- record-size-requires
+    (λ c κs. search needs)  -- find-entry-near-requires
+    (λ c κs. search found-few)  -- note-requires
+    (λ c κs. search needs)  -- provide-found-requires
     (λ c. search needs)  -- same-length
-    (λ c. (search provide-ended, search needs))  -- returns
-    (λ c κs. search needs)  -- provided-use-requires
-    (λ c. search needs)  -- same-length-2
-    (λ c. (search provide-went, search needs)))  -- returns-2
+    (λ c. search needs))  -- returns

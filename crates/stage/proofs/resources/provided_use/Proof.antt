@@ -7,7 +7,6 @@ pub provided-use-spec : {M : Type 1} → statement M
 provided-use-spec =
     tie.close
     (tie.spec
-    (λ c κs. search needs)  -- find-entry-word-requires
     (λ c. search needs)  -- enum-told
     (λ c κs. search needs)  -- place-answer-requires
     (λ c. search needs)  -- enum-known-found

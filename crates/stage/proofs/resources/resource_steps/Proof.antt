@@ -12,7 +12,7 @@ use Rattle.stage.proofs.resources.resource_steps.Statement.{statement}
 use Rattle.stage.proofs.resources.resource_steps.Tie as tie
 
 abbrev Inv-loop : tie.InvT-loop
-Inv-loop pack offsets from n pairs-at pairs-n stage derived layout₀ sizes₀ at₀ left₀ layout sizes at left =
+Inv-loop pack offsets from n pairs-at pairs-n stage derived entries₀ layout₀ sizes₀ at₀ left₀ near₀ entries layout sizes at left near =
     (at + left ≤ length pack) × (length layout ≡ length layout₀) × (length sizes ≡ length sizes₀) × (layoutFiled layout ≡ true) × (sizesFiled sizes ≡ true)
     × (eachBelow (length (resourceTable pack offsets)) (contents (take left (drop at pack))) ≡ true)
     × (resourceSteps stage derived (resourceTable pack offsets) (pairsOf (take pairs-n (drop pairs-at pack))) (contents (take n (drop from pack)))
@@ -21,7 +21,7 @@ Inv-loop pack offsets from n pairs-at pairs-n stage derived layout₀ sizes₀ a
     (decodeLayout layout) (decodeSizes sizes))
 
 abbrev μ-loop : tie.MeasureT-loop
-μ-loop pack offsets from n pairs-at pairs-n stage derived layout₀ sizes₀ at₀ left₀ layout sizes at left = left
+μ-loop pack offsets from n pairs-at pairs-n stage derived entries₀ layout₀ sizes₀ at₀ left₀ near₀ entries layout sizes at left near = left
 
 pub resource-steps-spec : {M : Type 1} → statement M
 resource-steps-spec =
@@ -37,6 +37,8 @@ resource-steps-spec =
     (λ c. search needs)  -- same-length
     (λ c. search needs)  -- same-length-2
     (λ c. (search steps-refused, search needs))  -- returns
+    (λ c κs. search needs)  -- noted-requires
+    (λ c. search needs)  -- add-near
     (λ c. search needs)  -- add-at
     (λ c. search needs)  -- sub-left
     (λ c. search needs)  -- loop-less
