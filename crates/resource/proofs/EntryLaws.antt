@@ -1,16 +1,17 @@
 -- The code's ways through the reader of layout entries.
-use Prim.Native.Nat.{ℕ, _+_, _≤_}
+use Prim.Native.Nat.{ℕ, _+_, _/_, _%_, _^_, _<_, _≤_}
 use native.Mathlib.Omega.{arith}
-use mathlib.Core.Path.{_≡_}
+use mathlib.Core.Path.{_≡_, _∙_}
 use mathlib.Core.Bool.{Bool, false, _&&_, _||_}
 use mathlib.Core.List.{List}
 use lib.Dec.{eqb, ltb}
 use lib.ListN.{length, List·getD-eq-default}
-use borrow.Author.Tests.{eq-eqb, ne-eqb}
+use borrow.Author.Tests.{eqb-true, eqb-false, eq-eqb, ne-eqb}
 use Rattle.word.specs.Choice.{yes}
 use Rattle.word.specs.Words.{wordAt, kindOf, contentOf, bits}
+use Rattle.word.proofs.Truth.{by-test}
 use Rattle.resource.specs.Format.{placeFiled, placeOf, typeCode, bitSet, isBuffer, viewAt, sampleAt, accessAt, samplerAt, bufferAt}
-use Rattle.resource.specs.Format.{bindingTypeFiled, bindingTypeOf, entryFiled, entryOf, entryFiledAt, entryAt}
+use Rattle.resource.specs.Format.{fieldsFiled, bindingTypeFiled, bindingTypeOf, entryFiled, entryOf, entryFiledAt, entryAt}
 use Rattle.resource.specs.declared.types.ResourceBinding.{ResourceBinding}
 use Rattle.resource.specs.declared.types.BufferBindingType.{BufferBindingType}
 use Rattle.resource.specs.declared.types.SamplerBindingType.{SamplerBindingType}
@@ -43,12 +44,29 @@ module _ (w least : ℕ) where
       binding-storage access view n2 z p q =
           rw (ne-eqb (typeCode w) 0 n0, ne-eqb (typeCode w) 1 n1, ne-eqb (typeCode w) 2 n2, eq-eqb (typeCode w) 4 z, p, q)
 
-pub entry-bits : (place w least visibility : ℕ) (x b : Bool) → b ≡ bindingTypeFiled w
-    → x ≡ (placeFiled place && (eqb (kindOf w) 18 && (yes b
-    && (eqb (kindOf least) 6 && ((isBuffer w || eqb (contentOf least) 0) && (eqb (kindOf visibility) 19 && ltb (contentOf visibility) 32))))))
+-- a word whose kind and code are tested as one
+pub type-word : (w code : ℕ) (r : Bool) → w < 2 ^ 32 → code < 2 ^ 32 → (code + 288) % 2 ^ 32 ≡ w / 0x80_0000 → r ≡ fieldsFiled code w
+    → r ≡ (eqb (kindOf w) 18 && bindingTypeFiled w)
+unfolding bindingTypeFiled
+type-word w code r h k e f =
+    by-test (eqb (kindOf w) 18)
+    (λ t.
+    let q : kindOf w ≡ 18 = eqb-true (kindOf w) 18 t in
+    let c : typeCode w ≡ code = omega arith in
+    rw (t, c) f)
+    (λ n.
+    let q : kindOf w ≡ 18 → ⊥ = eqb-false (kindOf w) 18 n in
+    let far : 6 < code = omega arith in
+    let no : (c : ℕ) → c ≤ 6 → eqb code c ≡ false = λ c l. ne-eqb code c (λ z. omega arith) in
+    rw n (f ∙ rw (no 0 (omega arith), no 1 (omega arith), no 2 (omega arith), no 4 (omega arith), no 5 (omega arith), no 6 (omega arith))))
+
+pub entry-bits : (place w least visibility : ℕ) (x b : Bool) → b ≡ (eqb (kindOf w) 18 && bindingTypeFiled w)
+    → x ≡ (placeFiled place && (yes b
+    && (eqb (kindOf least) 6 && ((isBuffer w || eqb (contentOf least) 0) && (eqb (kindOf visibility) 19 && ltb (contentOf visibility) 32)))))
     → x ≡ entryFiled place w least visibility
 unfolding entryFiled yes
-entry-bits place w least visibility x b e h = rw (← e) h
+entry-bits place w least visibility x b e h =
+    by-test (eqb (kindOf w) 18) (λ t. rw t (rw (e, t) at h)) (λ n. rw n (rw (e, n) at h))
 
 pub entry-parts : (place w least visibility s v : ℕ) (bind : ResourceBinding) (ty : BindingType) → bind ≡ placeOf place → s ≡ contentOf least
     → ty ≡ bindingTypeOf w s → v ≡ contentOf visibility → record { bind = bind; ty = ty; visibility = v } ≡ entryOf place w least visibility

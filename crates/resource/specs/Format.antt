@@ -231,17 +231,20 @@ abbrev pub bufferCode : BufferBindingType → ℕ
 bufferCode Buf.Uniform = 0
 bufferCode (Buf.Storage read-only) = 1 + 2 * flag read-only
 
--- the bits of each type, those unnamed zero; formats are 0 to 76
-unfoldable pub bindingTypeFiled : ℕ → Bool
-bindingTypeFiled w =
-    pick (eqb (typeCode w) 0) (eqb (bits 22 3 w) 0 && (eqb (bit 1 w) 0 || eqb (bit 0 w) 1))
-    (pick (eqb (typeCode w) 1) (ltb (bits 22 0 w) 3)
-    (pick (eqb (typeCode w) 2) (eqb (bits 22 7 w) 0 && (ltb (bits 2 0 w) 6 && ltb (bits 6 4 w) 5))
-    (pick (eqb (typeCode w) 4)
+-- the bits of each type by its code, those unnamed zero; formats are 0 to 76
+abbrev pub fieldsFiled : ℕ → ℕ → Bool
+fieldsFiled code w =
+    pick (eqb code 0) (eqb (bits 22 3 w) 0 && (eqb (bit 1 w) 0 || eqb (bit 0 w) 1))
+    (pick (eqb code 1) (ltb (bits 22 0 w) 3)
+    (pick (eqb code 2) (eqb (bits 22 7 w) 0 && (ltb (bits 2 0 w) 6 && ltb (bits 6 4 w) 5))
+    (pick (eqb code 4)
     (eqb (bits 22 18 w) 0 && (eqb (bit 15 w) 0 && (eqb (bits 7 3 w) 0 && (ltb (bits 2 0 w) 6 && ltb (bits 14 8 w) 77))))
-    (pick (eqb (typeCode w) 5) (eqb (bits 22 0 w) 0)
-    (pick (eqb (typeCode w) 6) (eqb (bits 22 1 w) 0)
+    (pick (eqb code 5) (eqb (bits 22 0 w) 0)
+    (pick (eqb code 6) (eqb (bits 22 1 w) 0)
     false)))))
+
+unfoldable pub bindingTypeFiled : ℕ → Bool
+bindingTypeFiled w = fieldsFiled (typeCode w) w
 
 -- what a type word and a least size mean
 unfoldable pub bindingTypeOf : ℕ → ℕ → BindingType

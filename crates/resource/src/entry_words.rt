@@ -4,7 +4,7 @@ ghost use mathlib.Core.Bool.{true, _&&_, _||_};
 ghost use lib.Dec.{eqb, ltb};
 ghost use Rattle.word.specs.Words.{kindOf, contentOf};
 ghost use Prim.Native.Nat.{_<_, _^_};
-ghost use Rattle.resource.specs.Format.{placeHeld, isBuffer, viewAt, sampleAt, accessAt, samplerAt, bufferAt, bindingTypeFiled, bindingTypeOf, entryFiled, entryOf, entryFiledAt, entryAt};
+ghost use Rattle.resource.specs.Format.{placeHeld, isBuffer, viewAt, sampleAt, accessAt, samplerAt, bufferAt, fieldsFiled, bindingTypeFiled, bindingTypeOf, entryFiled, entryOf, entryFiledAt, entryAt};
 use crate::resource_words::place_of;
 use crate::types::BindGroupLayoutEntry;
 use crate::types::BindingType;
@@ -92,11 +92,10 @@ fn buffer_at(w: u32) -> BufferBindingType
     BufferBindingType::Uniform
 }
 
-// Whether a word's binding type is known and its unnamed bits are zero.
-pub fn binding_type_filed(w: u32) -> bool
-    ensures { λ r. ⌜ r ≡ bindingTypeFiled w ⌝ }
+// Whether a code is a binding type's and the word's unnamed bits are zero.
+fn fields_filed(code: u32, w: u32) -> bool
+    ensures { λ r. ⌜ r ≡ fieldsFiled code w ⌝ }
 {
-    let code = w / 0x80_0000 % 16;
     if code == 0 {
         return w / 8 % 0x10_0000 == 0 && (w / 2 % 2 == 0 || w % 2 == 1);
     }
@@ -180,6 +179,13 @@ fn least_filed(w: u32, least: u32, visibility: u32) -> bool
     false
 }
 
+// Whether a word tells a binding type: its kind and its code stand side by side, and are tested as one.
+fn type_filed(w: u32) -> bool
+    ensures { λ r. ⌜ r ≡ (eqb (kindOf w) 18 && bindingTypeFiled w) ⌝ }
+{
+    fields_filed(std::num::wrapping_sub_u32(w / 0x80_0000, 288), w)
+}
+
 // Whether four words are an entry.
 pub fn words_filed(place: u32, w: u32, least: u32, visibility: u32) -> bool
     ensures { λ r. ⌜ r ≡ entryFiled place w least visibility ⌝ }
@@ -187,10 +193,7 @@ pub fn words_filed(place: u32, w: u32, least: u32, visibility: u32) -> bool
     if place / 0x800_0000 != 4 {
         return false;
     }
-    if w / 0x800_0000 != 18 {
-        return false;
-    }
-    if binding_type_filed(w) {
+    if type_filed(w) {
         return least_filed(w, least, visibility);
     }
     false

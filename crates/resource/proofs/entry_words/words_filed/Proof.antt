@@ -11,8 +11,7 @@ words-filed-spec =
     tie.close
     (tie.spec
     (λ c. search (entry-bits, tests))  -- returns
-    (λ c. search (entry-bits, tests))  -- returns-2
-    (λ c κs. search needs)  -- binding-type-filed-requires
+    (λ c κs. search needs)  -- type-filed-requires
     (λ c κs. search needs)  -- least-filed-requires
-    (λ c. search (entry-bits, tests))  -- returns-3
-    (λ c. search (entry-bits, tests)))  -- returns-4
+    (λ c. search (entry-bits, tests))  -- returns-2
+    (λ c. search (entry-bits, tests)))  -- returns-3

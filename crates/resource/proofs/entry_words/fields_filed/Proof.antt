@@ -1,11 +1,9 @@
-use Rattle.resource.specs.Format.{bindingTypeFiled}
 use Rattle.word.proofs.Tests.{tests}
-use Rattle.resource.proofs.entry_words.binding_type_filed.Statement.{statement}
-use Rattle.resource.proofs.entry_words.binding_type_filed.Tie as tie
+use Rattle.resource.proofs.entry_words.fields_filed.Statement.{statement}
+use Rattle.resource.proofs.entry_words.fields_filed.Tie as tie
 
-pub binding-type-filed-spec : {M : Type 1} → statement M
-unfolding bindingTypeFiled
-binding-type-filed-spec =
+pub fields-filed-spec : {M : Type 1} → statement M
+fields-filed-spec =
     tie.close
     (tie.spec
     (λ c. search tests)  -- returns
