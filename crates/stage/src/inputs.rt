@@ -1,6 +1,6 @@
 // The inputs of an entry point against what the stage before provides.
 ghost use mathlib.Core.Path.{_≡_};
-ghost use mathlib.Core.Bool.{_||_};
+ghost use mathlib.Core.Bool.{true, _||_};
 ghost use mathlib.Core.List.{[], _∷_};
 ghost use Prim.Native.Nat.{_+_, _<_, _≤_, _^_};
 ghost use lib.ListN.{drop};
@@ -8,7 +8,7 @@ ghost use Rattle.word.specs.Choice.{pick};
 ghost use Rattle.resource.specs.Rules.{sameBool};
 ghost use Rattle.varying.specs.Format.{varOf};
 ghost use Rattle.lists.specs.Meaning.{varyingAt};
-ghost use Rattle.lists.specs.Format.{decodeStage};
+ghost use Rattle.lists.specs.Format.{outFiled, decodeStage};
 ghost use Rattle.lists.specs.declared.types.Provided.the-variants.{Var};
 ghost use Rattle.interface.specs.Reads.{varying, varyingWidth, varyings};
 ghost use Rattle.stage.specs.Interfaces.{vertexInput, fragmentInput, inputNumber, metLocal, metBuiltIn, startWalk, inputStep, inputSteps};
@@ -102,13 +102,14 @@ fn provided_number(stage: ShaderStage, w: u32, provided: u32) -> u32
     }
 }
 
-// The refusal of a local input at a location, 0 for none.
-fn input_number(stage: ShaderStage, inputs: &[u32], location: u32, w: u32) -> u32
+// The refusal of a local input at a location, 0 for none. Inputs mostly stand in the order of what is provided.
+fn input_number(stage: ShaderStage, inputs: &[u32], location: u32, w: u32, near: usize) -> u32
+    requires { ⌜ outFiled (now inputs) ≡ true ⌝ }
     ensures { λ r. ⌜ r ≡ inputNumber stage (varOf w) (varyingAt location (decodeStage (now (inputs .entry)) .varyings)) ⌝ }
     ensures { λ r. ⌜ r ≤ 54 ⌝ }
 {
-    match find_location(inputs, location) {
-        Found::At { index } => provided_number(stage, w, word(inputs, index)),
+    match find_location(inputs, location, near) {
+        Found::At { index } => provided_number(stage, w, inputs[index]),
         Found::Nothing => 50,
     }
 }
@@ -166,12 +167,13 @@ fn input_value(
     second: u32,
     walk: InputWalk,
 ) -> Walked
-    requires { ⌜ walk .locals < 2 ^ 31 ⌝ }
+    requires { ⌜ (walk .locals < 2 ^ 31) × (outFiled (now inputs) ≡ true) ⌝ }
     ensures { λ r. ⌜ r ≡ inputStep stage (decodeStage (now (inputs .entry)) .varyings) (varying (first ∷ second ∷ [])) walk ⌝ }
 {
     if location_filed(first) {
         let location = content(first);
-        let number = input_number(stage, inputs, location, second);
+        let near = walk.locals as usize;
+        let number = input_number(stage, inputs, location, second, near);
         if number != 0 {
             return Walked {
                 walk,
@@ -197,7 +199,7 @@ pub(crate) fn input_step(
     second: u32,
     walk: &mut InputWalk,
 ) -> Answer
-    requires { ⌜ now walk .locals < 2 ^ 31 ⌝ }
+    requires { ⌜ (now walk .locals < 2 ^ 31) × (outFiled (now inputs) ≡ true) ⌝ }
     ensures { λ r. ⌜ (r ≡ inputStep stage (decodeStage (now (inputs .entry)) .varyings) (varying (first ∷ second ∷ [])) (now (walk .entry)) .answer)
         × (now (walk .exit) ≡ inputStep stage (decodeStage (now (inputs .entry)) .varyings) (varying (first ∷ second ∷ [])) (now (walk .entry)) .walk) ⌝ }
 {
@@ -222,7 +224,7 @@ pub(crate) fn input_steps(
     inputs: &[u32],
     stage: ShaderStage,
 ) -> Walked
-    requires { ⌜ (from < 2 ^ 40) × (n ≤ 63) ⌝ }
+    requires { ⌜ (from < 2 ^ 40) × (n ≤ 63) × (outFiled (now inputs) ≡ true) ⌝ }
     ensures { λ r. ⌜ r ≡ inputSteps stage (decodeStage (now (inputs .entry)) .varyings)
         (varyings n (drop from (now (pack .entry)))) startWalk ⌝ }
 {

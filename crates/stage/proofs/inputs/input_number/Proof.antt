@@ -1,3 +1,4 @@
+use Rattle.lists.proofs.StageWays.{found-inside, found-bytes}
 use Rattle.stage.proofs.InputLaws.{number-found, number-missing}
 use borrow.Author.Needs.{needs}
 use Rattle.stage.proofs.inputs.input_number.Statement.{statement}
@@ -9,7 +10,8 @@ input-number-spec =
     (tie.spec
     (λ c κs. search needs)  -- find-location-requires
     (λ c. search needs)  -- enum-known-index
-    (λ c κs. search needs)  -- word-requires
+    (λ c. search found-bytes)  -- mul-provided-number
+    (λ c. search found-inside)  -- shared-slice-read-provided-number
     (λ c κs. search needs)  -- provided-number-requires
     (λ c. search needs)  -- enum-told
     (λ c. (search number-found, search needs))  -- returns

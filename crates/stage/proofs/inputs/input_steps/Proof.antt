@@ -58,7 +58,7 @@ use Rattle.word.specs.declared.answer.Answer.{Answer}
 use Rattle.word.proofs.answer.Answer as R
 use Rattle.word.proofs.answer.Answer.Laws as R′
 use Rattle.varying.specs.declared.Located.{Located}
-use Rattle.lists.specs.Format.{decodeStage}
+use Rattle.lists.specs.Format.{outFiled, decodeStage}
 use Rattle.interface.specs.Reads.{varying, varyingWidth, varyings}
 use Rattle.interface.specs.declared.types.ShaderStage.{ShaderStage}
 use Rattle.interface.proofs.types.ShaderStage as G
@@ -150,7 +150,7 @@ module _ {M : Type 1} (𝓤 : URA M) (H : Heap 𝓤) (A : Atoms 𝓤) (at-mem : 
 
 module _ {M : Type 1} (𝓤 : URA M) (H : Heap 𝓤) (A : Atoms 𝓤) (W : Given 𝓤 H A) (at-mem : Memory → SProp 𝓤) (run : Routine → Fun 𝓤) (κ κ′ : Lft) (q q′ : Share) (bounds : AllOutlive 2 (f.signature .outlives) (κ, (κ′, tt)))
     (s : RefT (List ℕ)) (start n : ℕ) (s′ : RefT (List ℕ)) (g : ShaderStage) (is-s : Is (ShrSlice (named 0) κ u32) s (slice-vals s)) (fits-start : start < 2 ^ 64) (fits-n : n < 2 ^ 64)
-    (is-s′ : Is (ShrSlice (named 1) κ′ u32) s′ (slice-vals s′)) (is-g : Is G.the-row g (stage-vals g)) (ok : (start < 2 ^ 40) × (n ≤ 63)) where
+    (is-s′ : Is (ShrSlice (named 1) κ′ u32) s′ (slice-vals s′)) (is-g : Is G.the-row g (stage-vals g)) (ok : (start < 2 ^ 40) × (n ≤ 63) × (outFiled (now s′) ≡ true)) where
   -- the arguments, and their machine values
   abbrev x : RefT (List ℕ) × (ℕ × (ℕ × (RefT (List ℕ) × (ShaderStage × Unit {0}))))
   x = (s, (start, (n, (s′, (g, tt)))))
@@ -238,7 +238,7 @@ module _ {M : Type 1} (𝓤 : URA M) (H : Heap 𝓤) (A : Atoms 𝓤) (W : Given
     module _ (fits-y : y < 2 ^ 32) (fits-z : z < 2 ^ 32) (few : h .locals < 2 ^ 31) where
       asked-step : (α : ℕ) (δ : GName) → ent 𝓤 (⋆ 𝓤 H A ((‵ (flft κ′ q′) ⊛ ‵ (flft (α ∷ []) fullShare) ⊛ ‵ ftrue) ∷ ‵ (Lent α δ) ∷ ‵ Own′ ∷ [])) (Step 𝓤 H A at-mem run .pre (to-step α δ))
       asked-step α δ =
-          qed W ((‵ (flft κ′ q′) ⊛ ‵ (flft (α ∷ []) fullShare) ⊛ ‵ ftrue) ∷ ‵ (Lent α δ) ∷ ‵ Own′ ∷ []) ∵ says ! few $ frame ! $ nothing ! $ move ! (1 ∷ 0 ∷ []) $ fjoin ! $
+          qed W ((‵ (flft κ′ q′) ⊛ ‵ (flft (α ∷ []) fullShare) ⊛ ‵ ftrue) ∷ ‵ (Lent α δ) ∷ ‵ Own′ ∷ []) ∵ says ! (few, ok .2) $ frame ! $ nothing ! $ move ! (1 ∷ 0 ∷ []) $ fjoin ! $
           owned ! u32 (Is u32) (uint-makes 𝓤 H A W w32) z _ (refl, fits-z) $ fjoin ! $ owned ! u32 (Is u32) (uint-makes 𝓤 H A W w32) y _ (refl, fits-y) $ fjoin ! $ move ! (1 ∷ 0 ∷ []) $ fjoin ! $ owned ! G.the-row (Is G.the-row) (EL.makes G.the-type G′.the-plain 𝓤 H A) g _ is-g $ fjoin ! $ done !
 
       goes-step : (α : ℕ) (δ : GName) → ent 𝓤 (⋆ 𝓤 H A (‵ (flft κ′ q′) ∷ ‵ Own′ ∷ (‵ (flft (α ∷ []) fullShare) ⊛ ‵ (Lent α δ)) ∷ [])) (sep 𝓤 (Step 𝓤 H A at-mem run .pre (to-step α δ)) (sem 𝓤 H A Own′))

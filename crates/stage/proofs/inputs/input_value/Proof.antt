@@ -9,6 +9,7 @@ input-value-spec =
     (tie.spec
     (λ c κs. search needs)  -- location-filed-requires
     (λ c κs. search needs)  -- content-requires
+    (λ c. search needs)  -- cast-near
     (λ c κs. search needs)  -- input-number-requires
     (λ c κs. search needs)  -- new-requires
     (λ c. search local-refused)  -- returns
