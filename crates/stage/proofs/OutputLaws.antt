@@ -6,7 +6,7 @@ use mathlib.Core.Path.{_≡_, refl, sym, _∙_}
 use mathlib.Core.Bool.{Bool, true, false, not, _&&_, _||_, or-false}
 use mathlib.Core.List.{List, [], _∷_}
 use lib.Dec.{eqb}
-use lib.ListN.{drop}
+use lib.ListN.{length, drop}
 use borrow.Author.Tests.{eq-eqb, ne-eqb, lt-ltb, le-ltb}
 use Rattle.word.specs.Choice.{pick, yes}
 use Rattle.word.specs.Words.{wordAt, kindOf, contentOf, bits}
@@ -17,6 +17,7 @@ use Rattle.lists.proofs.Words.{here}
 use Rattle.interface.specs.Meaning.{EntryPoint}
 use Rattle.interface.specs.Format.{local, builtInOf}
 use Rattle.interface.specs.Reads.{varying, varyingWidth, varyings, standing}
+use Rattle.interface.specs.Parts.{varyingsEnd, Placed}
 use Rattle.interface.specs.declared.types.ShaderStage.{ShaderStage}
 use Rattle.interface.specs.declared.types.ShaderStage.the-variants as Stage
 use Rattle.interface.specs.declared.types.Limits.{Limits}
@@ -29,7 +30,7 @@ use Rattle.stage.specs.Meaning.{Request}
 use Rattle.stage.specs.Given.{Summed}
 use Rattle.stage.specs.Interfaces.{isLocal, clipPart, builtInPart, isDepth, isPrimitive, localCount, clipPlaces, builtInPlaces, anyOf, summaryOf, locationUse, locationUses, countUse, pointPart, vertexOutputs, fragmentPlaces, attachmentUse, fragmentOutputs, placesStep}
 use Rattle.stage.specs.declared.types.Summary.{Summary}
-use Rattle.stage.proofs.VaryingLaws.{varyings-left, varyings-none}
+use Rattle.stage.proofs.VaryingLaws.{varyings-left, varyings-none, Ahead, ahead-onward}
 
 -- ---- summaries
 
@@ -147,6 +148,9 @@ module _ (w k : ℕ) (ek : k ≡ kindOf w) where
 module _ (ws : List ℕ) (at w : ℕ) (ew : w ≡ wordAt ws at) where
   width-there : varyingWidth (w ∷ []) ≡ varyingWidth (drop at ws)
   width-there = rw (here ws at, ← ew)
+
+  pub ahead-by : (n width : ℕ) → Ahead ws n at → (n ≡ 0 → ⊥) → width ≡ varyingWidth (w ∷ []) → Ahead ws (n - 1) (at + width)
+  ahead-by n width i h x = ahead-onward ws n at i h (at + width) (rw (x, width-there))
 
   first-summary : summaryOf (varying (w ∷ []) ∷ []) ≡ summaryOf (varying (drop at ws) ∷ [])
   first-summary =
@@ -339,6 +343,13 @@ module _ (ws : List ℕ) (p : EntryParts) (dual depth : Bool) (r : Answer) (head
     attachments-good t x = rw (shader-is, ← e, n, depth-is (standing ws p .outputs) s (g .outputs), ← f, t) x
 
 -- ---- an entry point by its parts
+
+module _ (ws : List ℕ) (p : EntryParts) (counts n : ℕ) (hc : counts ≡ wordAt ws (p .counts)) (g : Placed ws p) where
+  pub inputs-end : n ≡ bits 11 6 counts → varyingsEnd ws n (p .inputs) < length ws
+  inputs-end hn = rw (hn, hc) (g .inputsEnd)
+
+  pub outputs-end : n ≡ bits 5 0 counts → varyingsEnd ws n (p .outputs) < length ws
+  outputs-end hn = rw (hn, hc) (g .outputsEnd)
 
 module _ (ws : List ℕ) (p : EntryParts) (counts n : ℕ) (a : Answer) (hc : counts ≡ wordAt ws (p .counts)) where
   pub inputs-stand : (limit locals : ℕ) → n ≡ bits 11 6 counts → a ≡ fragmentPlaces limit locals (varyings n (drop (p .inputs) ws))

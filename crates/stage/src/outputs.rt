@@ -3,11 +3,11 @@ ghost use mathlib.Core.Path.{_≡_};
 ghost use mathlib.Core.Bool.{false, not, _&&_, _||_};
 ghost use mathlib.Core.List.{[], _∷_};
 ghost use Prim.Native.Nat.{_+_, _*_, _/_, _<_, _≤_, _^_};
-ghost use lib.ListN.{drop};
+ghost use lib.ListN.{length, drop};
 ghost use Rattle.interface.specs.Format.{builtInOf};
 ghost use Rattle.interface.specs.Reads.{varying, varyingWidth, varyings, standing};
 ghost use Rattle.interface.specs.declared.types.Varying.the-variants as Var;
-ghost use Rattle.interface.specs.Parts.{Placed};
+ghost use Rattle.interface.specs.Parts.{Placed, varyingsEnd};
 ghost use Rattle.stage.specs.Meaning.{both};
 ghost use Rattle.stage.specs.Given.{Summed};
 ghost use Rattle.stage.specs.Interfaces.{summaryOf, locationUse, locationUses, countUse, pointPart, vertexOutputs, fragmentPlaces, attachmentUse, placesStep};
@@ -21,7 +21,6 @@ use interface::types::ShaderStage;
 use word::answer::Answer;
 use word::content;
 use word::kind;
-use word::word;
 
 // A size over four, rounded up.
 fn quarters(size: u32) -> u32
@@ -113,7 +112,7 @@ fn joined(a: Summary, b: Summary) -> Summary
 
 // What stands among the varyings from a position on, in one pass.
 pub(crate) fn summary(pack: &[u32], from: usize, n: usize) -> Summary
-    requires { ⌜ (from < 2 ^ 40) × (n ≤ 63) ⌝ }
+    requires { ⌜ (varyingsEnd (now pack) n from < length (now pack)) × (length (now pack) ≤ 4096) × (n ≤ 63) ⌝ }
     ensures { λ r. ⌜ r ≡ summaryOf (varyings n (drop from (now (pack .entry)))) ⌝ }
     ensures { λ r. ⌜ (r .locals ≤ 63) × (r .«clip_places» ≤ 63 * 64) × (r .«built_in_places» ≤ 63 * 255) ⌝ }
 {
@@ -121,7 +120,7 @@ pub(crate) fn summary(pack: &[u32], from: usize, n: usize) -> Summary
     let mut at = from;
     let mut left = n;
     while left != 0 {
-        let w = word(pack, at);
+        let w = pack[at];
         let part = first_summary(w);
         s = joined(s, part);
         at += first_width(w);
@@ -163,13 +162,13 @@ pub(crate) fn location_uses(
     past: u32,
     limit: u32,
 ) -> Answer
-    requires { ⌜ (from < 2 ^ 40) × (n ≤ 63) ⌝ }
+    requires { ⌜ (varyingsEnd (now pack) n from < length (now pack)) × (length (now pack) ≤ 4096) × (n ≤ 63) ⌝ }
     ensures { λ r. ⌜ r ≡ locationUses number past limit (varyings n (drop from (now (pack .entry)))) ⌝ }
 {
     let mut at = from;
     let mut left = n;
     while left != 0 {
-        let w = word(pack, at);
+        let w = pack[at];
         let a = location_use(w, number, past, limit);
         if a.number != 0 {
             return a;
@@ -209,7 +208,7 @@ pub(crate) fn vertex_outputs(
     topology: u32,
     limit: u32,
 ) -> Answer
-    requires { ⌜ (from < 2 ^ 40) × (n ≤ 63) ⌝ }
+    requires { ⌜ (varyingsEnd (now pack) n from < length (now pack)) × (length (now pack) ≤ 4096) × (n ≤ 63) ⌝ }
     requires { ⌜ (outputs ≡ summaryOf (varyings n (drop from (now pack)))) × (outputs .«clip_places» ≤ 63 * 64) ⌝ }
     ensures { λ r. ⌜ r ≡ vertexOutputs topology limit (varyings n (drop from (now (pack .entry)))) ⌝ }
 {
@@ -236,7 +235,7 @@ pub(crate) fn fragment_places(
     limit: u32,
     locals: u32,
 ) -> Answer
-    requires { ⌜ (from < 2 ^ 40) × (n ≤ 63) ⌝ }
+    requires { ⌜ (varyingsEnd (now pack) n from < length (now pack)) × (length (now pack) ≤ 4096) × (n ≤ 63) ⌝ }
     ensures { λ r. ⌜ r ≡ fragmentPlaces limit locals (varyings n (drop from (now (pack .entry)))) ⌝ }
 {
     let s = summary(pack, from, n);
