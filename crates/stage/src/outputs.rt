@@ -2,7 +2,7 @@
 ghost use mathlib.Core.Path.{_≡_};
 ghost use mathlib.Core.Bool.{false, not, _&&_, _||_};
 ghost use mathlib.Core.List.{[], _∷_};
-ghost use Prim.Native.Nat.{_+_, _*_, _/_, _<_, _≤_, _^_};
+ghost use Prim.Native.Nat.{_+_, _*_, _/_, _<_, _≤_, _^_, max};
 ghost use lib.ListN.{length, drop};
 ghost use Rattle.interface.specs.Format.{builtInOf};
 ghost use Rattle.interface.specs.Reads.{varying, varyingWidth, varyings, standing};
@@ -34,12 +34,13 @@ fn quarters(size: u32) -> u32
 
 // The summary of a built-in that takes inter-stage places.
 fn taking(places: u32, depth: bool, primitive: bool) -> Summary
-    ensures { λ r. ⌜ r ≡ record { locals = 0; «clip_places» = 0; «built_in_places» = places; depth = depth; primitive = primitive } ⌝ }
+    ensures { λ r. ⌜ r ≡ record { locals = 0; «clip_places» = 0; «built_in_places» = places; reach = 0; depth = depth; primitive = primitive } ⌝ }
 {
     Summary {
         locals: 0,
         clip_places: 0,
         built_in_places: places,
+        reach: 0,
         depth,
         primitive,
     }
@@ -57,6 +58,7 @@ fn built_in_summary(w: u32) -> Summary
         locals: 0,
         clip_places: quarters(w % 256),
         built_in_places: 0,
+        reach: 0,
         depth: false,
         primitive: false,
     }
@@ -71,6 +73,7 @@ fn first_summary(w: u32) -> Summary
             locals: 1,
             clip_places: 0,
             built_in_places: 0,
+            reach: content(w) + 1,
             depth: false,
             primitive: false,
         };
@@ -89,6 +92,15 @@ fn first_width(w: u32) -> usize
     1
 }
 
+fn larger(a: u32, b: u32) -> u32
+    ensures { λ r. ⌜ r ≡ max a b ⌝ }
+{
+    if a < b {
+        return b;
+    }
+    a
+}
+
 // Two summaries as one.
 fn joined(a: Summary, b: Summary) -> Summary
     requires { ⌜ (a .locals < 2 ^ 31) × (a .«clip_places» < 2 ^ 31) × (a .«built_in_places» < 2 ^ 31) ⌝ }
@@ -97,6 +109,7 @@ fn joined(a: Summary, b: Summary) -> Summary
       locals = a .locals + b .locals;
       «clip_places» = a .«clip_places» + b .«clip_places»;
       «built_in_places» = a .«built_in_places» + b .«built_in_places»;
+      reach = max (a .reach) (b .reach);
       depth = a .depth || b .depth;
       primitive = a .primitive || b .primitive;
     } ⌝ }
@@ -105,6 +118,7 @@ fn joined(a: Summary, b: Summary) -> Summary
         locals: a.locals + b.locals,
         clip_places: a.clip_places + b.clip_places,
         built_in_places: a.built_in_places + b.built_in_places,
+        reach: larger(a.reach, b.reach),
         depth: either(a.depth, b.depth),
         primitive: either(a.primitive, b.primitive),
     }
@@ -220,9 +234,8 @@ pub(crate) fn vertex_outputs(
     if limit < 1 + clip {
         return Answer::refused(65);
     }
-    let locations = location_uses(pack, from, n, 60, limit - clip, limit);
-    if locations.number != 0 {
-        return locations;
+    if limit - clip < outputs.reach {
+        return location_uses(pack, from, n, 60, limit - clip, limit);
     }
     count_use(61, outputs.locals, limit - taken, limit)
 }
@@ -243,9 +256,8 @@ pub(crate) fn fragment_places(
     if limit < taken {
         return Answer::refused(65);
     }
-    let locations = location_uses(pack, from, n, 62, limit, limit);
-    if locations.number != 0 {
-        return locations;
+    if limit < s.reach {
+        return location_uses(pack, from, n, 62, limit, limit);
     }
     count_use(63, locals, limit - taken, limit)
 }
@@ -306,10 +318,9 @@ pub(crate) fn fragment_outputs(
         return places;
     }
     let most = limits.max_color_attachments;
-    let n = outputs_counted(counts);
-    let colours = location_uses(pack, parts.outputs, n, 64, most, most);
-    if colours.number != 0 {
-        return colours;
+    if most < outputs.reach {
+        let n = outputs_counted(counts);
+        return location_uses(pack, parts.outputs, n, 64, most, most);
     }
     attachment_use(pack, parts, outputs, dual, depth)
 }
