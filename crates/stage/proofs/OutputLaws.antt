@@ -1,15 +1,16 @@
 -- The ways through outputs and places.
-use Prim.Native.Nat.{ℕ, zero, suc, _+_, _-_, _*_, _/_, _%_, _<_, _≤_, _^_}
-use native.Mathlib.Nat.{add-zero, zero-add}
+use Prim.Native.Nat.{ℕ, zero, suc, _+_, _-_, _*_, _/_, _%_, _<_, _≤_, _^_, max}
+use native.Mathlib.Nat.{add-zero, zero-add, max-zero, zero-max}
 use native.Mathlib.Omega.{arith}
 use mathlib.Core.Path.{_≡_, refl, sym, _∙_}
 use mathlib.Core.Bool.{Bool, true, false, not, _&&_, _||_, or-false}
 use mathlib.Core.List.{List, [], _∷_}
-use lib.Dec.{eqb}
-use lib.ListN.{drop}
-use borrow.Author.Tests.{eq-eqb, ne-eqb, lt-ltb, le-ltb}
+use lib.Dec.{eqb, ltb}
+use lib.ListN.{length, drop}
+use borrow.Author.Tests.{eq-eqb, ne-eqb, lt-ltb, le-ltb, ltb-true}
 use Rattle.word.specs.Choice.{pick, yes}
 use Rattle.word.specs.Words.{wordAt, kindOf, contentOf, bits}
+use Rattle.word.proofs.Truth.{by-test}
 use Rattle.word.specs.Answers.{answer, accepted, refused}
 use Rattle.word.specs.declared.answer.Answer.{Answer}
 use Rattle.varying.specs.Format.{locationFiled}
@@ -17,6 +18,7 @@ use Rattle.lists.proofs.Words.{here}
 use Rattle.interface.specs.Meaning.{EntryPoint}
 use Rattle.interface.specs.Format.{local, builtInOf}
 use Rattle.interface.specs.Reads.{varying, varyingWidth, varyings, standing}
+use Rattle.interface.specs.Parts.{varyingsEnd, Placed}
 use Rattle.interface.specs.declared.types.ShaderStage.{ShaderStage}
 use Rattle.interface.specs.declared.types.ShaderStage.the-variants as Stage
 use Rattle.interface.specs.declared.types.Limits.{Limits}
@@ -25,11 +27,11 @@ use Rattle.interface.specs.declared.types.BuiltIn.{BuiltIn}
 use Rattle.interface.specs.declared.types.BuiltIn.the-variants as In
 use Rattle.interface.specs.declared.types.Varying.{Varying}
 use Rattle.interface.specs.declared.types.Varying.the-variants as Var
-use Rattle.stage.specs.Meaning.{Request}
+use Rattle.stage.specs.Meaning.{Request, both}
 use Rattle.stage.specs.Given.{Summed}
-use Rattle.stage.specs.Interfaces.{isLocal, clipPart, builtInPart, isDepth, isPrimitive, localCount, clipPlaces, builtInPlaces, anyOf, summaryOf, locationUse, locationUses, countUse, pointPart, vertexOutputs, fragmentPlaces, attachmentUse, fragmentOutputs, placesStep}
+use Rattle.stage.specs.Interfaces.{isLocal, clipPart, builtInPart, isDepth, isPrimitive, reachPart, localCount, clipPlaces, builtInPlaces, reachOf, anyOf, summaryOf, locationUse, locationUses, countUse, pointPart, vertexOutputs, fragmentPlaces, attachmentUse, fragmentOutputs, placesStep}
 use Rattle.stage.specs.declared.types.Summary.{Summary}
-use Rattle.stage.proofs.VaryingLaws.{varyings-left, varyings-none}
+use Rattle.stage.proofs.VaryingLaws.{varyings-left, varyings-none, Ahead, ahead-onward}
 
 -- ---- summaries
 
@@ -39,24 +41,26 @@ plus a b =
       locals = a .locals + b .locals;
       «clip_places» = a .«clip_places» + b .«clip_places»;
       «built_in_places» = a .«built_in_places» + b .«built_in_places»;
+      reach = max (a .reach) (b .reach);
       depth = a .depth || b .depth;
       primitive = a .primitive || b .primitive;
     }
 
 abbrev pub nothing : Summary
-nothing = record { locals = 0; «clip_places» = 0; «built_in_places» = 0; depth = false; primitive = false }
+nothing = record { locals = 0; «clip_places» = 0; «built_in_places» = 0; reach = 0; depth = false; primitive = false }
 
-pub plus-parts : (a b : Summary) (d p : Bool) → d ≡ (a .depth || b .depth) → p ≡ (a .primitive || b .primitive)
+pub plus-parts : (a b : Summary) (r : ℕ) (d p : Bool) → r ≡ max (a .reach) (b .reach) → d ≡ (a .depth || b .depth) → p ≡ (a .primitive || b .primitive)
     → _≡_ {A = Summary}
     (record {
       locals = a .locals + b .locals;
       «clip_places» = a .«clip_places» + b .«clip_places»;
       «built_in_places» = a .«built_in_places» + b .«built_in_places»;
+      reach = r;
       depth = d;
       primitive = p;
     })
     (plus a b)
-plus-parts a b d p e f = rw (e, f)
+plus-parts a b r d p m e f = rw (m, e, f)
 
 any-joined : (a t b : Bool) → (a || pick t true b) ≡ ((a || pick t true false) || b)
 any-joined true t b = refl
@@ -66,37 +70,41 @@ any-joined false false b = refl
 count-joined : (a x b : ℕ) → a + (x + b) ≡ a + (x + 0) + b
 count-joined a x b = omega arith
 
+reach-joined : (a x b : ℕ) → max a (max x b) ≡ max (max a (max x 0)) b
+reach-joined a x b = omega arith
+
 plus-more : (a : Summary) (v : Varying) (vs : List Varying) → plus a (summaryOf (v ∷ vs)) ≡ plus (plus a (summaryOf (v ∷ []))) (summaryOf vs)
-unfolding summaryOf localCount clipPlaces builtInPlaces anyOf
+unfolding summaryOf localCount clipPlaces builtInPlaces reachOf anyOf
 plus-more a v vs =
     rw (
       count-joined (a .locals) (isLocal v) (localCount vs),
       count-joined (a .«clip_places») (clipPart v) (clipPlaces vs),
       count-joined (a .«built_in_places») (builtInPart v) (builtInPlaces vs),
+      reach-joined (a .reach) (reachPart v) (reachOf vs),
       any-joined (a .depth) (isDepth v) (anyOf isDepth vs),
       any-joined (a .primitive) (isPrimitive v) (anyOf isPrimitive vs),
     )
 
 plus-end : (a : Summary) → plus a (summaryOf []) ≡ a
-unfolding summaryOf localCount clipPlaces builtInPlaces anyOf
-plus-end a = simp (add-zero, or-false)
+unfolding summaryOf localCount clipPlaces builtInPlaces reachOf anyOf
+plus-end a = simp (add-zero, max-zero, or-false)
 
 plus-start : (vs : List Varying) → summaryOf vs ≡ plus nothing (summaryOf vs)
 unfolding summaryOf
-plus-start vs = simp zero-add
+plus-start vs = simp (zero-add, zero-max)
 
 -- a varying by itself
 abbrev pub partOf : Varying → Summary
 partOf v =
-    record { locals = isLocal v; «clip_places» = clipPart v; «built_in_places» = builtInPart v; depth = isDepth v; primitive = isPrimitive v }
+    record { locals = isLocal v; «clip_places» = clipPart v; «built_in_places» = builtInPart v; reach = reachPart v; depth = isDepth v; primitive = isPrimitive v }
 
 pick-itself : (b : Bool) → pick b true false ≡ b
 pick-itself true = refl
 pick-itself false = refl
 
 one-varying : (v : Varying) → summaryOf (v ∷ []) ≡ partOf v
-unfolding summaryOf localCount clipPlaces builtInPlaces anyOf
-one-varying v = simp (add-zero, pick-itself)
+unfolding summaryOf localCount clipPlaces builtInPlaces reachOf anyOf
+one-varying v = simp (add-zero, max-zero, pick-itself)
 
 -- a built-in by the code and the places of its word
 abbrev coded : ℕ → ℕ → BuiltIn
@@ -105,12 +113,12 @@ coded code places =
     (pick (eqb code 3) (In.FragDepth places) (In.ClipDistances places))))
 
 pub built-in-taking : (w : ℕ) (r : Summary) → w / 2 ^ 24 % 8 < 4
-    → r ≡ record { locals = 0; «clip_places» = 0; «built_in_places» = w % 256; depth = eqb (w / 2 ^ 24 % 8) 3; primitive = eqb (w / 2 ^ 24 % 8) 1 }
+    → r ≡ record { locals = 0; «clip_places» = 0; «built_in_places» = w % 256; reach = 0; depth = eqb (w / 2 ^ 24 % 8) 3; primitive = eqb (w / 2 ^ 24 % 8) 1 }
     → r ≡ summaryOf (Var.BuiltIn (builtInOf w) ∷ [])
 built-in-taking w r h e = e ∙ go (w / 2 ^ 24 % 8) (w % 256) h ∙ sym (one-varying (Var.BuiltIn (builtInOf w)))
   where
     go : (code places : ℕ) → code < 4
-        → _≡_ {A = Summary} (record { locals = 0; «clip_places» = 0; «built_in_places» = places; depth = eqb code 3; primitive = eqb code 1 })
+        → _≡_ {A = Summary} (record { locals = 0; «clip_places» = 0; «built_in_places» = places; reach = 0; depth = eqb code 3; primitive = eqb code 1 })
         (partOf (Var.BuiltIn (coded code places)))
     go zero places h = refl
     go (suc zero) places h = refl
@@ -122,17 +130,17 @@ clip-coded : (code size : ℕ) → 4 ≤ code → coded code size ≡ In.ClipDis
 clip-coded code size h = rw (ne-eqb code 0 (omega (arith, h)), ne-eqb code 1 (omega (arith, h)), ne-eqb code 2 (omega (arith, h)), ne-eqb code 3 (omega (arith, h)))
 
 pub built-in-clip : (w q : ℕ) → 4 ≤ w / 2 ^ 24 % 8 → q ≡ (w % 256 + 3) / 4
-    → _≡_ {A = Summary} (record { locals = 0; «clip_places» = q; «built_in_places» = 0; depth = false; primitive = false })
+    → _≡_ {A = Summary} (record { locals = 0; «clip_places» = q; «built_in_places» = 0; reach = 0; depth = false; primitive = false })
     (summaryOf (Var.BuiltIn (builtInOf w) ∷ []))
 built-in-clip w q h e = rw (e, clip-coded (w / 2 ^ 24 % 8) (w % 256) h) (sym (one-varying (Var.BuiltIn (In.ClipDistances (w % 256)))))
 
 -- ---- a varying by its first word
 
 module _ (w k : ℕ) (ek : k ≡ kindOf w) where
-  pub first-local : k ≡ 12
-      → _≡_ {A = Summary} (record { locals = 1; «clip_places» = 0; «built_in_places» = 0; depth = false; primitive = false })
+  pub first-local : (location : ℕ) → k ≡ 12 → location ≡ contentOf w
+      → _≡_ {A = Summary} (record { locals = 1; «clip_places» = 0; «built_in_places» = 0; reach = location + 1; depth = false; primitive = false })
       (summaryOf (varying (w ∷ []) ∷ []))
-  first-local h = rw (← ek, eq-eqb k 12 h) (sym (one-varying (local w 0)))
+  first-local location h e = rw (← ek, eq-eqb k 12 h, e) (sym (one-varying (local w 0)))
 
   pub first-built-in : (r : Summary) → (k ≡ 12 → ⊥) → r ≡ summaryOf (Var.BuiltIn (builtInOf w) ∷ []) → r ≡ summaryOf (varying (w ∷ []) ∷ [])
   first-built-in r n e = rw (← ek, ne-eqb k 12 n) e
@@ -147,6 +155,9 @@ module _ (w k : ℕ) (ek : k ≡ kindOf w) where
 module _ (ws : List ℕ) (at w : ℕ) (ew : w ≡ wordAt ws at) where
   width-there : varyingWidth (w ∷ []) ≡ varyingWidth (drop at ws)
   width-there = rw (here ws at, ← ew)
+
+  pub ahead-by : (n width : ℕ) → Ahead ws n at → (n ≡ 0 → ⊥) → width ≡ varyingWidth (w ∷ []) → Ahead ws (n - 1) (at + width)
+  ahead-by n width i h x = ahead-onward ws n at i h (at + width) (rw (x, width-there))
 
   first-summary : summaryOf (varying (w ∷ []) ∷ []) ≡ summaryOf (varying (drop at ws) ∷ [])
   first-summary =
@@ -263,6 +274,20 @@ module _ (number past limit : ℕ) (ws : List ℕ) (k at : ℕ) (goal : Answer) 
   unfolding locationUses
   locations-ended a h e = sym (inv ∙ rw (varyings-none (drop at ws) k h, e))
 
+-- a local variable is refused where a bound is below the reach, and nowhere else
+reach-within : (number past limit : ℕ) (vs : List Varying) → reachOf vs ≤ past → locationUses number past limit vs ≡ accepted
+unfolding reachOf locationUses
+reach-within number past limit [] h = refl
+reach-within number past limit (Var.Local location iv ∷ vs) h = rw (lt-ltb location past (omega arith)) (reach-within number past limit vs (omega arith))
+reach-within number past limit (Var.BuiltIn b ∷ vs) h = reach-within number past limit vs (omega arith)
+
+reach-past : (number past limit : ℕ) (vs : List Varying) → (number ≡ 0 → ⊥) → past < reachOf vs → locationUses number past limit vs .number ≡ number
+unfolding reachOf locationUses
+reach-past number past limit [] n h = absurd (omega arith)
+reach-past number past limit (Var.Local location iv ∷ vs) n h =
+    by-test (ltb location past) (λ t. rw t (reach-past number past limit vs n (omega (arith, ltb-true location past t)))) λ f. rw (f, ne-eqb number 0 n)
+reach-past number past limit (Var.BuiltIn b ∷ vs) n h = reach-past number past limit vs n (omega arith)
+
 -- ---- places
 
 module _ (vs : List Varying) (s : Summary) (hs : s ≡ summaryOf vs) where
@@ -282,6 +307,15 @@ module _ (vs : List Varying) (s : Summary) (hs : s ≡ summaryOf vs) where
   unfolding summaryOf
   depth-is = rw hs
 
+  module _ (number past limit : ℕ) (a b : Answer) where
+    within-reach : s .reach ≤ past → a ≡ b → a ≡ both (locationUses number past limit vs) b
+    unfolding summaryOf
+    within-reach h x = rw (reach-within number past limit vs (rw hs at h)) x
+
+    past-reach : (number ≡ 0 → ⊥) → past < s .reach → a ≡ locationUses number past limit vs → a ≡ both (locationUses number past limit vs) b
+    unfolding summaryOf
+    past-reach n h x = rw (ne-eqb (locationUses number past limit vs .number) 0 (λ z. n (sym (reach-past number past limit vs n (rw hs at h)) ∙ z))) x
+
   module _ (topology limit point : ℕ) (r : Answer) (hp : point ≡ pointPart topology) where
     pub vertex-taken : limit < point + s .«clip_places» → r ≡ refused 65 → r ≡ vertexOutputs topology limit vs
     unfolding vertexOutputs
@@ -292,30 +326,34 @@ module _ (vs : List Varying) (s : Summary) (hs : s ≡ summaryOf vs) where
       unfolding vertexOutputs
       vertex-clipped k x = rw (clip-is, ← hp, le-ltb limit (point + s .«clip_places») h, lt-ltb limit (1 + s .«clip_places») k) x
 
-      module _ (a : Answer) (k : 1 + s .«clip_places» ≤ limit) (e : a ≡ locationUses 60 (limit - s .«clip_places») limit vs) where
-        pub vertex-location : (a .number ≡ 0 → ⊥) → r ≡ a → r ≡ vertexOutputs topology limit vs
+      module _ (k : 1 + s .«clip_places» ≤ limit) where
+        pub vertex-location : limit - s .«clip_places» < s .reach → r ≡ locationUses 60 (limit - s .«clip_places») limit vs → r ≡ vertexOutputs topology limit vs
         unfolding vertexOutputs
-        vertex-location n x =
-            rw (clip-is, ← hp, le-ltb limit (point + s .«clip_places») h, le-ltb limit (1 + s .«clip_places») k, ← e, ne-eqb (a .number) 0 n) x
+        vertex-location m x =
+            rw (clip-is, ← hp, le-ltb limit (point + s .«clip_places») h, le-ltb limit (1 + s .«clip_places») k)
+            (past-reach 60 (limit - s .«clip_places») limit r _ (λ z. absurd (omega (arith, z))) m x)
 
-        pub vertex-count : a .number ≡ 0 → r ≡ countUse 61 (s .locals) (limit - (point + s .«clip_places»)) limit → r ≡ vertexOutputs topology limit vs
+        pub vertex-count : s .reach ≤ limit - s .«clip_places» → r ≡ countUse 61 (s .locals) (limit - (point + s .«clip_places»)) limit
+            → r ≡ vertexOutputs topology limit vs
         unfolding vertexOutputs
-        vertex-count z x =
-            rw (clip-is, locals-are, ← hp, le-ltb limit (point + s .«clip_places») h, le-ltb limit (1 + s .«clip_places») k, ← e, eq-eqb (a .number) 0 z) x
+        vertex-count m x =
+            rw (clip-is, locals-are, ← hp, le-ltb limit (point + s .«clip_places») h, le-ltb limit (1 + s .«clip_places») k)
+            (within-reach 60 (limit - s .«clip_places») limit r _ m x)
 
   module _ (limit locals : ℕ) (r : Answer) where
     pub fragment-taken : limit < s .«built_in_places» → r ≡ refused 65 → r ≡ fragmentPlaces limit locals vs
     unfolding fragmentPlaces
     fragment-taken h x = rw (built-in-is, lt-ltb limit (s .«built_in_places») h) x
 
-    module _ (a : Answer) (h : s .«built_in_places» ≤ limit) (e : a ≡ locationUses 62 limit limit vs) where
-      pub fragment-location : (a .number ≡ 0 → ⊥) → r ≡ a → r ≡ fragmentPlaces limit locals vs
+    module _ (h : s .«built_in_places» ≤ limit) where
+      pub fragment-location : limit < s .reach → r ≡ locationUses 62 limit limit vs → r ≡ fragmentPlaces limit locals vs
       unfolding fragmentPlaces
-      fragment-location n x = rw (built-in-is, le-ltb limit (s .«built_in_places») h, ← e, ne-eqb (a .number) 0 n) x
+      fragment-location m x =
+          rw (built-in-is, le-ltb limit (s .«built_in_places») h) (past-reach 62 limit limit r _ (λ z. absurd (omega (arith, z))) m x)
 
-      pub fragment-count : a .number ≡ 0 → r ≡ countUse 63 locals (limit - s .«built_in_places») limit → r ≡ fragmentPlaces limit locals vs
+      pub fragment-count : s .reach ≤ limit → r ≡ countUse 63 locals (limit - s .«built_in_places») limit → r ≡ fragmentPlaces limit locals vs
       unfolding fragmentPlaces
-      fragment-count z x = rw (built-in-is, le-ltb limit (s .«built_in_places») h, ← e, eq-eqb (a .number) 0 z) x
+      fragment-count m x = rw (built-in-is, le-ltb limit (s .«built_in_places») h) (within-reach 62 limit limit r _ m x)
 
 -- ---- attachments
 
@@ -340,6 +378,13 @@ module _ (ws : List ℕ) (p : EntryParts) (dual depth : Bool) (r : Answer) (head
 
 -- ---- an entry point by its parts
 
+module _ (ws : List ℕ) (p : EntryParts) (counts n : ℕ) (hc : counts ≡ wordAt ws (p .counts)) (g : Placed ws p) where
+  pub inputs-end : n ≡ bits 11 6 counts → varyingsEnd ws n (p .inputs) < length ws
+  inputs-end hn = rw (hn, hc) (g .inputsEnd)
+
+  pub outputs-end : n ≡ bits 5 0 counts → varyingsEnd ws n (p .outputs) < length ws
+  outputs-end hn = rw (hn, hc) (g .outputsEnd)
+
 module _ (ws : List ℕ) (p : EntryParts) (counts n : ℕ) (a : Answer) (hc : counts ≡ wordAt ws (p .counts)) where
   pub inputs-stand : (limit locals : ℕ) → n ≡ bits 11 6 counts → a ≡ fragmentPlaces limit locals (varyings n (drop (p .inputs) ws))
       → a ≡ fragmentPlaces limit locals (standing ws p .inputs)
@@ -352,10 +397,14 @@ module _ (ws : List ℕ) (p : EntryParts) (counts n : ℕ) (a : Answer) (hc : co
     unfolding standing
     vertex-stands topology limit x = rw (← hc, ← hn) x
 
-    pub colours-stand : (number past limit : ℕ) → a ≡ locationUses number past limit (varyings n (drop (p .outputs) ws))
-        → a ≡ locationUses number past limit (standing ws p .outputs)
+    pub colours-past : (s : Summary) (most : ℕ) (b : Answer) → Summed ws p s → most < s .reach → a ≡ locationUses 64 most most (varyings n (drop (p .outputs) ws))
+        → a ≡ both (locationUses 64 most most (standing ws p .outputs)) b
     unfolding standing
-    colours-stand number past limit x = rw (← hc, ← hn) x
+    colours-past s most b g h x = past-reach (standing ws p .outputs) s (g .outputs) 64 most most a b (λ z. absurd (omega (arith, z))) h (rw (← hc, ← hn) x)
+
+pub colours-within : (ws : List ℕ) (p : EntryParts) (s : Summary) (most : ℕ) (a b : Answer) → Summed ws p s → s .reach ≤ most → a ≡ b
+    → a ≡ both (locationUses 64 most most (standing ws p .outputs)) b
+colours-within ws p s most a b g h x = within-reach (standing ws p .outputs) s (g .outputs) 64 most most a b h x
 
 module _ (ws : List ℕ) (p : EntryParts) (counts n : ℕ) (s : Summary) (hc : counts ≡ wordAt ws (p .counts)) (hn : n ≡ bits 5 0 counts) where
   pub summed-read : Summed ws p s → s ≡ summaryOf (varyings n (drop (p .outputs) ws))

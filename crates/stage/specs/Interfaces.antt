@@ -1,6 +1,6 @@
 -- Workgroup size, inputs, outputs and what passes between stages (document 01, 'The order of one stage check';
 -- WebGPU, 'validating inter-stage interfaces' and the limits of compute stages).
-use Prim.Native.Nat.{ℕ, _+_, _-_, _*_, _/_}
+use Prim.Native.Nat.{ℕ, _+_, _-_, _*_, _/_, max}
 use mathlib.Core.Bool.{Bool, true, false, not, _&&_, _||_}
 use mathlib.Core.List.{List, [], _∷_}
 use lib.Dec.{eqb, ltb}
@@ -317,6 +317,15 @@ stageOut stage e w out =
       room = drop (2 + 2 * length (localsOf (e .outputs) [])) out;
     }
 
+abbrev pub reachPart : Varying → ℕ
+reachPart (Var.Local location iv) = location + 1
+reachPart (Var.BuiltIn b) = 0
+
+-- the highest location plus 1 among local varyings, 0 where there is none
+unfoldable pub reachOf : List Varying → ℕ
+reachOf [] = 0
+reachOf (v ∷ vs) = max (reachPart v) (reachOf vs)
+
 -- what one pass over varyings gathers
 unfoldable pub summaryOf : List Varying → Summary
 summaryOf vs =
@@ -324,6 +333,7 @@ summaryOf vs =
       locals = localCount vs;
       «clip_places» = clipPlaces vs;
       «built_in_places» = builtInPlaces vs;
+      reach = reachOf vs;
       depth = anyOf isDepth vs;
       primitive = anyOf isPrimitive vs;
     }

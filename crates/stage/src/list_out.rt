@@ -2,13 +2,13 @@
 ghost use mathlib.Core.Path.{_≡_};
 ghost use mathlib.Core.Bool.{true};
 ghost use mathlib.Core.List.{[]};
-ghost use Prim.Native.Nat.{_+_, _*_, _<_, _≤_, _^_};
+ghost use Prim.Native.Nat.{_+_, _*_, _<_, _≤_};
 ghost use lib.ListN.{length, drop};
 ghost use Rattle.varying.specs.Format.{payloadHeld};
 ghost use Rattle.lists.specs.Meaning.{every};
 ghost use Rattle.lists.specs.Format.{outFiled, decodeStage, encodeStage};
 ghost use Rattle.interface.specs.Reads.{varying, varyingWidth, varyings, standing};
-ghost use Rattle.interface.specs.Parts.{Placed};
+ghost use Rattle.interface.specs.Parts.{Placed, varyingsEnd};
 ghost use Rattle.stage.specs.Interfaces.{isLocal, localCount, localsOf, primitiveOut, stageOut};
 ghost use Rattle.stage.specs.Given.{Summed};
 ghost use Rattle.stage.specs.ListOut.{outputHeld, handed};
@@ -24,7 +24,6 @@ use lists::types::PrimitiveIndex;
 use varying::Payload;
 use word::content;
 use word::kind;
-use word::word;
 
 // Whether a mesh stage writes a primitive index; other stages have none.
 fn primitive_out(stage: ShaderStage, written: bool) -> PrimitiveIndex
@@ -46,18 +45,17 @@ fn primitive_out(stage: ShaderStage, written: bool) -> PrimitiveIndex
 
 // The output at a position: a local one is put into its place, a built-in one is passed over. The answer is where the next one begins.
 fn hand_next(pack: &[u32], at: usize, out: &mut [u32]) -> usize
-    requires { ⌜ at < 2 ^ 41 ⌝ }
+    requires { ⌜ (at + 1 < length (now pack)) × (length (now pack) ≤ 4096) ⌝ }
     requires { ⌜ (outFiled (now out) ≡ true) × (outputHeld (varying (drop at (now pack))) ≡ true) ⌝ }
     requires { ⌜ length (decodeStage (now out) .varyings) + isLocal (varying (drop at (now pack))) ≤ 63 ⌝ }
     requires { ⌜ 2 * isLocal (varying (drop at (now pack))) ≤ length (decodeStage (now out) .room) ⌝ }
     ensures { λ _. ⌜ decodeStage (now (out .exit)) ≡ handed (varying (drop at (now (pack .entry)))) (decodeStage (now (out .entry))) ⌝ }
     ensures { λ _. ⌜ outFiled (now (out .exit)) ≡ true ⌝ }
     ensures { λ r. ⌜ r ≡ at + varyingWidth (drop at (now (pack .entry))) ⌝ }
-    ensures { λ r. ⌜ r ≤ at + 2 ⌝ }
 {
-    let w = word(pack, at);
+    let w = pack[at];
     if kind(w) == 12 {
-        insert_words(out, content(w), word(pack, at + 1));
+        insert_words(out, content(w), pack[at + 1]);
         return at + 2;
     }
     at + 1
@@ -72,7 +70,8 @@ pub(crate) fn write_out(
     primitive: PrimitiveIndex,
     payload: Payload,
 )
-    requires { ⌜ (from < 2 ^ 40) × (n ≤ 63) × (payloadHeld payload ≡ true) ⌝ }
+    requires { ⌜ (varyingsEnd (now pack) n from < length (now pack)) × (length (now pack) ≤ 4096) × (n ≤ 63) ⌝ }
+    requires { ⌜ payloadHeld payload ≡ true ⌝ }
     requires { ⌜ every outputHeld (varyings n (drop from (now pack))) ≡ true ⌝ }
     requires { ⌜ 2 + 2 * localCount (varyings n (drop from (now pack))) ≤ length (now out) ⌝ }
     ensures { λ _. ⌜ now (out .exit) ≡ encodeStage (record {

@@ -2,12 +2,12 @@
 ghost use mathlib.Core.Path.{_≡_};
 ghost use mathlib.Core.Bool.{false, not, _&&_, _||_};
 ghost use mathlib.Core.List.{[], _∷_};
-ghost use Prim.Native.Nat.{_+_, _*_, _/_, _<_, _≤_, _^_};
-ghost use lib.ListN.{drop};
+ghost use Prim.Native.Nat.{_+_, _*_, _/_, _<_, _≤_, _^_, max};
+ghost use lib.ListN.{length, drop};
 ghost use Rattle.interface.specs.Format.{builtInOf};
 ghost use Rattle.interface.specs.Reads.{varying, varyingWidth, varyings, standing};
 ghost use Rattle.interface.specs.declared.types.Varying.the-variants as Var;
-ghost use Rattle.interface.specs.Parts.{Placed};
+ghost use Rattle.interface.specs.Parts.{Placed, varyingsEnd};
 ghost use Rattle.stage.specs.Meaning.{both};
 ghost use Rattle.stage.specs.Given.{Summed};
 ghost use Rattle.stage.specs.Interfaces.{summaryOf, locationUse, locationUses, countUse, pointPart, vertexOutputs, fragmentPlaces, attachmentUse, placesStep};
@@ -21,7 +21,6 @@ use interface::types::ShaderStage;
 use word::answer::Answer;
 use word::content;
 use word::kind;
-use word::word;
 
 // A size over four, rounded up.
 fn quarters(size: u32) -> u32
@@ -35,12 +34,13 @@ fn quarters(size: u32) -> u32
 
 // The summary of a built-in that takes inter-stage places.
 fn taking(places: u32, depth: bool, primitive: bool) -> Summary
-    ensures { λ r. ⌜ r ≡ record { locals = 0; «clip_places» = 0; «built_in_places» = places; depth = depth; primitive = primitive } ⌝ }
+    ensures { λ r. ⌜ r ≡ record { locals = 0; «clip_places» = 0; «built_in_places» = places; reach = 0; depth = depth; primitive = primitive } ⌝ }
 {
     Summary {
         locals: 0,
         clip_places: 0,
         built_in_places: places,
+        reach: 0,
         depth,
         primitive,
     }
@@ -58,6 +58,7 @@ fn built_in_summary(w: u32) -> Summary
         locals: 0,
         clip_places: quarters(w % 256),
         built_in_places: 0,
+        reach: 0,
         depth: false,
         primitive: false,
     }
@@ -72,6 +73,7 @@ fn first_summary(w: u32) -> Summary
             locals: 1,
             clip_places: 0,
             built_in_places: 0,
+            reach: content(w) + 1,
             depth: false,
             primitive: false,
         };
@@ -90,6 +92,15 @@ fn first_width(w: u32) -> usize
     1
 }
 
+fn larger(a: u32, b: u32) -> u32
+    ensures { λ r. ⌜ r ≡ max a b ⌝ }
+{
+    if a < b {
+        return b;
+    }
+    a
+}
+
 // Two summaries as one.
 fn joined(a: Summary, b: Summary) -> Summary
     requires { ⌜ (a .locals < 2 ^ 31) × (a .«clip_places» < 2 ^ 31) × (a .«built_in_places» < 2 ^ 31) ⌝ }
@@ -98,6 +109,7 @@ fn joined(a: Summary, b: Summary) -> Summary
       locals = a .locals + b .locals;
       «clip_places» = a .«clip_places» + b .«clip_places»;
       «built_in_places» = a .«built_in_places» + b .«built_in_places»;
+      reach = max (a .reach) (b .reach);
       depth = a .depth || b .depth;
       primitive = a .primitive || b .primitive;
     } ⌝ }
@@ -106,6 +118,7 @@ fn joined(a: Summary, b: Summary) -> Summary
         locals: a.locals + b.locals,
         clip_places: a.clip_places + b.clip_places,
         built_in_places: a.built_in_places + b.built_in_places,
+        reach: larger(a.reach, b.reach),
         depth: either(a.depth, b.depth),
         primitive: either(a.primitive, b.primitive),
     }
@@ -113,7 +126,7 @@ fn joined(a: Summary, b: Summary) -> Summary
 
 // What stands among the varyings from a position on, in one pass.
 pub(crate) fn summary(pack: &[u32], from: usize, n: usize) -> Summary
-    requires { ⌜ (from < 2 ^ 40) × (n ≤ 63) ⌝ }
+    requires { ⌜ (varyingsEnd (now pack) n from < length (now pack)) × (length (now pack) ≤ 4096) × (n ≤ 63) ⌝ }
     ensures { λ r. ⌜ r ≡ summaryOf (varyings n (drop from (now (pack .entry)))) ⌝ }
     ensures { λ r. ⌜ (r .locals ≤ 63) × (r .«clip_places» ≤ 63 * 64) × (r .«built_in_places» ≤ 63 * 255) ⌝ }
 {
@@ -121,7 +134,7 @@ pub(crate) fn summary(pack: &[u32], from: usize, n: usize) -> Summary
     let mut at = from;
     let mut left = n;
     while left != 0 {
-        let w = word(pack, at);
+        let w = pack[at];
         let part = first_summary(w);
         s = joined(s, part);
         at += first_width(w);
@@ -163,13 +176,13 @@ pub(crate) fn location_uses(
     past: u32,
     limit: u32,
 ) -> Answer
-    requires { ⌜ (from < 2 ^ 40) × (n ≤ 63) ⌝ }
+    requires { ⌜ (varyingsEnd (now pack) n from < length (now pack)) × (length (now pack) ≤ 4096) × (n ≤ 63) ⌝ }
     ensures { λ r. ⌜ r ≡ locationUses number past limit (varyings n (drop from (now (pack .entry)))) ⌝ }
 {
     let mut at = from;
     let mut left = n;
     while left != 0 {
-        let w = word(pack, at);
+        let w = pack[at];
         let a = location_use(w, number, past, limit);
         if a.number != 0 {
             return a;
@@ -209,7 +222,7 @@ pub(crate) fn vertex_outputs(
     topology: u32,
     limit: u32,
 ) -> Answer
-    requires { ⌜ (from < 2 ^ 40) × (n ≤ 63) ⌝ }
+    requires { ⌜ (varyingsEnd (now pack) n from < length (now pack)) × (length (now pack) ≤ 4096) × (n ≤ 63) ⌝ }
     requires { ⌜ (outputs ≡ summaryOf (varyings n (drop from (now pack)))) × (outputs .«clip_places» ≤ 63 * 64) ⌝ }
     ensures { λ r. ⌜ r ≡ vertexOutputs topology limit (varyings n (drop from (now (pack .entry)))) ⌝ }
 {
@@ -221,9 +234,8 @@ pub(crate) fn vertex_outputs(
     if limit < 1 + clip {
         return Answer::refused(65);
     }
-    let locations = location_uses(pack, from, n, 60, limit - clip, limit);
-    if locations.number != 0 {
-        return locations;
+    if limit - clip < outputs.reach {
+        return location_uses(pack, from, n, 60, limit - clip, limit);
     }
     count_use(61, outputs.locals, limit - taken, limit)
 }
@@ -236,7 +248,7 @@ pub(crate) fn fragment_places(
     limit: u32,
     locals: u32,
 ) -> Answer
-    requires { ⌜ (from < 2 ^ 40) × (n ≤ 63) ⌝ }
+    requires { ⌜ (varyingsEnd (now pack) n from < length (now pack)) × (length (now pack) ≤ 4096) × (n ≤ 63) ⌝ }
     ensures { λ r. ⌜ r ≡ fragmentPlaces limit locals (varyings n (drop from (now (pack .entry)))) ⌝ }
 {
     let s = summary(pack, from, n);
@@ -244,9 +256,8 @@ pub(crate) fn fragment_places(
     if limit < taken {
         return Answer::refused(65);
     }
-    let locations = location_uses(pack, from, n, 62, limit, limit);
-    if locations.number != 0 {
-        return locations;
+    if limit < s.reach {
+        return location_uses(pack, from, n, 62, limit, limit);
     }
     count_use(63, locals, limit - taken, limit)
 }
@@ -307,10 +318,9 @@ pub(crate) fn fragment_outputs(
         return places;
     }
     let most = limits.max_color_attachments;
-    let n = outputs_counted(counts);
-    let colours = location_uses(pack, parts.outputs, n, 64, most, most);
-    if colours.number != 0 {
-        return colours;
+    if most < outputs.reach {
+        let n = outputs_counted(counts);
+        return location_uses(pack, parts.outputs, n, 64, most, most);
     }
     attachment_use(pack, parts, outputs, dual, depth)
 }

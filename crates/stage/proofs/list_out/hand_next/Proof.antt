@@ -7,14 +7,16 @@ pub hand-next-spec : {M : Type 1} → statement M
 hand-next-spec =
     tie.close
     (tie.spec
-    (λ c κs. search needs)  -- word-requires
+    (λ c. search needs)  -- mul-w
+    (λ c. search needs)  -- shared-slice-read-w
     (λ c κs. search needs)  -- kind-requires
     (λ c κs. search needs)  -- content-requires
-    (λ c. search needs)  -- add-word
-    (λ c κs. search needs)  -- word-requires-2
+    (λ c. search needs)  -- add-insert-words
+    (λ c. search needs)  -- mul-insert-words
+    (λ c. search needs)  -- shared-slice-read-insert-words
     (λ c κs. ((search needs, search local-held), (search local-few, search local-roomy)))  -- insert-words-requires
     (λ c. search needs)  -- add-result
     (λ c. search needs)  -- same-length
-    (λ c. (search local-handed, (search needs, (search local-wide, search needs))))  -- returns
+    (λ c. (search local-handed, (search needs, search local-wide)))  -- returns
     (λ c. search needs)  -- add-result-2
-    (λ c. (search built-in-handed, (search needs, (search built-in-wide, search needs)))))  -- returns-2
+    (λ c. (search built-in-handed, (search needs, search built-in-wide))))  -- returns-2

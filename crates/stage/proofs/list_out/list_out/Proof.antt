@@ -1,3 +1,4 @@
+use Rattle.stage.proofs.OutputLaws.{outputs-end}
 use Rattle.stage.proofs.ListOutLaws.{outputs-held, outputs-room, payload-read-held, list-out}
 use borrow.Author.Needs.{needs}
 use Rattle.stage.proofs.list_out.list_out.Statement.{statement}
@@ -16,6 +17,6 @@ list-out-spec =
     (λ c. search needs)  -- mul-payload-of
     (λ c. search needs)  -- shared-slice-read-payload-of
     (λ c κs. search needs)  -- payload-of-requires
-    (λ c κs. ((search needs, search needs, search payload-read-held), (search outputs-held, search outputs-room)))  -- write-out-requires
+    (λ c κs. ((search outputs-end, search needs, search needs), (search payload-read-held, (search outputs-held, search outputs-room))))  -- write-out-requires
     (λ c. search needs)  -- same-length
     (λ c. search list-out))  -- returns

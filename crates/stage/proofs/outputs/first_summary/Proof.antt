@@ -8,6 +8,8 @@ first-summary-spec =
     tie.close
     (tie.spec
     (λ c κs. search needs)  -- kind-requires
+    (λ c κs. search needs)  -- content-requires
+    (λ c. search needs)  -- add-t5
     (λ c. search first-local)  -- returns
     (λ c κs. search needs)  -- built-in-summary-requires
     (λ c. search first-built-in))  -- returns-2

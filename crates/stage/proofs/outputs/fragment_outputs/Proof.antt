@@ -1,5 +1,5 @@
-use Rattle.stage.proofs.Both.{sequence}
-use Rattle.stage.proofs.OutputLaws.{inputs-stand, colours-stand}
+use Rattle.stage.proofs.Both.{both-ended, both-went}
+use Rattle.stage.proofs.OutputLaws.{inputs-end, outputs-end, inputs-stand, colours-past, colours-within}
 use borrow.Author.Needs.{needs}
 use Rattle.stage.proofs.outputs.fragment_outputs.Statement.{statement}
 use Rattle.stage.proofs.outputs.fragment_outputs.Tie as tie
@@ -11,10 +11,10 @@ fragment-outputs-spec =
     (λ c. search needs)  -- mul-counts
     (λ c. search needs)  -- shared-slice-read-counts
     (λ c κs. search needs)  -- inputs-counted-requires
-    (λ c κs. search needs)  -- fragment-places-requires
-    (λ c. search (sequence, inputs-stand))  -- returns
+    (λ c κs. (search inputs-end, search needs, search needs))  -- fragment-places-requires
+    (λ c. search (both-ended, inputs-stand))  -- returns
     (λ c κs. search needs)  -- outputs-counted-requires
-    (λ c κs. search needs)  -- location-uses-requires
-    (λ c. search (sequence, inputs-stand, colours-stand))  -- returns-2
+    (λ c κs. (search outputs-end, search needs, search needs))  -- location-uses-requires
+    (λ c. search (both-went, inputs-stand, colours-past))  -- returns-2
     (λ c κs. search needs)  -- attachment-use-requires
-    (λ c. search (sequence, inputs-stand, colours-stand)))  -- returns-3
+    (λ c. search (both-went, inputs-stand, colours-within)))  -- returns-3

@@ -10,6 +10,7 @@ joined-spec =
     (λ c. search needs)  -- add-t3
     (λ c. search needs)  -- add-t4
     (λ c. search needs)  -- add-t5
+    (λ c κs. search needs)  -- larger-requires
     (λ c κs. search needs)  -- either-requires
     (λ c κs. search needs)  -- either-requires-2
     (λ c. search plus-parts))  -- returns

@@ -1,16 +1,16 @@
-use Prim.Native.Nat.{_+_, _*_, _<_, _^_}
 use mathlib.Core.Path.{_≡_}
 use lib.ListN.{drop}
 use Rattle.interface.specs.Reads.{varyings}
 use Rattle.stage.specs.Interfaces.{locationUses}
-use Rattle.stage.proofs.OutputLaws.{locations-refused, locations-onward, locations-ended}
+use Rattle.stage.proofs.VaryingLaws.{Ahead, ahead}
+use Rattle.stage.proofs.OutputLaws.{ahead-by, locations-refused, locations-onward, locations-ended}
 use borrow.Author.Needs.{needs}
 use Rattle.stage.proofs.outputs.location_uses.Statement.{statement}
 use Rattle.stage.proofs.outputs.location_uses.Tie as tie
 
 abbrev Inv-loop : tie.InvT-loop
 Inv-loop pack from n number past limit at₀ left₀ at left =
-    (at + 2 * left < 2 ^ 41) × (locationUses number past limit (varyings n (drop from pack)) ≡ locationUses number past limit (varyings left (drop at pack)))
+    Ahead pack left at × (locationUses number past limit (varyings n (drop from pack)) ≡ locationUses number past limit (varyings left (drop at pack)))
 
 abbrev μ-loop : tie.MeasureT-loop
 μ-loop pack from n number past limit at₀ left₀ at left = left
@@ -21,14 +21,15 @@ location-uses-spec =
     (tie.spec
     Inv-loop
     μ-loop
-    (λ c. search needs)  -- loop-holds
-    (λ c κs. search needs)  -- word-requires
+    (λ c. (search ahead, search needs))  -- loop-holds
+    (λ c. search needs)  -- mul-w
+    (λ c. search needs)  -- shared-slice-read-w
     (λ c κs. search needs)  -- location-use-requires
     (λ c. search locations-refused)  -- returns
     (λ c κs. search needs)  -- first-width-requires
     (λ c. search needs)  -- add-at
     (λ c. search needs)  -- sub-left
     (λ c. search needs)  -- loop-less
-    (λ c. (search needs, search locations-onward))  -- loop-again
+    (λ c. (search ahead-by, search locations-onward))  -- loop-again
     (λ c κs. search needs)  -- accepted-requires
     (λ c. search locations-ended))  -- returns-2

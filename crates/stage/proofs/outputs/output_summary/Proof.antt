@@ -1,4 +1,4 @@
-use Rattle.stage.proofs.OutputLaws.{summed-here}
+use Rattle.stage.proofs.OutputLaws.{outputs-end, summed-here}
 use borrow.Author.Needs.{needs}
 use Rattle.stage.proofs.outputs.output_summary.Statement.{statement}
 use Rattle.stage.proofs.outputs.output_summary.Tie as tie
@@ -10,5 +10,5 @@ output-summary-spec =
     (λ c. search needs)  -- mul-outputs-counted
     (λ c. search needs)  -- shared-slice-read-outputs-counted
     (λ c κs. search needs)  -- outputs-counted-requires
-    (λ c κs. search needs)  -- summary-requires
+    (λ c κs. (search outputs-end, search needs, search needs))  -- summary-requires
     (λ c. search summed-here))  -- returns

@@ -1,5 +1,5 @@
 use Rattle.stage.specs.Interfaces.{placesStep, fragmentOutputs}
-use Rattle.stage.proofs.OutputLaws.{places-at, vertex-stands, summed-read}
+use Rattle.stage.proofs.OutputLaws.{outputs-end, places-at, vertex-stands, summed-read}
 use borrow.Author.Needs.{needs}
 use Rattle.stage.proofs.outputs.places_step.Statement.{statement}
 use Rattle.stage.proofs.outputs.places_step.Tie as tie
@@ -13,7 +13,7 @@ places-step-spec =
     (λ c. search needs)  -- mul-outputs-counted
     (λ c. search needs)  -- shared-slice-read-outputs-counted
     (λ c κs. search needs)  -- outputs-counted-requires
-    (λ c κs. (search needs, (search summed-read, search needs)))  -- vertex-outputs-requires
+    (λ c κs. ((search outputs-end, search needs, search needs), (search summed-read, search needs)))  -- vertex-outputs-requires
     (λ c. search needs)  -- enum-told-2
     (λ c κs. search needs)  -- fragment-outputs-requires
     (λ c. search needs)  -- enum-told-3

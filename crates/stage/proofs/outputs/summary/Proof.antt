@@ -1,16 +1,16 @@
-use Prim.Native.Nat.{_+_, _*_, _<_, _^_}
 use mathlib.Core.Path.{_≡_}
 use lib.ListN.{drop}
 use Rattle.interface.specs.Reads.{varyings}
 use Rattle.stage.specs.Interfaces.{summaryOf}
-use Rattle.stage.proofs.OutputLaws.{plus, Within, within-start, within-more, part-locals, part-clip, part-built-in, summary-start, summary-onward, summary-ended}
+use Rattle.stage.proofs.VaryingLaws.{Ahead, ahead}
+use Rattle.stage.proofs.OutputLaws.{ahead-by, plus, Within, within-start, within-more, part-locals, part-clip, part-built-in, summary-start, summary-onward, summary-ended}
 use borrow.Author.Needs.{needs}
 use Rattle.stage.proofs.outputs.summary.Statement.{statement}
 use Rattle.stage.proofs.outputs.summary.Tie as tie
 
 abbrev Inv-loop : tie.InvT-loop
 Inv-loop pack from n s₀ at₀ left₀ s at left =
-    (at + 2 * left < 2 ^ 41) × Within s left × (summaryOf (varyings n (drop from pack)) ≡ plus s (summaryOf (varyings left (drop at pack))))
+    Ahead pack left at × Within s left × (summaryOf (varyings n (drop from pack)) ≡ plus s (summaryOf (varyings left (drop at pack))))
 
 abbrev μ-loop : tie.MeasureT-loop
 μ-loop pack from n s₀ at₀ left₀ s at left = left
@@ -22,13 +22,14 @@ summary-spec =
     Inv-loop
     μ-loop
     (λ c κs. search needs)  -- taking-requires
-    (λ c. (search needs, search within-start, search summary-start))  -- loop-holds
-    (λ c κs. search needs)  -- word-requires
+    (λ c. (search ahead, search within-start, search summary-start))  -- loop-holds
+    (λ c. search needs)  -- mul-w
+    (λ c. search needs)  -- shared-slice-read-w
     (λ c κs. search needs)  -- first-summary-requires
     (λ c κs. (search needs, (search part-locals, search part-clip, search part-built-in)))  -- joined-requires
     (λ c κs. search needs)  -- first-width-requires
     (λ c. search needs)  -- add-at
     (λ c. search needs)  -- sub-left
     (λ c. search needs)  -- loop-less
-    (λ c. (search needs, search within-more, search summary-onward))  -- loop-again
+    (λ c. (search ahead-by, search within-more, search summary-onward))  -- loop-again
     (λ c. (search summary-ended, search needs)))  -- returns

@@ -14,6 +14,7 @@ vertex-outputs-spec =
     (λ c. search needs)  -- add-if2
     (λ c κs. search needs)  -- refused-requires-2
     (λ c. search vertex-clipped)  -- returns-2
+    (λ c. search needs)  -- sub-if3
     (λ c. search needs)  -- sub-location-uses
     (λ c κs. search needs)  -- location-uses-requires
     (λ c. search vertex-location)  -- returns-3
