@@ -5,11 +5,13 @@ ghost use mathlib.Core.List.{[], _∷_};
 ghost use Prim.Native.Nat.{_+_, _<_, _≤_, _^_};
 ghost use lib.ListN.{drop};
 ghost use Rattle.word.specs.Choice.{pick};
+ghost use Rattle.word.specs.Words.{contentOf};
 ghost use Rattle.resource.specs.Rules.{sameBool};
-ghost use Rattle.varying.specs.Format.{varOf};
+ghost use Rattle.varying.specs.Format.{locationFiled, varOf};
 ghost use Rattle.lists.specs.Meaning.{varyingAt};
 ghost use Rattle.lists.specs.Format.{outFiled, decodeStage};
 ghost use Rattle.lists.specs.declared.types.Provided.the-variants.{Var};
+ghost use Rattle.interface.specs.Format.{builtInOf};
 ghost use Rattle.interface.specs.Reads.{varying, varyingWidth, varyings};
 ghost use Rattle.stage.specs.Interfaces.{vertexInput, fragmentInput, inputNumber, metLocal, metBuiltIn, startWalk, inputStep, inputSteps};
 use crate::types::InputWalk;
@@ -159,6 +161,30 @@ fn met_built_in(built_in: BuiltIn, walk: InputWalk) -> InputWalk
     }
 }
 
+// The refusal of an input by its words, 0 for none. A built-in one is never refused.
+fn refusal(stage: ShaderStage, inputs: &[u32], first: u32, second: u32, near: usize) -> u32
+    requires { ⌜ outFiled (now inputs) ≡ true ⌝ }
+    ensures { λ r. ⌜ r ≡ pick (locationFiled first) (inputNumber stage (varOf second)
+        (varyingAt (contentOf first) (decodeStage (now (inputs .entry)) .varyings))) 0 ⌝ }
+    ensures { λ r. ⌜ r ≤ 54 ⌝ }
+{
+    if location_filed(first) {
+        return input_number(stage, inputs, content(first), second, near);
+    }
+    0
+}
+
+// The walk past an input by its words.
+fn met(first: u32, second: u32, walk: InputWalk) -> InputWalk
+    requires { ⌜ walk .locals < 2 ^ 31 ⌝ }
+    ensures { λ r. ⌜ r ≡ pick (locationFiled first) (metLocal (varOf second) walk) (metBuiltIn (builtInOf first) walk) ⌝ }
+{
+    if location_filed(first) {
+        return met_local(second, walk);
+    }
+    met_built_in(built_in_of(first), walk)
+}
+
 // One input by its words: a local one is judged, a built-in one is noted.
 fn input_value(
     stage: ShaderStage,
@@ -170,23 +196,16 @@ fn input_value(
     requires { ⌜ (walk .locals < 2 ^ 31) × (outFiled (now inputs) ≡ true) ⌝ }
     ensures { λ r. ⌜ r ≡ inputStep stage (decodeStage (now (inputs .entry)) .varyings) (varying (first ∷ second ∷ [])) walk ⌝ }
 {
-    if location_filed(first) {
-        let location = content(first);
-        let near = walk.locals as usize;
-        let number = input_number(stage, inputs, location, second, near);
-        if number != 0 {
-            return Walked {
-                walk,
-                answer: Answer::new(number, location, 0, 0),
-            };
-        }
+    let near = walk.locals as usize;
+    let number = refusal(stage, inputs, first, second, near);
+    if number != 0 {
         return Walked {
-            walk: met_local(second, walk),
-            answer: Answer::accepted(),
+            walk,
+            answer: Answer::new(number, content(first), 0, 0),
         };
     }
     Walked {
-        walk: met_built_in(built_in_of(first), walk),
+        walk: met(first, second, walk),
         answer: Answer::accepted(),
     }
 }
