@@ -10,6 +10,7 @@ use borrow.Author.Tests.{eq-eqb, ne-eqb}
 use Rattle.word.specs.Choice.{pick, yes}
 use Rattle.word.specs.Words.{wordAt, contentOf, bits, bit}
 use Rattle.word.specs.Answers.{answer, accepted}
+use Rattle.word.proofs.Truth.{by-test}
 use Rattle.word.specs.declared.answer.Answer.{Answer}
 use Rattle.numeric.specs.Rules.{fits}
 use Rattle.numeric.specs.Format.{typeOf}
@@ -105,20 +106,48 @@ met-local w walk b e = rw e
 pub met-at : (b k : BuiltIn) (w r : InputWalk) → b ≡ k → r ≡ metBuiltIn k w → r ≡ metBuiltIn b w
 met-at b k w r e h = rw e h
 
-module _ (stage : ShaderStage) (provided : List Located) (x y : ℕ) (w : InputWalk) (a : Answer) (t : Bool) (ht : t ≡ locationFiled x) where
-  module _ (location number : ℕ) (is : t ≡ true) (hl : location ≡ contentOf x) (hn : number ≡ inputNumber stage (varOf y) (varyingAt location provided)) where
-    pub local-refused : (number ≡ 0 → ⊥) → a ≡ answer number location 0 0 → walked w a ≡ inputStep stage provided (varying (x ∷ y ∷ [])) w
-    unfolding inputStep
-    local-refused n h = rw (← ht, is, ← hl, ← hn, ne-eqb number 0 n, h)
+-- one input by its words, which a test tells apart
+module _ (x y : ℕ) (t : Bool) (ht : t ≡ locationFiled x) where
+  module _ (stage : ShaderStage) (provided : List Located) where
+    pub number-local : (location number : ℕ) → t ≡ true → location ≡ contentOf x → number ≡ inputNumber stage (varOf y) (varyingAt location provided)
+        → number ≡ pick (locationFiled x) (inputNumber stage (varOf y) (varyingAt (contentOf x) provided)) 0
+    number-local location number is hl hn = rw (← ht, is, ← hl) hn
 
-    pub local-met : (m : InputWalk) → number ≡ 0 → m ≡ metLocal (varOf y) w → a ≡ accepted → walked m a ≡ inputStep stage provided (varying (x ∷ y ∷ [])) w
-    unfolding inputStep
-    local-met m n e h = rw (← ht, is, ← hl, ← hn, eq-eqb number 0 n, e, h)
+    pub number-built-in : t ≡ false → 0 ≡ pick (locationFiled x) (inputNumber stage (varOf y) (varyingAt (contentOf x) provided)) 0
+    number-built-in is = rw (← ht, is)
 
-  pub built-in-met : (b : BuiltIn) (m : InputWalk) → t ≡ false → b ≡ builtInOf x → m ≡ metBuiltIn b w → a ≡ accepted
+  module _ (w m : InputWalk) where
+    pub past-local : t ≡ true → m ≡ metLocal (varOf y) w → m ≡ pick (locationFiled x) (metLocal (varOf y) w) (metBuiltIn (builtInOf x) w)
+    past-local is e = rw (← ht, is) e
+
+    pub past-built-in : (b : BuiltIn) → t ≡ false → b ≡ builtInOf x → m ≡ metBuiltIn b w
+        → m ≡ pick (locationFiled x) (metLocal (varOf y) w) (metBuiltIn (builtInOf x) w)
+    past-built-in b is hb e = rw (← ht, is, ← hb) e
+
+  module _ (at : ℕ) where
+    pub behind-local : t ≡ true → at + 2 ≡ at + varyingWidth (x ∷ [])
+    behind-local is = rw (← ht, is)
+
+    pub behind-built-in : t ≡ false → at + 1 ≡ at + varyingWidth (x ∷ [])
+    behind-built-in is = rw (← ht, is)
+
+module _ (stage : ShaderStage) (provided : List Located) (x y number : ℕ) (w : InputWalk) (a : Answer)
+    (hn : number ≡ pick (locationFiled x) (inputNumber stage (varOf y) (varyingAt (contentOf x) provided)) 0) where
+  pub value-refused : (location : ℕ) → (number ≡ 0 → ⊥) → location ≡ contentOf x → a ≡ answer number location 0 0
+      → walked w a ≡ inputStep stage provided (varying (x ∷ y ∷ [])) w
+  unfolding inputStep
+  value-refused location n hl h =
+      by-test (locationFiled x)
+      (λ t. let e : number ≡ inputNumber stage (varOf y) (varyingAt (contentOf x) provided) = rw t at hn in rw (t, ← e, ne-eqb number 0 n, h, hl))
+      (λ f. absurd (n (rw f at hn)))
+
+  pub value-met : (m : InputWalk) → number ≡ 0 → m ≡ pick (locationFiled x) (metLocal (varOf y) w) (metBuiltIn (builtInOf x) w) → a ≡ accepted
       → walked m a ≡ inputStep stage provided (varying (x ∷ y ∷ [])) w
   unfolding inputStep
-  built-in-met b m is hb e h = rw (← ht, is, ← hb, e, h)
+  value-met m n e h =
+      by-test (locationFiled x)
+      (λ t. let k : number ≡ inputNumber stage (varOf y) (varyingAt (contentOf x) provided) = rw t at hn in rw (e, t, ← k, eq-eqb number 0 n, h))
+      (λ f. rw (e, f, h))
 
 -- a step meets at most one local input
 chosen-locals : (b : Bool) (iv : InterfaceVar) (w : InputWalk) (x y : Answer) → pick b (walked (metLocal iv w) x) (walked w y) .walk .locals ≤ w .locals + 1

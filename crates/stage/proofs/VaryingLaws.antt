@@ -40,3 +40,6 @@ module _ (ws : List ℕ) (n at : ℕ) (i : Ahead ws n at) (h : n ≡ 0 → ⊥) 
 
   pub ahead-onward : (on : ℕ) → on ≡ at + varyingWidth (drop at ws) → Ahead ws (n - 1) on
   ahead-onward on x = rw x (ahead ws (n - 1) (at + varyingWidth (drop at ws)) (ends-left ws n at (i .ends) h (varyingWidth (drop at ws)) refl))
+
+pub varying-width : (ws : List ℕ) (at x : ℕ) → x ≡ wordAt ws at → varyingWidth (x ∷ []) ≡ varyingWidth (drop at ws)
+varying-width ws at x e = rw (here ws at, ← e)
