@@ -1,5 +1,5 @@
 -- The ways on through the steps behind the resources.
-use Prim.Native.Nat.{ℕ, _+_, _/_, _%_}
+use Prim.Native.Nat.{ℕ, _+_, _/_, _%_, _<_}
 use mathlib.Core.Path.{_≡_, refl, ap, _∙_}
 use mathlib.Core.Bool.{Bool, true, false}
 use mathlib.Core.List.{List}
@@ -20,6 +20,7 @@ use Rattle.interface.specs.Meaning.{EntryPoint, Interface}
 use Rattle.interface.specs.Format.{topologyAt, pairsOf}
 use Rattle.interface.specs.declared.types.SamplingPair.{SamplingPair}
 use Rattle.interface.specs.Reads.{standing, varyings}
+use Rattle.interface.specs.Parts.{Placed, varyingsEnd}
 use Rattle.interface.specs.declared.types.ShaderStage.{ShaderStage}
 use Rattle.interface.specs.declared.types.ShaderStage.the-variants as Stage
 use Rattle.interface.specs.declared.types.MeshRecord.{MeshRecord}
@@ -63,6 +64,10 @@ module _ (q : Request) (l : Limits) (e : EntryPoint) (inputs : StageIo) (w : Inp
 pub inputs-standing : (ws : List ℕ) (p : EntryParts) → standing ws p .inputs ≡ varyings (bits 11 6 (wordAt ws (p .counts))) (drop (p .inputs) ws)
 unfolding standing
 inputs-standing ws p = refl
+
+pub inputs-inside : (ws : List ℕ) (p : EntryParts) (k n : ℕ) → Placed ws p → k ≡ wordAt ws (p .counts) → n ≡ bits 11 6 k
+    → varyingsEnd ws n (p .inputs) < length ws
+inputs-inside ws p k n h ek en = rw (en, ek) (h .inputsEnd)
 
 module _ (q : Request) (l : Limits) (ws : List ℕ) (p : EntryParts) (k n : ℕ) (inputs : StageIo) (w : Walked)
     (ek : k ≡ wordAt ws (p .counts)) (en : n ≡ bits 11 6 k)

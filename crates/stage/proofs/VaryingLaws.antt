@@ -21,3 +21,6 @@ varyings-none ws k h = rw h
 
 pub varying-words : (ws : List ℕ) (at x y : ℕ) → x ≡ wordAt ws at → y ≡ wordAt ws (at + 1) → varying (x ∷ y ∷ []) ≡ varying (drop at ws)
 varying-words ws at x y e f = rw (here ws at, there ws at 1, ← e, ← f)
+
+pub varying-width : (ws : List ℕ) (at x : ℕ) → x ≡ wordAt ws at → varyingWidth (x ∷ []) ≡ varyingWidth (drop at ws)
+varying-width ws at x e = rw (here ws at, ← e)

@@ -3,9 +3,9 @@ ghost use mathlib.Core.Path.{_≡_};
 ghost use mathlib.Core.Bool.{true, _||_};
 ghost use mathlib.Core.List.{[], _∷_};
 ghost use Prim.Native.Nat.{_+_, _<_, _≤_, _^_};
-ghost use lib.ListN.{drop};
+ghost use lib.ListN.{length, drop};
 ghost use Rattle.word.specs.Choice.{pick};
-ghost use Rattle.word.specs.Words.{contentOf};
+ghost use Rattle.word.specs.Words.{wordAt, contentOf};
 ghost use Rattle.resource.specs.Rules.{sameBool};
 ghost use Rattle.varying.specs.Format.{locationFiled, varOf};
 ghost use Rattle.lists.specs.Meaning.{varyingAt};
@@ -13,11 +13,11 @@ ghost use Rattle.lists.specs.Format.{outFiled, decodeStage};
 ghost use Rattle.lists.specs.declared.types.Provided.the-variants.{Var};
 ghost use Rattle.interface.specs.Format.{builtInOf};
 ghost use Rattle.interface.specs.Reads.{varying, varyingWidth, varyings};
+ghost use Rattle.interface.specs.Parts.{varyingsEnd};
 ghost use Rattle.stage.specs.Interfaces.{vertexInput, fragmentInput, inputNumber, metLocal, metBuiltIn, startWalk, inputStep, inputSteps};
 use crate::types::InputWalk;
 use crate::types::Walked;
 use interface::reads::built_in_of;
-use interface::reads::varying_width;
 use interface::types::BuiltIn;
 use interface::types::ShaderStage;
 use lists::stage_io::find_location;
@@ -27,7 +27,6 @@ use varying::location_filed;
 use varying::var_of;
 use word::answer::Answer;
 use word::content;
-use word::word;
 
 // A vertex input by its word and the provided one's: the scalar kinds agree, and the shader's own is not per primitive.
 fn vertex_input(w: u32, provided: u32) -> u32
@@ -227,12 +226,23 @@ pub(crate) fn input_step(
     step.answer
 }
 
-// The position behind the input that stands at a position.
-fn past_input(pack: &[u32], at: usize) -> usize
-    requires { ⌜ at < 2 ^ 60 ⌝ }
-    ensures { λ r. ⌜ (r ≡ at + varyingWidth (drop at (now (pack .entry)))) × (r ≤ at + 2) ⌝ }
+// A word that stands in a pack.
+fn word_in(pack: &[u32], at: usize) -> u32
+    requires { ⌜ at < length (now pack) ⌝ }
+    ensures { λ r. ⌜ r ≡ wordAt (now (pack .entry)) at ⌝ }
 {
-    at + varying_width(pack, at)
+    pack[at]
+}
+
+// The position behind the input at a position, by its first word.
+fn past_input(first: u32, at: usize) -> usize
+    requires { ⌜ at < 2 ^ 60 ⌝ }
+    ensures { λ r. ⌜ r ≡ at + varyingWidth (first ∷ []) ⌝ }
+{
+    if location_filed(first) {
+        return at + 2;
+    }
+    at + 1
 }
 
 // Each input in order, until one is refused.
@@ -243,7 +253,7 @@ pub(crate) fn input_steps(
     inputs: &[u32],
     stage: ShaderStage,
 ) -> Walked
-    requires { ⌜ (from < 2 ^ 40) × (n ≤ 63) × (outFiled (now inputs) ≡ true) ⌝ }
+    requires { ⌜ (varyingsEnd (now pack) n from < length (now pack)) × (length (now pack) ≤ 4096) × (n ≤ 63) × (outFiled (now inputs) ≡ true) ⌝ }
     ensures { λ r. ⌜ r ≡ inputSteps stage (decodeStage (now (inputs .entry)) .varyings)
         (varyings n (drop from (now (pack .entry)))) startWalk ⌝ }
 {
@@ -256,13 +266,13 @@ pub(crate) fn input_steps(
     let mut at = from;
     let mut left = n;
     while left != 0 {
-        let first = word(pack, at);
-        let second = word(pack, at + 1);
+        let first = word_in(pack, at);
+        let second = word_in(pack, at + 1);
         let answer = input_step(stage, inputs, first, second, &mut walk);
         if answer.number != 0 {
             return Walked { walk, answer };
         }
-        at = past_input(pack, at);
+        at = past_input(first, at);
         left -= 1;
     }
     Walked {

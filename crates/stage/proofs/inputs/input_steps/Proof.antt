@@ -3,8 +3,8 @@
 --     State      what a turn begins with: how many inputs are left, where the next one stands, the record, bounds, the record's facts, and that what is left gives what the whole gives
 --     At         the loop's invariant, the whole context at a state        goes-on, leaves      a turn from it, where the test holds and where it fails
 -- Assumes nothing.
-use mathlib.Core.Path.{_≡_, refl, ap}
-use Prim.Native.Nat.{ℕ, _+_, _-_, _*_, _≤_, _<_, _^_}
+use mathlib.Core.Path.{_≡_, refl, ap, _∙_}
+use Prim.Native.Nat.{ℕ, _+_, _-_, _≤_, _<_, _^_}
 use native.Mathlib.Omega.{arith}
 use mathlib.Core.Bool.{Bool, true, false, not}
 use mathlib.Core.WellFounded.{WellFounded, InvImage·wf}
@@ -60,6 +60,8 @@ use Rattle.word.proofs.answer.Answer.Laws as R′
 use Rattle.varying.specs.declared.Located.{Located}
 use Rattle.lists.specs.Format.{outFiled, decodeStage}
 use Rattle.interface.specs.Reads.{varying, varyingWidth, varyings}
+use Rattle.interface.specs.Parts.{varyingsEnd}
+use Rattle.interface.proofs.ReadsParts.{varying-there, varyings-left}
 use Rattle.interface.specs.declared.types.ShaderStage.{ShaderStage}
 use Rattle.interface.proofs.types.ShaderStage as G
 use Rattle.interface.proofs.types.ShaderStage.Laws as G′
@@ -71,12 +73,12 @@ use Rattle.stage.specs.declared.types.Walked.{Walked}
 use Rattle.stage.proofs.types.Walked as S
 use Rattle.stage.proofs.types.Walked.Laws as S′
 use Rattle.stage.proofs.LendLaws.{stage-vals, val, mach, lies, taken}
-use Rattle.stage.proofs.VaryingLaws.{varying-words}
+use Rattle.stage.proofs.VaryingLaws.{varying-words, varying-width}
 use Rattle.stage.proofs.InputLaws.{inputs-refused, inputs-onward, inputs-ended, locals-left}
-use Rattle.word.proofs.word as reads
-use Rattle.word.proofs.word.Symbol as reads-def
-use Rattle.word.proofs.word.Symbol.{name as #reads}
-use Rattle.word.proofs.word.Met as reads-thm
+use Rattle.stage.proofs.inputs.word_in as reads
+use Rattle.stage.proofs.inputs.word_in.Symbol as reads-def
+use Rattle.stage.proofs.inputs.word_in.Symbol.{name as #reads}
+use Rattle.stage.proofs.inputs.word_in.Met as reads-thm
 use Rattle.stage.proofs.inputs.input_step as step
 use Rattle.stage.proofs.inputs.input_step.Symbol as step-def
 use Rattle.stage.proofs.inputs.input_step.Symbol.{name as #step}
@@ -122,7 +124,7 @@ abbrev ref : Ty
 ref = tyRef erased mut (pointee (T.the-row .written))
 
 abbrev more : Body
-more = seq (call #past (copy (place 1 []) ∷ copy (place 7 []) ∷ []) (place 7 [])) (assign (place 8 []) (op2 (minus unsigned) (copy (place 8 [])) (int w64 1)))
+more = seq (call #past (copy (place 9 []) ∷ copy (place 7 []) ∷ []) (place 7 [])) (assign (place 8 []) (op2 (minus unsigned) (copy (place 8 [])) (int w64 1)))
 
 abbrev made : InputWalk → Answer → Walked
 made w a = record { walk = w; answer = a }
@@ -150,7 +152,7 @@ module _ {M : Type 1} (𝓤 : URA M) (H : Heap 𝓤) (A : Atoms 𝓤) (at-mem : 
 
 module _ {M : Type 1} (𝓤 : URA M) (H : Heap 𝓤) (A : Atoms 𝓤) (W : Given 𝓤 H A) (at-mem : Memory → SProp 𝓤) (run : Routine → Fun 𝓤) (κ κ′ : Lft) (q q′ : Share) (bounds : AllOutlive 2 (f.signature .outlives) (κ, (κ′, tt)))
     (s : RefT (List ℕ)) (start n : ℕ) (s′ : RefT (List ℕ)) (g : ShaderStage) (is-s : Is (ShrSlice (named 0) κ u32) s (slice-vals s)) (fits-start : start < 2 ^ 64) (fits-n : n < 2 ^ 64)
-    (is-s′ : Is (ShrSlice (named 1) κ′ u32) s′ (slice-vals s′)) (is-g : Is G.the-row g (stage-vals g)) (ok : (start < 2 ^ 40) × (n ≤ 63) × (outFiled (now s′) ≡ true)) where
+    (is-s′ : Is (ShrSlice (named 1) κ′ u32) s′ (slice-vals s′)) (is-g : Is G.the-row g (stage-vals g)) (ok : (varyingsEnd (now s) n start < length (now s)) × (length (now s) ≤ 4096) × (n ≤ 63) × (outFiled (now s′) ≡ true)) where
   -- the arguments, and their machine values
   abbrev x : RefT (List ℕ) × (ℕ × (ℕ × (RefT (List ℕ) × (ShaderStage × Unit {0}))))
   x = (s, (start, (n, (s′, (g, tt)))))
@@ -182,37 +184,34 @@ module _ {M : Type 1} (𝓤 : URA M) (H : Heap 𝓤) (A : Atoms 𝓤) (W : Given
       nothing ! $ owned ! G.the-row (Is G.the-row) (EL.makes G.the-type G′.the-plain 𝓤 H A) g _ is-g $ fjoin ! $ move ! (2 ∷ 0 ∷ []) $ fjoin ! $ owned ! usize (Is usize) (uint-makes 𝓤 H A W w64) n _ (refl, fits-n) $ fjoin ! $ owned ! usize (Is usize) (uint-makes 𝓤 H A W w64) start _ (refl, fits-start) $ fjoin ! $ move ! (1 ∷ 0 ∷ []) $ fjoin ! $
       owned ! S.the-row (Is S.the-row) (LL.makes S.the-type S′.the-plain 𝓤 H A) r _ is $ move ! (1 ∷ 0 ∷ []) $ done !
 
-  -- ---- the call of `word`, at the position i
+  -- ---- the call of `word_in`, at the position i
   module _ (i : ℕ) where
     abbrev to-reads : Reads 𝓤 H A at-mem run .Ghost
     to-reads = (((κ, tt), (q, tt), tt, (s, (i, tt)), (slice-vals s, (vint w64 i ∷ [], tt))), tt)
 
-    asked-reads : i < 2 ^ 64 → ent 𝓤 (⋆ 𝓤 H A ((‵ (flft κ q) ⊛ ‵ ftrue) ∷ ‵ Own ∷ [])) (Reads 𝓤 H A at-mem run .pre to-reads)
-    asked-reads low =
-        qed W ((‵ (flft κ q) ⊛ ‵ ftrue) ∷ ‵ Own ∷ []) ∵ nothing ! $ owned ! usize (Is usize) (uint-makes 𝓤 H A W w64) i _ (refl, low) $ fjoin ! $ move ! (2 ∷ 0 ∷ []) $ fjoin ! $ move ! (1 ∷ 0 ∷ []) $ join ! $ frame ! $ done !
+    module _ (inside : i < length (now s)) where
+      asked-reads : ent 𝓤 (⋆ 𝓤 H A ((‵ (flft κ q) ⊛ ‵ ftrue) ∷ ‵ Own ∷ [])) (Reads 𝓤 H A at-mem run .pre to-reads)
+      asked-reads =
+          qed W ((‵ (flft κ q) ⊛ ‵ ftrue) ∷ ‵ Own ∷ []) ∵ says ! inside $ frame ! $ nothing ! $ owned ! usize (Is usize) (uint-makes 𝓤 H A W w64) i _ (refl, (omega (arith, inside, ok .1))) $ fjoin ! $ move ! (1 ∷ 0 ∷ []) $ fjoin ! $ done !
 
-    goes-reads : i < 2 ^ 64 → ent 𝓤 (⋆ 𝓤 H A (‵ (flft κ q) ∷ ‵ Own ∷ [])) (sep 𝓤 (Reads 𝓤 H A at-mem run .pre to-reads) (sem 𝓤 H A Own))
-    goes-reads low =
-        qed W (‵ (flft κ q) ∷ ‵ Own ∷ []) ∵ move ! (1 ∷ []) $ use1 W (‵ Own ⊛ ‵ Own) (shr-slice-copy 𝓤 H A W (named 0) κ u32 .twice s (slice-vals s)) $ split ! $ nothing ! $ move ! (3 ∷ 0 ∷ []) $ join ! $ use2 W (raw (Reads 𝓤 H A at-mem run .pre to-reads)) (asked-reads low) $ frame ! $ done !
+      goes-reads : ent 𝓤 (⋆ 𝓤 H A (‵ (flft κ q) ∷ ‵ Own ∷ [])) (sep 𝓤 (Reads 𝓤 H A at-mem run .pre to-reads) (sem 𝓤 H A Own))
+      goes-reads =
+          qed W (‵ (flft κ q) ∷ ‵ Own ∷ []) ∵ move ! (1 ∷ []) $ use1 W (‵ Own ⊛ ‵ Own) (shr-slice-copy 𝓤 H A W (named 0) κ u32 .twice s (slice-vals s)) $ split ! $ nothing ! $ move ! (3 ∷ 0 ∷ []) $ join ! $ use2 W (raw (Reads 𝓤 H A at-mem run .pre to-reads)) asked-reads $ frame ! $ done !
 
     said-reads : (r : ℕ) → ent 𝓤 (ensured 𝓤 H A reads.ended (reads.clauses 𝓤 H A at-mem run) (κ, tt) (s, (i, tt)) tt r) (fact 𝓤 (r ≡ wordAt (now s) i))
     said-reads r = exE 𝓤 _ (λ ws. snd∗ 𝓤 (sem 𝓤 H A (lasts reads.ended (κ, tt) (s, (i, tt)) ws)) (fact 𝓤 (r ≡ wordAt (now s) i)))
 
-  -- ---- the call of `past_input`, at the position i
-  module _ (i : ℕ) where
+  -- ---- the call of `past_input` on the first word y, at the position i
+  module _ (y i : ℕ) where
     abbrev to-past : Past 𝓤 H A at-mem run .Ghost
-    to-past = (((κ, tt), (q, tt), tt, (s, (i, tt)), (slice-vals s, (vint w64 i ∷ [], tt))), tt)
+    to-past = ((tt, tt, tt, (y, (i, tt)), (vint w32 y ∷ [], (vint w64 i ∷ [], tt))), tt)
 
-    asked-past : i < 2 ^ 60 → ent 𝓤 (⋆ 𝓤 H A ((‵ (flft κ q) ⊛ ‵ ftrue) ∷ ‵ Own ∷ [])) (Past 𝓤 H A at-mem run .pre to-past)
-    asked-past low =
-        qed W ((‵ (flft κ q) ⊛ ‵ ftrue) ∷ ‵ Own ∷ []) ∵ says ! low $ frame ! $ nothing ! $ owned ! usize (Is usize) (uint-makes 𝓤 H A W w64) i _ (refl, (omega (arith, low))) $ fjoin ! $ move ! (1 ∷ 0 ∷ []) $ fjoin ! $ done !
+    goes-past : y < 2 ^ 32 → i < 2 ^ 60 → ent 𝓤 (emp 𝓤) (Past 𝓤 H A at-mem run .pre to-past)
+    goes-past fits low =
+        qed W [] ∵ says ! low $ nothing ! $ frame ! $ nothing ! $ owned ! usize (Is usize) (uint-makes 𝓤 H A W w64) i _ (refl, (omega (arith, low))) $ fjoin ! $ owned ! u32 (Is u32) (uint-makes 𝓤 H A W w32) y _ (refl, fits) $ fjoin ! $ done !
 
-    goes-past : i < 2 ^ 60 → ent 𝓤 (⋆ 𝓤 H A (‵ (flft κ q) ∷ ‵ Own ∷ [])) (sep 𝓤 (Past 𝓤 H A at-mem run .pre to-past) (sem 𝓤 H A Own))
-    goes-past low =
-        qed W (‵ (flft κ q) ∷ ‵ Own ∷ []) ∵ move ! (1 ∷ []) $ use1 W (‵ Own ⊛ ‵ Own) (shr-slice-copy 𝓤 H A W (named 0) κ u32 .twice s (slice-vals s)) $ split ! $ nothing ! $ move ! (3 ∷ 0 ∷ []) $ join ! $ use2 W (raw (Past 𝓤 H A at-mem run .pre to-past)) (asked-past low) $ frame ! $ done !
-
-    said-past : (r : ℕ) → ent 𝓤 (ensured 𝓤 H A past.ended (past.clauses 𝓤 H A at-mem run) (κ, tt) (s, (i, tt)) tt r) (fact 𝓤 ((r ≡ i + varyingWidth (drop-list i (now s))) × (r ≤ i + 2)))
-    said-past r = exE 𝓤 _ (λ ws. snd∗ 𝓤 (sem 𝓤 H A (lasts past.ended (κ, tt) (s, (i, tt)) ws)) (fact 𝓤 ((r ≡ i + varyingWidth (drop-list i (now s))) × (r ≤ i + 2))))
+    said-past : (r : ℕ) → ent 𝓤 (ensured 𝓤 H A past.ended (past.clauses 𝓤 H A at-mem run) tt (y, (i, tt)) tt r) (fact 𝓤 (r ≡ i + varyingWidth (y ∷ [])))
+    said-past r = exE 𝓤 _ (λ ws. snd∗ 𝓤 (sem 𝓤 H A (lasts past.ended tt (y, (i, tt)) ws)) (fact 𝓤 (r ≡ i + varyingWidth (y ∷ []))))
 
   -- ---- the call of `accepted`
   abbrev to-good : Good 𝓤 H A at-mem run .Ghost
@@ -238,7 +237,7 @@ module _ {M : Type 1} (𝓤 : URA M) (H : Heap 𝓤) (A : Atoms 𝓤) (W : Given
     module _ (fits-y : y < 2 ^ 32) (fits-z : z < 2 ^ 32) (few : h .locals < 2 ^ 31) where
       asked-step : (α : ℕ) (δ : GName) → ent 𝓤 (⋆ 𝓤 H A ((‵ (flft κ′ q′) ⊛ ‵ (flft (α ∷ []) fullShare) ⊛ ‵ ftrue) ∷ ‵ (Lent α δ) ∷ ‵ Own′ ∷ [])) (Step 𝓤 H A at-mem run .pre (to-step α δ))
       asked-step α δ =
-          qed W ((‵ (flft κ′ q′) ⊛ ‵ (flft (α ∷ []) fullShare) ⊛ ‵ ftrue) ∷ ‵ (Lent α δ) ∷ ‵ Own′ ∷ []) ∵ says ! (few, ok .2) $ frame ! $ nothing ! $ move ! (1 ∷ 0 ∷ []) $ fjoin ! $
+          qed W ((‵ (flft κ′ q′) ⊛ ‵ (flft (α ∷ []) fullShare) ⊛ ‵ ftrue) ∷ ‵ (Lent α δ) ∷ ‵ Own′ ∷ []) ∵ says ! (few, ok .3) $ frame ! $ nothing ! $ move ! (1 ∷ 0 ∷ []) $ fjoin ! $
           owned ! u32 (Is u32) (uint-makes 𝓤 H A W w32) z _ (refl, fits-z) $ fjoin ! $ owned ! u32 (Is u32) (uint-makes 𝓤 H A W w32) y _ (refl, fits-y) $ fjoin ! $ move ! (1 ∷ 0 ∷ []) $ fjoin ! $ owned ! G.the-row (Is G.the-row) (EL.makes G.the-type G′.the-plain 𝓤 H A) g _ is-g $ fjoin ! $ done !
 
       goes-step : (α : ℕ) (δ : GName) → ent 𝓤 (⋆ 𝓤 H A (‵ (flft κ′ q′) ∷ ‵ Own′ ∷ (‵ (flft (α ∷ []) fullShare) ⊛ ‵ (Lent α δ)) ∷ [])) (sep 𝓤 (Step 𝓤 H A at-mem run .pre (to-step α δ)) (sem 𝓤 H A Own′))
@@ -252,13 +251,13 @@ module _ {M : Type 1} (𝓤 : URA M) (H : Heap 𝓤) (A : Atoms 𝓤) (W : Given
   -- ---- the loop
   -- what a turn begins with
   abbrev Inv : ℕ → ℕ → InputWalk → Type 0
-  Inv k i w = (i + 2 * k < 2 ^ 41) × ((w .locals + k ≤ 63) × (Is T.the-row w (mach w) × (goal ≡ inputSteps g provided (varyings k (drop-list i (now s))) w)))
+  Inv k i w = (varyingsEnd (now s) k i < length (now s)) × ((w .locals + k ≤ 63) × (Is T.the-row w (mach w) × (goal ≡ inputSteps g provided (varyings k (drop-list i (now s))) w)))
 
   abbrev State : Type 0
   State = (k : ℕ) × ((i : ℕ) × ((w : InputWalk) × Inv k i w))
 
   begins : Inv n start startWalk
-  begins = (omega (arith, ok .0, ok .1), (omega (arith, ok .1), (start-is, refl)))
+  begins = (ok .0, (omega (arith, ok .2), (start-is, refl)))
 
   abbrev Nearer : State → State → Type 0
   Nearer a b = a .0 < b .0
@@ -308,14 +307,14 @@ module _ {M : Type 1} (𝓤 : URA M) (H : Heap 𝓤) (A : Atoms 𝓤) (W : Given
         rewrite ! 10 (λ (t : Bool). ‵ (fat fullShare tyBool l₁₂ 0 (vbool t))) (ap not (ne-eqb k 0 more-left)) refl $ stays ! (load ! (from ! (stop !)) (look ! 10 refl)) $
         -- [the locals; what the pack owns; what the inputs own; the pack's token; the inputs' token]
         -- the next input's two words are read
-        move ! (38 ∷ 36 ∷ []) $ use2 W (raw (Reads 𝓤 H A at-mem run .pre (to-reads i)) ⊛ ‵ Own) (goes-reads i (omega (arith, low))) $ split ! $
+        move ! (38 ∷ 36 ∷ []) $ use2 W (raw (Reads 𝓤 H A at-mem run .pre (to-reads i)) ⊛ ‵ Own) (goes-reads i (omega (arith, inside))) $ split ! $
         calls-at ! (fmOf 𝓤 H (W .laws) 𝓣) (Reads 𝓤 H A at-mem run) known-reads (to-reads i) (and-then ! (load ! (from ! (stop !)) (look ! 34 refl)) (and-then ! (load ! (from ! (stop !)) (look ! 22 refl)) (no-more !))) (λ m₁.
         use1 W (later (some (λ (r : ℕ). ((‵ (flft κ q) ⊛ ‵ ftrue) ⊛ ‵ (u32 .own r (m₁ ∷ []))) ⊛ raw (ensured 𝓤 H A reads.ended (reads.clauses 𝓤 H A at-mem run) (κ, tt) (s, (i, tt)) tt r)))) (id⊢ 𝓤 _) $ await ! tt $ pick ! (λ y.
         split ! $ move ! (1 ∷ []) $ use1 W (raw (fact 𝓤 (y ≡ wordAt (now s) i))) (said-reads i y) $ heard ! (y ≡ wordAt (now s) i) (λ ey. split ! $ move ! (1 ∷ []) $ peeks ! u32 (Is u32) (shows 𝓤 H A u32) y (m₁ ∷ []) (λ is-y. drop ! $ split ! $ move ! (1 ∷ []) $ drop ! $
         -- [the pack's token; what the pack owns; the locals; what the inputs own; the inputs' token]
         land ! (from ! (stop !)) (init ! 18 refl (uint-lawful 𝓤 H A W w32 .typed y _ is-y .0)) $ rewrite ! 18 (λ (w : Val). ‵ (fat fullShare (tyInt w32) l₉ 0 w)) (ap only (is-y .0)) refl $
         assigns ! (bin ! (load ! (from ! (stop !)) (look ! 22 refl)) (lit ! tt) (record { fits = omega (arith, low) })) (from ! (stop !)) (init ! 10 refl (tt, record { fits = omega (arith, low) })) $
-        move ! (0 ∷ 1 ∷ []) $ use2 W (raw (Reads 𝓤 H A at-mem run .pre (to-reads (i + 1))) ⊛ ‵ Own) (goes-reads (i + 1) (omega (arith, low))) $ split ! $
+        move ! (0 ∷ 1 ∷ []) $ use2 W (raw (Reads 𝓤 H A at-mem run .pre (to-reads (i + 1))) ⊛ ‵ Own) (goes-reads (i + 1) inside) $ split ! $
         calls-at ! (fmOf 𝓤 H (W .laws) 𝓣) (Reads 𝓤 H A at-mem run) known-reads (to-reads (i + 1)) (and-then ! (load ! (from ! (stop !)) (look ! 34 refl)) (and-then ! (load ! (from ! (stop !)) (look ! 10 refl)) (no-more !))) (λ m₂.
         use1 W (later (some (λ (r : ℕ). ((‵ (flft κ q) ⊛ ‵ ftrue) ⊛ ‵ (u32 .own r (m₂ ∷ []))) ⊛ raw (ensured 𝓤 H A reads.ended (reads.clauses 𝓤 H A at-mem run) (κ, tt) (s, ((i + 1), tt)) tt r)))) (id⊢ 𝓤 _) $ await ! tt $ pick ! (λ z.
         split ! $ move ! (1 ∷ []) $ use1 W (raw (fact 𝓤 (z ≡ wordAt (now s) (i + 1)))) (said-reads (i + 1) z) $ heard ! (z ≡ wordAt (now s) (i + 1)) (λ ez. split ! $ move ! (1 ∷ []) $ peeks ! u32 (Is u32) (shows 𝓤 H A u32) z (m₂ ∷ []) (λ is-z. drop ! $ split ! $ move ! (1 ∷ []) $ drop ! $
@@ -347,14 +346,14 @@ module _ {M : Type 1} (𝓤 : URA M) (H : Heap 𝓤) (A : Atoms 𝓤) (W : Given
         keep ! (2 ∷ 0 ∷ 3 ∷ 1 ∷ []) $ by ! (exits (made (ws .1 .1 .1 .1 .0) r) _ (made-is (ws .1 .1 .1 .1 .0) r (m′ ∷ []) is-back is-r) (inputs-refused g provided (now s) k i h goal inv (varying (y ∷ z ∷ [])) (made (ws .1 .1 .1 .1 .0) r) more-left (varying-words (now s) i y z ey ez) (λ a. made (e .1 a) (e .0 a)) (eqb-false (r .number) 0 (holds-false (eqb (r .number) 0) yes′)))))
         -- the answer is acceptance: the next turn
         (λ no′. skips ! $ exec ! C Λ En more (anyQ (Turned st)) $
-        move ! (3 ∷ 4 ∷ []) $ use2 W (raw (Past 𝓤 H A at-mem run .pre (to-past i)) ⊛ ‵ Own) (goes-past i low) $ split ! $
-        calls-at ! (fmOf 𝓤 H (W .laws) 𝓣) (Past 𝓤 H A at-mem run) known-past (to-past i) (and-then ! (load ! (from ! (stop !)) (look ! 36 refl)) (and-then ! (load ! (from ! (stop !)) (look ! 25 refl)) (no-more !))) (λ m″.
-        use1 W (later (some (λ (r : ℕ). ((‵ (flft κ q) ⊛ ‵ ftrue) ⊛ ‵ (usize .own r (m″ ∷ []))) ⊛ raw (ensured 𝓤 H A past.ended (past.clauses 𝓤 H A at-mem run) (κ, tt) (s, (i, tt)) tt r)))) (id⊢ 𝓤 _) $ await ! tt $ pick ! (λ j.
-        split ! $ move ! (1 ∷ []) $ use1 W (raw (fact 𝓤 ((j ≡ i + varyingWidth (drop-list i (now s))) × (j ≤ i + 2)))) (said-past i j) $ heard ! ((j ≡ i + varyingWidth (drop-list i (now s))) × (j ≤ i + 2)) (λ ej. split ! $ move ! (1 ∷ []) $ peeks ! usize (Is usize) (shows 𝓤 H A usize) j (m″ ∷ []) (λ is-j. drop ! $ split ! $ move ! (1 ∷ []) $ drop ! $
-        -- [the pack's token; what the pack owns; _6; the inputs' token; what the inputs own; the locals without _6]
+        use0 W (raw (Past 𝓤 H A at-mem run .pre (to-past y i))) (goes-past y i (is-y .1) low) $
+        calls-at ! (fmOf 𝓤 H (W .laws) 𝓣) (Past 𝓤 H A at-mem run) known-past (to-past y i) (and-then ! (load ! (from ! (stop !)) (look ! 22 refl)) (and-then ! (load ! (from ! (stop !)) (look ! 26 refl)) (no-more !))) (λ m″.
+        use1 W (later (some (λ (r : ℕ). (‵ ftrue ⊛ ‵ (usize .own r (m″ ∷ []))) ⊛ raw (ensured 𝓤 H A past.ended (past.clauses 𝓤 H A at-mem run) tt (y, (i, tt)) tt r)))) (id⊢ 𝓤 _) $ await ! tt $ pick ! (λ j.
+        split ! $ move ! (1 ∷ []) $ use1 W (raw (fact 𝓤 (j ≡ i + varyingWidth (y ∷ [])))) (said-past y i j) $ heard ! (j ≡ i + varyingWidth (y ∷ [])) (λ ej. split ! $ drop ! $ peeks ! usize (Is usize) (shows 𝓤 H A usize) j (m″ ∷ []) (λ is-j. drop ! $
+        -- [_6; the inputs' token; what the inputs own; the pack's token; what the pack owns; the locals without _6]
         land ! (from ! (stop !)) (store ! 25 refl (uint-lawful 𝓤 H A W w64 .typed j _ is-j .0)) $ rewrite ! 25 (λ (w : Val). ‵ (fat fullShare word l₇ 0 w)) (ap only (is-j .0)) refl $
         assigns-last ! (bin ! (load ! (from ! (stop !)) (look ! 23 refl)) (lit ! tt) (omega (arith, more-left))) (from ! (stop !)) (store ! 23 refl (tt, record { fits = omega (arith, few-left) })) $ forget ! 11 refl $ forget ! 13 refl $ forget ! 15 refl $ forget ! 17 refl $ forget ! 19 refl $ forget ! 21 refl $
-        keep ! (5 ∷ 6 ∷ 7 ∷ 8 ∷ 9 ∷ 10 ∷ 11 ∷ 12 ∷ 13 ∷ 14 ∷ 15 ∷ 16 ∷ 17 ∷ 18 ∷ 19 ∷ 20 ∷ 21 ∷ 22 ∷ 23 ∷ 24 ∷ 25 ∷ 26 ∷ 2 ∷ 27 ∷ 28 ∷ 29 ∷ 30 ∷ 31 ∷ 32 ∷ 33 ∷ 34 ∷ 35 ∷ 36 ∷ 37 ∷ 38 ∷ 39 ∷ 1 ∷ 4 ∷ 0 ∷ 3 ∷ []) $
+        keep ! (5 ∷ 6 ∷ 7 ∷ 8 ∷ 9 ∷ 10 ∷ 11 ∷ 12 ∷ 13 ∷ 14 ∷ 15 ∷ 16 ∷ 17 ∷ 18 ∷ 19 ∷ 20 ∷ 21 ∷ 22 ∷ 23 ∷ 24 ∷ 25 ∷ 26 ∷ 0 ∷ 27 ∷ 28 ∷ 29 ∷ 30 ∷ 31 ∷ 32 ∷ 33 ∷ 34 ∷ 35 ∷ 36 ∷ 37 ∷ 38 ∷ 39 ∷ 4 ∷ 2 ∷ 3 ∷ 1 ∷ []) $
         again ! Nearer At st (k - 1, (j, ((ws .1 .1 .1 .1 .0), onward y z r (ws .1 .1 .1 .1 .0) j ey ez e (eqb-true (r .number) 0 (holds-true (eqb (r .number) 0) no′)) ej is-back))) (omega (arith, more-left)))))))))))))))))))))))
       where
         k : ℕ
@@ -366,8 +365,8 @@ module _ {M : Type 1} (𝓤 : URA M) (H : Heap 𝓤) (A : Atoms 𝓤) (W : Given
         h : InputWalk
         h = st .1 .1 .0
 
-        near : i + 2 * k < 2 ^ 41
-        near = st .1 .1 .1 .0
+        ends : varyingsEnd (now s) k i < length (now s)
+        ends = st .1 .1 .1 .0
 
         few-left : h .locals + k ≤ 63
         few-left = st .1 .1 .1 .1 .0
@@ -378,17 +377,21 @@ module _ {M : Type 1} (𝓤 : URA M) (H : Heap 𝓤) (A : Atoms 𝓤) (W : Given
         inv : goal ≡ inputSteps g provided (varyings k (drop-list i (now s))) h
         inv = st .1 .1 .1 .1 .1 .1
 
+        inside : i + 1 < length (now s)
+        inside = varying-there (now s) k i ends more-left
+
         low : i < 2 ^ 60
-        low = omega (arith, near)
+        low = omega (arith, inside, ok .1)
 
         few : h .locals < 2 ^ 31
         few = omega (arith, few-left)
 
         -- what the next turn begins with
-        onward : (y z : ℕ) (r : Answer) (w : InputWalk) (j : ℕ) → y ≡ wordAt (now s) i → z ≡ wordAt (now s) (i + 1) → Ensured l₆ h y z r w → r .number ≡ 0 → (j ≡ i + varyingWidth (drop-list i (now s))) × (j ≤ i + 2) → Is T.the-row w (mach w) → Inv (k - 1) j w
+        onward : (y z : ℕ) (r : Answer) (w : InputWalk) (j : ℕ) → y ≡ wordAt (now s) i → z ≡ wordAt (now s) (i + 1) → Ensured l₆ h y z r w → r .number ≡ 0 → j ≡ i + varyingWidth (y ∷ []) → Is T.the-row w (mach w) → Inv (k - 1) j w
         onward y z r w j ey ez e none ej is-w =
             let step : made w r ≡ inputStep g provided (varying (y ∷ z ∷ [])) h = λ a. made (e .1 a) (e .0 a) in
-            (omega (arith, more-left, near, ej .1), (locals-left g provided (varying (y ∷ z ∷ [])) h (made w r) k step more-left few-left, (is-w, inputs-onward g provided (now s) k i h goal inv (varying (y ∷ z ∷ [])) (made w r) more-left (varying-words (now s) i y z ey ez) step j none (ej .0))))
+            let wide : varyingWidth (y ∷ []) ≡ varyingWidth (drop-list i (now s)) = varying-width (now s) i y ey in
+            (rw ej (varyings-left (now s) k i ends more-left (varyingWidth (y ∷ [])) wide), (locals-left g provided (varying (y ∷ z ∷ [])) h (made w r) k step more-left few-left, (is-w, inputs-onward g provided (now s) k i h goal inv (varying (y ∷ z ∷ [])) (made w r) more-left (varying-words (now s) i y z ey ez) step j none (ej ∙ ap (λ (v : ℕ). i + v) wide))))
 
     turns : (st : State) → Sq W (At st) (runs C Λ En pieces.turn-1 (anyQ (Turned st)))
     turns st = by-bool (eqb (st .0) 0) (λ t. leaves st (eqb-true (st .0) 0 t)) (λ t. goes-on st (eqb-false (st .0) 0 t))
@@ -433,7 +436,7 @@ input-steps-spec 𝓤 H 𝓜 𝓖 𝓡 =
     entered 𝓤 H (tripleOf 𝓤 H (𝓖 .A) f.signature (f.spec 𝓤 H (𝓖 .A) (𝓜 .mem) (𝓡 .run)))
     (tables 𝓤 H 𝓜 𝓡 code.env .C) (tables 𝓤 H 𝓜 𝓡 code.env .Λ) #f code.function (code.unfolded 𝓤 H 𝓜 𝓡)
     (f-meets 𝓤 H (𝓖 .A) (givenOf 𝓤 H 𝓜 𝓖) (𝓜 .mem) (𝓡 .run) (tablesOf 𝓤 H 𝓜 (tables 𝓤 H 𝓜 𝓡 code.env))
-    (cited 𝓤 H (Reads 𝓤 H (𝓖 .A) (𝓜 .mem) (𝓡 .run)) 𝓜 𝓡 code.env #reads reads-def.routine code.calls-word·word (reads-thm.met 𝓤 H 𝓜 𝓖 𝓡))
+    (cited 𝓤 H (Reads 𝓤 H (𝓖 .A) (𝓜 .mem) (𝓡 .run)) 𝓜 𝓡 code.env #reads reads-def.routine code.calls-stage·inputs·word-in (reads-thm.met 𝓤 H 𝓜 𝓖 𝓡))
     (cited 𝓤 H (Step 𝓤 H (𝓖 .A) (𝓜 .mem) (𝓡 .run)) 𝓜 𝓡 code.env #step step-def.routine code.calls-stage·inputs·input-step (step-thm.met 𝓤 H 𝓜 𝓖 𝓡))
     (cited 𝓤 H (Past 𝓤 H (𝓖 .A) (𝓜 .mem) (𝓡 .run)) 𝓜 𝓡 code.env #past past-def.routine code.calls-stage·inputs·past-input (past-thm.met 𝓤 H 𝓜 𝓖 𝓡))
     (cited 𝓤 H (Good 𝓤 H (𝓖 .A) (𝓜 .mem) (𝓡 .run)) 𝓜 𝓡 code.env #good good-def.routine code.calls-word·answer·Answer·accepted (good-thm.met 𝓤 H 𝓜 𝓖 𝓡)))

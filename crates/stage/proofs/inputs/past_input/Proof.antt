@@ -1,0 +1,14 @@
+use Rattle.stage.proofs.InputLaws.{behind-local, behind-built-in}
+use borrow.Author.Needs.{needs}
+use Rattle.stage.proofs.inputs.past_input.Statement.{statement}
+use Rattle.stage.proofs.inputs.past_input.Tie as tie
+
+pub past-input-spec : {M : Type 1} → statement M
+past-input-spec =
+    tie.close
+    (tie.spec
+    (λ c κs. search needs)  -- location-filed-requires
+    (λ c. search needs)  -- add
+    (λ c. search behind-local)  -- returns
+    (λ c. search needs)  -- add-2
+    (λ c. search behind-built-in))  -- returns-2
