@@ -31,14 +31,6 @@ var-zero : varFiled 0 ≡ false
 unfolding varFiled
 var-zero = refl
 
--- a vector of four 32-bit floats, as the first good one
-pub var-vector : varFiled 1744830755 ≡ true
-unfolding varFiled typeFiled
-var-vector = refl
-
-pub var-same : (w good : ℕ) → varFiled good ≡ true → w ≡ good → true ≡ varFiled w
-var-same w good h e = sym (rw e h)
-
 -- by the first word: a location, a built-in, neither
 module _ (codes : ℕ) where
   is-local : (l : List ℕ) → locationFiled (getD l 0 0) ≡ true → readVarying codes l ≡ next (one varFiled (drop 1 l)) λ var rest. got (local (getD l 0 0) var) rest

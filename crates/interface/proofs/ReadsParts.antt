@@ -2,7 +2,7 @@
 use Prim.Native.Nat.{ℕ, zero, suc, _+_, _-_, _/_, _%_, _^_, _<_, _≤_}
 use native.Mathlib.Omega.{arith}
 use mathlib.Core.Path.{_≡_, refl, sym, _∙_}
-use mathlib.Core.List.{List}
+use mathlib.Core.List.{List, [], _∷_}
 use borrow.Author.Tests.{eq-eqb, ne-eqb, ltb-true, ltb-false}
 use lib.Dec.{eqb, ltb}
 use lib.ListN.{length, drop, List·getD-eq-default}
@@ -15,6 +15,7 @@ use Rattle.interface.specs.Parts.{recordsFrom, endFrom, varyingEnd, vary
 use Rattle.interface.specs.declared.types.EntryParts.{EntryParts}
 use Rattle.interface.proofs.ReadsRecords.{end-left, end-none, records-length}
 use Rattle.interface.proofs.ReadsPack.{accepted}
+use Rattle.interface.proofs.ReadsWays.{width-there}
 
 -- ---- the position behind as many records
 
@@ -26,10 +27,6 @@ end-begins after n left at start e f = rw (e, f)
 
 pub end-ended : (after : ℕ → ℕ) (n at goal : ℕ) → goal ≡ endFrom after n at → n ≡ 0 → at ≡ goal
 end-ended after n at goal inv h = sym (inv ∙ end-none after n at h)
-
-pub varyings-onward : (ws : List ℕ) (n at w goal : ℕ) → goal ≡ varyingsEnd ws n at → (n ≡ 0 → ⊥) → w ≡ varyingWidth (drop at ws)
-    → goal ≡ varyingsEnd ws (n - 1) (at + w)
-varyings-onward ws n at w goal inv h e = rw e (inv ∙ end-left (varyingEnd ws) n at h)
 
 module _ (ws : List ℕ) (at w : ℕ) (hw : w ≡ wordAt ws (at + 1)) where
   pub resource-buffer : w / 8388608 % 16 ≡ 0 → at + 3 ≡ resourceEnd ws at
@@ -101,6 +98,24 @@ module _ (ws : List ℕ) (n at : ℕ) (i : varyingsEnd ws n at < length ws) (h :
   varying-there =
       omega (arith, varyings-left (varyingWidth (drop at ws)) refl, varyings-past ws (n - 1) (varyingEnd ws at), width-some (drop at ws))
 
+pub varyings-start : (ws : List ℕ) (n at : ℕ) → varyingsEnd ws n at < length ws → at < length ws
+varyings-start ws n at i = omega (arith, varyings-past ws n at)
+
+-- a step of a walk over varyings that end before the pack does
+module _ (ws : List ℕ) (n at w width : ℕ) (h : n ≡ 0 → ⊥) (e : w ≡ wordAt ws at) (x : width ≡ varyingWidth (w ∷ [])) where
+  here : width ≡ varyingWidth (drop at ws)
+  here = x ∙ width-there ws at w e
+
+  module _ (i : varyingsEnd ws n at < length ws) where
+    pub varyings-inside : varyingsEnd ws (n - 1) (at + width) < length ws
+    varyings-inside = varyings-left ws n at i h width here
+
+    pub next-inside : at + width < length ws
+    next-inside = varyings-start ws (n - 1) (at + width) varyings-inside
+
+  pub varyings-onward : (goal : ℕ) → goal ≡ varyingsEnd ws n at → goal ≡ varyingsEnd ws (n - 1) (at + width)
+  varyings-onward goal inv = rw here (inv ∙ end-left (varyingEnd ws) n at h)
+
 -- an entry point's parts rise from its first word to its end
 module _ (ws : List ℕ) (head : ℕ) where
   pub outputs-past : partsAt ws head .outputs ≤ entryEnd ws head
@@ -130,6 +145,35 @@ module _ (ws : List ℕ) (head : ℕ) where
 
   pub head-past : head ≤ entryEnd ws head
   head-past = omega (arith, head-outputs, outputs-past)
+
+-- the positions of an entry point that ends before the pack does, as they are read
+module _ (ws : List ℕ) (head : ℕ) (i : entryEnd ws head < length ws) where
+  module _ (first names mesh : ℕ) (hf : first ≡ wordAt ws head) (hn : names ≡ nameWords (bits 22 16 first)) (hm : mesh ≡ pick (eqb (bit 1 first) 1) 3 0) where
+    counts-are : head + 1 + names + 4 + mesh ≡ countsAt ws head
+    counts-are = rw (hm, hn, hf)
+
+    pub counts-there : head + 1 + names + 4 + mesh < length ws
+    unfolding partsAt
+    counts-there =
+        omega (arith, counts-are, outputs-past ws head, varyings-past ws (bits 11 6 (wordAt ws (countsAt ws head))) (inputsAt ws (countsAt ws head)))
+
+    module _ (numbers resources pairs inputs : ℕ) (hw : numbers ≡ wordAt ws (head + 1 + names + 4 + mesh)) (hr : resources ≡ bits 23 18 numbers)
+        (hp : pairs ≡ bits 17 12 numbers) (hi : inputs ≡ bits 11 6 numbers) where
+      pub inputs-there : varyingsEnd ws inputs (head + 1 + names + 4 + mesh + 1 + resources + pairs) < length ws
+      unfolding partsAt
+      inputs-there =
+          let e : varyingsEnd ws inputs (head + 1 + names + 4 + mesh + 1 + resources + pairs) ≡ partsAt ws head .outputs = rw (hi, hp, hr, hw, counts-are) in
+          omega (arith, outputs-past ws head)
+
+module _ (ws : List ℕ) (head : ℕ) (i : entryEnd ws head < length ws) (parts : EntryParts) (hp : parts ≡ partsAt ws head) where
+  pub counts-placed : parts .counts < length ws
+  unfolding partsAt
+  counts-placed =
+      rw hp (omega (arith, outputs-past ws head, varyings-past ws (bits 11 6 (wordAt ws (countsAt ws head))) (inputsAt ws (countsAt ws head))))
+
+  pub outputs-placed : (w n : ℕ) → w ≡ wordAt ws (parts .counts) → n ≡ bits 5 0 w → varyingsEnd ws n (parts .outputs) < length ws
+  unfolding entryEnd
+  outputs-placed w n hw hn = rw (hn, hw, hp) i
 
 counted : (ws : List ℕ) (p : ℕ) → decodedNumber (decode ws) ≡ 0 → p < length (interfaceOf (decode ws) .entries) → p < entryCount ws
 counted ws p h k = rw (accepted ws h .entries, records-length (entryAt ws) (entryEnd ws) (entryCount ws) (entriesAt ws)) at k
@@ -166,11 +210,12 @@ module _ (ws heads : List ℕ) (p head : ℕ) (h : decodedNumber (decode ws) ≡
         let w = placed (counted ws p h k) in
         omega (arith, w .workgroup, w .counts, w .resources, w .pairs, w .inputs, w .outputs)
 
-    pub head-near : head < 2 ^ 50
-    unfolding partsAt
-    head-near =
-        let w = placed (counted ws p h k) in
-        omega (arith, w .name, w .workgroup, w .counts, w .resources, w .pairs, w .inputs, w .outputs, w .short)
+    pub entry-inside : entryEnd ws head < length ws
+    unfolding entryEnd
+    entry-inside = placed (counted ws p h k) .outputsEnd
+
+    pub pack-short : length ws ≤ 4096
+    pack-short = accepted ws h .short
 
     module _ (parts : EntryParts) (d : parts ≡ partsAt ws head) where
       pub nth-placed : Placed ws parts

@@ -4,7 +4,7 @@ use native.Mathlib.Omega.{arith}
 use native.Mathlib.Nat.{add-zero}
 use mathlib.Core.Path.{_≡_, sym, ap, _∙_}
 use mathlib.Core.Bool.{true}
-use mathlib.Core.List.{List}
+use mathlib.Core.List.{List, [], _∷_}
 use borrow.Author.Tests.{eq-eqb, ne-eqb, ltb-true}
 use lib.Dec.{ltb}
 use lib.ListN.{length, drop}
@@ -21,12 +21,15 @@ use Rattle.interface.proofs.ReadsPack.{accepted}
 first-word : (ws : List ℕ) (at : ℕ) → wordAt (drop at ws) 0 ≡ wordAt ws at
 first-word ws at = getD-drop at ws 0 0 ∙ ap (λ (n : ℕ). wordAt ws n) (add-zero at)
 
-module _ (ws : List ℕ) (at w k : ℕ) (hw : w ≡ wordAt ws at) (hk : k ≡ kindOf w) where
-  pub width-local : k ≡ 12 → 2 ≡ varyingWidth (drop at ws)
-  width-local h = rw (first-word ws at, ← hw, ← hk, eq-eqb k 12 h)
+module _ (w k : ℕ) (hk : k ≡ kindOf w) where
+  pub width-local : k ≡ 12 → 2 ≡ varyingWidth (w ∷ [])
+  width-local h = rw (← hk, eq-eqb k 12 h)
 
-  pub width-built-in : (k ≡ 12 → ⊥) → 1 ≡ varyingWidth (drop at ws)
-  width-built-in h = rw (first-word ws at, ← hw, ← hk, ne-eqb k 12 h)
+  pub width-built-in : (k ≡ 12 → ⊥) → 1 ≡ varyingWidth (w ∷ [])
+  width-built-in h = rw (← hk, ne-eqb k 12 h)
+
+pub width-there : (ws : List ℕ) (at w : ℕ) → w ≡ wordAt ws at → varyingWidth (w ∷ []) ≡ varyingWidth (drop at ws)
+width-there ws at w e = rw (first-word ws at, ← e)
 
 abbrev limit : List ℕ → ℕ → ℕ
 limit ws at = contentOf (wordAt ws at)

@@ -21,17 +21,6 @@ fn built_in_filed(w: u32, codes: u32) -> bool
     word::kind(w) == 14
 }
 
-// Whether a word is a variable, where another is known to be one.
-fn var_good(w: u32, good: u32) -> bool
-    requires { ⌜ varFiled good ≡ true ⌝ }
-    ensures { λ r. ⌜ r ≡ varFiled w ⌝ }
-{
-    if w == good {
-        return true;
-    }
-    varying::var_filed(w)
-}
-
 // The position behind so many varyings, or 0. Where the codes are below 5, one of them may be clip distances; where below 4, none.
 pub(crate) fn varyings_next(body: &[u32], from: usize, n: u32, codes: u32) -> usize
     requires { ⌜ (1 ≤ from) × (from ≤ length (now body)) × (4 ≤ codes) × (codes ≤ 5) ⌝ }
@@ -47,7 +36,7 @@ pub(crate) fn varyings_next(body: &[u32], from: usize, n: u32, codes: u32) -> us
         let w = word::word(body, at);
         if varying::location_filed(w) {
             let second = word::word(body, at + 1);
-            if !var_good(second, good) {
+            if !varying::var_good(second, good) {
                 return 0;
             }
             good = second;

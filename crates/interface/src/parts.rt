@@ -2,6 +2,7 @@
 ghost use mathlib.Core.Path.{_≡_};
 ghost use Prim.Native.Nat.{_+_, _*_, _<_, _≤_, _^_};
 ghost use lib.Dec.{eqb};
+ghost use lib.ListN.{length};
 ghost use Rattle.word.specs.Choice.{pick};
 ghost use Rattle.word.specs.Words.{bits, bit};
 ghost use Rattle.interface.specs.Format.{nameWords, decode, decodedNumber};
@@ -57,14 +58,13 @@ pub fn outputs_counted(counts: u32) -> usize
 
 // The position behind as many varyings.
 pub(crate) fn varyings_end(pack: &[u32], from: usize, n: usize) -> usize
-    requires { ⌜ from + 2 * n < 2 ^ 60 ⌝ }
+    requires { ⌜ (varyingsEnd (now pack) n from < length (now pack)) × (length (now pack) ≤ 4096) ⌝ }
     ensures { λ r. ⌜ r ≡ varyingsEnd (now (pack .entry)) n from ⌝ }
-    ensures { λ r. ⌜ r ≤ from + 2 * n ⌝ }
 {
     let mut at = from;
     let mut left = n;
     while left != 0 {
-        at += varying_width(pack, at);
+        at += varying_width(pack[at]);
         left -= 1;
     }
     at
@@ -72,14 +72,13 @@ pub(crate) fn varyings_end(pack: &[u32], from: usize, n: usize) -> usize
 
 // The parts of the entry point that begins at a position.
 pub(crate) fn parts_at(pack: &[u32], head: usize) -> EntryParts
-    requires { ⌜ head < 2 ^ 50 ⌝ }
+    requires { ⌜ (head < length (now pack)) × (entryEnd (now pack) head < length (now pack)) × (length (now pack) ≤ 4096) ⌝ }
     ensures { λ r. ⌜ r ≡ partsAt (now (pack .entry)) head ⌝ }
-    ensures { λ r. ⌜ r .outputs ≤ head + 300 ⌝ }
 {
-    let first = word(pack, head);
+    let first = pack[head];
     let workgroup = head + 1 + name_words(first);
     let counts = workgroup + 4 + mesh_width(first);
-    let numbers = word(pack, counts);
+    let numbers = pack[counts];
     let pairs = counts + 1 + resources_counted(numbers);
     let inputs = pairs + pairs_counted(numbers);
     let outputs = varyings_end(pack, inputs, inputs_counted(numbers));
@@ -96,12 +95,12 @@ pub(crate) fn parts_at(pack: &[u32], head: usize) -> EntryParts
 
 // The position behind the entry point that begins at a position.
 pub fn entry_end(pack: &[u32], head: usize) -> usize
-    requires { ⌜ head < 2 ^ 50 ⌝ }
+    requires { ⌜ (head < length (now pack)) × (entryEnd (now pack) head < length (now pack)) × (length (now pack) ≤ 4096) ⌝ }
     ensures { λ r. ⌜ r ≡ entryEnd (now (pack .entry)) head ⌝ }
-    ensures { λ r. ⌜ r ≤ head + 512 ⌝ }
 {
     let parts = parts_at(pack, head);
-    let numbers = word(pack, parts.counts);
+    let counts = parts.counts;
+    let numbers = pack[counts];
     varyings_end(pack, parts.outputs, outputs_counted(numbers))
 }
 

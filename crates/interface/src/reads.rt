@@ -1,5 +1,6 @@
 // What stands in a pack: codes, varyings and pairs at a position, and of an accepted pack its limits and counts.
 ghost use mathlib.Core.Path.{_≡_};
+ghost use mathlib.Core.List.{[], _∷_};
 ghost use Prim.Native.Nat.{_<_, _≤_, _^_};
 ghost use lib.ListN.{length, drop};
 ghost use Rattle.word.specs.Words.{wordAt, contentOf};
@@ -15,7 +16,6 @@ use crate::types::SamplingPair;
 use crate::types::ShaderStage;
 use word::content;
 use word::kind;
-use word::word;
 
 pub fn stage_at(code: u32) -> ShaderStage
     ensures { λ r. ⌜ r ≡ stageAt code ⌝ }
@@ -88,13 +88,12 @@ pub fn built_in_of(w: u32) -> BuiltIn
     }
 }
 
-// How many words the varying at a position takes.
-pub fn varying_width(pack: &[u32], at: usize) -> usize
-    requires { ⌜ at < 2 ^ 60 ⌝ }
-    ensures { λ r. ⌜ r ≡ varyingWidth (drop at (now (pack .entry))) ⌝ }
+// How many words a varying takes, by its first word.
+pub fn varying_width(w: u32) -> usize
+    ensures { λ r. ⌜ r ≡ varyingWidth (w ∷ []) ⌝ }
     ensures { λ r. ⌜ r ≤ 2 ⌝ }
 {
-    if kind(word(pack, at)) == 12 {
+    if kind(w) == 12 {
         return 2;
     }
     1

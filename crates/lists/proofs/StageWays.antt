@@ -67,13 +67,6 @@ module _ (l : List ℕ) (at : ℕ) (a : Bool) (f : a ≡ locationFiled (wordAt l
 
 -- ---- a variable's word that is known to be one
 
-pub var-same : (w good : ℕ) → varFiled good ≡ true → w ≡ good → true ≡ varFiled w
-var-same w good f e = rw e (sym f)
-
-pub var-common : varFiled 0x6800_0123 ≡ true
-unfolding varFiled typeFiled
-var-common = refl
-
 pub located-var : (l : List ℕ) (at : ℕ) (b : Bool) → b ≡ locatedGood (drop at l) → not b ≡ false → varFiled (wordAt l (at + 1)) ≡ true
 located-var l at b e h =
     let g : locatedGood (drop at l) ≡ true = sym e ∙ not-false b h in

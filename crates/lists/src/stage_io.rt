@@ -47,24 +47,13 @@ pub fn location_at(l: &[u32], at: usize) -> u32
     word::content(word(l, at))
 }
 
-// Whether a word is a variable, where another is known to be one: most words of a list are the same.
-fn var_good(w: u32, good: u32) -> bool
-    requires { ⌜ varFiled good ≡ true ⌝ }
-    ensures { λ r. ⌜ r ≡ varFiled w ⌝ }
-{
-    if w == good {
-        return true;
-    }
-    varying::var_filed(w)
-}
-
 fn located_good(l: &[u32], at: usize, good: u32) -> bool
     requires { ⌜ at + 2 ≤ length (now l) ⌝ }
     requires { ⌜ varFiled good ≡ true ⌝ }
     ensures { λ r. ⌜ r ≡ locatedGood (drop at (now (l .entry))) ⌝ }
 {
     if varying::location_filed(l[at]) {
-        return var_good(l[at + 1], good);
+        return varying::var_good(l[at + 1], good);
     }
     false
 }

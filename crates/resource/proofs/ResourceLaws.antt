@@ -5,10 +5,10 @@ use native.Mathlib.Numerals.{add-one, add-two}
 use mathlib.Core.Path.{_≡_, refl, _∙_}
 use mathlib.Core.Bool.{Bool, true, false, not, _&&_}
 use mathlib.Core.List.{List, [], _∷_}
-use lib.Dec.{eqb}
+use lib.Dec.{eqb, ltb}
 use lib.ListN.{length, drop, drop-of-length-le, List·getD-eq-default}
 use lib.Seq.{drop-cons}
-use borrow.Author.Tests.{ltb-true, eq-eqb, ne-eqb, not-true, not-false}
+use borrow.Author.Tests.{ltb-true, ltb-false, eq-eqb, ne-eqb, not-true, not-false}
 use Rattle.word.specs.Choice.{pick, yes}
 use Rattle.word.specs.Words.{wordAt, contentOf, bits, bit}
 use Rattle.word.specs.Parse.{Parsed, fault, got, next, one, nowhere, from, behind, restAt}
@@ -87,13 +87,12 @@ module _ (ws : List ℕ) (at : ℕ) where
   two-left : 2 ≤ length ws - at → drop at ws ≡ wordAt ws at ∷ wordAt ws (at + 1) ∷ drop (at + 2) ws
   two-left h = rw (add-one, add-two, drop-cons ws at 0 (omega arith), drop-cons ws (suc at) 0 (omega arith))
 
-  pub next-none : length ws ≤ at → nowhere ≡ behind (readResource (drop at ws))
+  pub next-few : length ws - at < 2 → nowhere ≡ behind (readResource (drop at ws))
   unfolding readResource
-  next-none h = rw (none-left h)
-
-  pub next-one : at < length ws → length ws - at < 2 → nowhere ≡ behind (readResource (drop at ws))
-  unfolding readResource
-  next-one h k = rw (one-left h k) (by-test (placeFiled (wordAt ws at)) (λ e. rw e) (λ e. rw e))
+  next-few k =
+      by-test (ltb at (length ws))
+      (λ t. rw (one-left (ltb-true at (length ws) t) k) (by-test (placeFiled (wordAt ws at)) (λ e. rw e) (λ e. rw e)))
+      (λ f. rw (none-left (ltb-false at (length ws) f)))
 
   module _ (p : ℕ) (b : Bool) (h : 2 ≤ length ws - at) (pe : p ≡ wordAt ws at) (be : b ≡ placeFiled p) where
     pub next-no-place : not b ≡ true → nowhere ≡ behind (readResource (drop at ws))

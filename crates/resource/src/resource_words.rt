@@ -229,13 +229,11 @@ fn size_next(body: &[u32], at: usize, w: u32) -> usize
 
 // The position behind the resource that stands at a position, 0 where none does.
 pub fn resource_next(body: &[u32], at: usize) -> usize
+    requires { ⌜ at ≤ length (now body) ⌝ }
     ensures { λ r. ⌜ restAt (now (body .entry)) r ≡ behind (readResource (drop at (now (body .entry)))) ⌝ }
     ensures { λ r. ⌜ r ≤ length (now (body .entry)) ⌝ }
     ensures { λ r. ⌜ ((r ≡ 0 → ⊥) → at < r) ⌝ }
 {
-    if body.len() <= at {
-        return 0;
-    }
     if body.len() - at < 2 {
         return 0;
     }

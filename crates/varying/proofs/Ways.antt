@@ -1,7 +1,7 @@
 -- The code's ways through the readers: a word's kind is asked for by a call.
 use Prim.Native.Nat.{ℕ}
-use mathlib.Core.Path.{_≡_}
-use mathlib.Core.Bool.{Bool, _&&_, _||_}
+use mathlib.Core.Path.{_≡_, refl, sym}
+use mathlib.Core.Bool.{Bool, true, _&&_, _||_}
 use lib.Dec.{eqb, ltb}
 use Rattle.word.specs.Words.{kindOf, bits, bit}
 use Rattle.numeric.specs.Format.{typeFiled, typeOf}
@@ -32,3 +32,13 @@ var-parts w t e = rw e
 pub both-sized : (a b : Payload) (m n : ℕ) → a ≡ Pay.Size m → b ≡ Pay.Size n → eqb m n ≡ samePayload a b
 unfolding samePayload
 both-sized a b m n p q = rw (p, q)
+
+-- ---- a word that is known to be a variable
+
+pub var-same : (w good : ℕ) → varFiled good ≡ true → w ≡ good → true ≡ varFiled w
+var-same w good h e = sym (rw e h)
+
+-- the commonest: a vector of four 32-bit floats
+pub var-vector : varFiled 0x6800_0123 ≡ true
+unfolding varFiled typeFiled
+var-vector = refl

@@ -1,5 +1,6 @@
 // What passes between stages: a variable at a location, and the payload of a task stage.
 ghost use mathlib.Core.Path.{_≡_};
+ghost use mathlib.Core.Bool.{true};
 ghost use Rattle.varying.specs.Format.{varFiled, varOf, locationFiled, payloadFiled, payloadOf};
 ghost use Rattle.varying.specs.Rules.{samePayload};
 use numeric::types::NumericType;
@@ -51,6 +52,17 @@ pub fn var_filed(w: u32) -> bool
         return false;
     }
     numeric::type_words::type_filed(w)
+}
+
+// The same where another word is known to be a variable: most of a list are alike, and the like is not tested again.
+pub fn var_good(w: u32, good: u32) -> bool
+    requires { ⌜ varFiled good ≡ true ⌝ }
+    ensures { λ r. ⌜ r ≡ varFiled w ⌝ }
+{
+    if w == good {
+        return true;
+    }
+    var_filed(w)
 }
 
 // The variable that a word holds.

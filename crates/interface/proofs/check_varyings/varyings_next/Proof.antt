@@ -5,7 +5,8 @@ use lib.ListN.{length, drop}
 use borrow.Author.Needs.{needs}
 use Rattle.varying.specs.Format.{varFiled}
 use Rattle.interface.specs.Walks.{varyingsBehind}
-use Rattle.interface.proofs.CheckVaryings.{var-vector, local-stop, local-in, local-good, local-go, built-in-stop, built-in-in, built-in-go, codes-stay, varyings-ended}
+use Rattle.varying.proofs.Ways.{var-vector}
+use Rattle.interface.proofs.CheckVaryings.{local-stop, local-in, local-good, local-go, built-in-stop, built-in-in, built-in-go, codes-stay, varyings-ended}
 use Rattle.interface.proofs.check_varyings.varyings_next.Statement.{statement}
 use Rattle.interface.proofs.check_varyings.varyings_next.Tie as tie
 

@@ -1,4 +1,4 @@
-use Rattle.interface.proofs.ReadsParts.{entry-end-read}
+use Rattle.interface.proofs.ReadsParts.{counts-placed, outputs-placed, entry-end-read}
 use borrow.Author.Needs.{needs}
 use Rattle.interface.proofs.parts.entry_end.Statement.{statement}
 use Rattle.interface.proofs.parts.entry_end.Tie as tie
@@ -8,7 +8,8 @@ entry-end-spec =
     tie.close
     (tie.spec
     (λ c κs. search needs)  -- parts-at-requires
-    (λ c κs. search needs)  -- word-requires
+    (λ c. search (counts-placed, needs))  -- mul-numbers
+    (λ c. search counts-placed)  -- shared-slice-read-numbers
     (λ c κs. search needs)  -- outputs-counted-requires
-    (λ c κs. search needs)  -- varyings-end-requires
-    (λ c. (search entry-end-read, search needs)))  -- returns
+    (λ c κs. (search outputs-placed, search needs))  -- varyings-end-requires
+    (λ c. search entry-end-read))  -- returns

@@ -1,4 +1,4 @@
-use Rattle.interface.proofs.ReadsParts.{heads-there, head-near, nth-read, nth-placed}
+use Rattle.interface.proofs.ReadsParts.{heads-there, head-inside, entry-inside, pack-short, nth-read, nth-placed}
 use borrow.Author.Needs.{needs}
 use Rattle.interface.proofs.reads.entry_parts.Statement.{statement}
 use Rattle.interface.proofs.reads.entry_parts.Tie as tie
@@ -9,5 +9,5 @@ entry-parts-spec =
     (tie.spec
     (λ c κs. search heads-there)  -- position-at-requires
     (λ c. search needs)  -- cast-parts-at
-    (λ c κs. search head-near)  -- parts-at-requires
+    (λ c κs. (search head-inside, search entry-inside, search pack-short))  -- parts-at-requires
     (λ c. (search nth-read, search nth-placed)))  -- returns

@@ -7,7 +7,6 @@ pub varying-width-spec : {M : Type 1} → statement M
 varying-width-spec =
     tie.close
     (tie.spec
-    (λ c κs. search needs)  -- word-requires
     (λ c κs. search needs)  -- kind-requires
     (λ c. (search width-local, search needs))  -- returns
     (λ c. (search width-built-in, search needs)))  -- returns-2

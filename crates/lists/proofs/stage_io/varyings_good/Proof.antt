@@ -5,7 +5,8 @@ use lib.ListN.{length, drop}
 use Rattle.varying.specs.Format.{varFiled}
 use Rattle.lists.specs.Format.{countOf, each, locatedGood}
 use Rattle.lists.proofs.Ways.{each-begins, each-fails, each-onward, each-ended}
-use Rattle.lists.proofs.StageWays.{var-common, located-var}
+use Rattle.varying.proofs.Ways.{var-vector}
+use Rattle.lists.proofs.StageWays.{located-var}
 use borrow.Author.Needs.{needs}
 use Rattle.lists.proofs.stage_io.varyings_good.Statement.{statement}
 use Rattle.lists.proofs.stage_io.varyings_good.Tie as tie
@@ -24,7 +25,7 @@ varyings-good-spec =
     Inv-loop
     μ-loop
     (λ c κs. search needs)  -- counted-requires
-    (λ c. (search needs, search var-common, search each-begins))  -- loop-holds
+    (λ c. (search needs, search var-vector, search each-begins))  -- loop-holds
     (λ c κs. search needs)  -- located-good-requires
     (λ c. search each-fails)  -- returns
     (λ c. search needs)  -- add-good

@@ -1,7 +1,7 @@
+use Rattle.varying.proofs.Ways.{var-same}
 use borrow.Author.Needs.{needs}
-use Rattle.interface.proofs.CheckVaryings.{var-same}
-use Rattle.interface.proofs.check_varyings.var_good.Statement.{statement}
-use Rattle.interface.proofs.check_varyings.var_good.Tie as tie
+use Rattle.varying.proofs.var_good.Statement.{statement}
+use Rattle.varying.proofs.var_good.Tie as tie
 
 pub var-good-spec : {M : Type 1} → statement M
 var-good-spec =
