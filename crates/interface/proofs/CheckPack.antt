@@ -116,8 +116,6 @@ module _ (ws : List ℕ) (w : ℕ) (b : Bool) (e : w ≡ wordAt ws 0) (f : b ≡
 
 -- what the head words bound
 module _ (ws : List ℕ) (totals : ℕ) (c : Bool) (h : c ≡ totalsFiled totals) (u : not c ≡ false) where
-  pub totals-in : totals ≡ wordAt ws 1 → 2 ≤ length ws
-  totals-in g = word-in totalsFiled ws 1 totals c g h u refl
 
 module _ (totals : ℕ) (c : Bool) (h : c ≡ totalsFiled totals) (u : not c ≡ false) where
   bounds : (leb (bits 26 16 totals) 128 && leb (bits 15 0 totals) 16) ≡ true

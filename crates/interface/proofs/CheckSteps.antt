@@ -2,16 +2,20 @@
 use Prim.Native.Nat.{ℕ, zero, suc, _+_, _-_, _<_, _≤_}
 use native.Mathlib.Omega.{arith}
 use native.Mathlib.Numerals.{add-one}
+use native.Mathlib.Nat.{add-assoc}
 use mathlib.Core.Path.{_≡_, refl, sym, _∙_}
-use mathlib.Core.Bool.{Bool, true, false, not}
+use mathlib.Core.Bool.{Bool, true, false, not, _&&_}
 use mathlib.Core.List.{List, [], _∷_}
 use borrow.Author.Tests.{not-true, not-false}
+use lib.Dec.{eqb}
 use lib.ListN.{getD, length, drop, length-drop}
 use lib.Seq.{drop-cons}
 use Rattle.word.specs.Choice.{pick}
-use Rattle.word.specs.Words.{wordAt}
+use Rattle.word.specs.Words.{wordAt, kindOf}
 use Rattle.word.specs.Parse.{fault, got, next, one, several, Rest, nowhere, from, behind, restAt}
-use Rattle.word.proofs.Parse.{rest-from, rest-past, first-of, others-of, one-fault, one-in, several-more, several-stops}
+use Rattle.word.proofs.Parse.{rest-from, rest-past, first-of, others-of, one-fault, one-in, several-add, stopped, several-begins, several-more, several-stops}
+use Rattle.word.proofs.Truth.{by-test}
+use Rattle.interface.specs.Format.{ofWord}
 use Rattle.interface.specs.Walks.{onward, word}
 
 -- ---- a walk over words that pass a test
@@ -37,6 +41,48 @@ module _ (test : ℕ → Bool) (ws : List ℕ) (start i at n : ℕ) (e : restAt 
   pub words-go : at ≡ start + i → n ≤ length ws - start → test (wordAt ws at) ≡ true → restAt ws (at + 1) ≡ behind (several (i + 1) (one test) (drop start ws))
   words-go a q t =
       several-more (one test) ws (drop start ws) i at (at + 1) e h (rw (drop-cons ws at 0 (omega arith), t, ← add-one at) (rest-from ws (at + 1) (omega arith))) (λ x. omega arith)
+
+-- the same without a way out of the loop: where one word failed, nothing is behind however many follow
+stays : (test : ℕ → Bool) (i : ℕ) (ws : List ℕ) → nowhere ≡ behind (several i (one test) ws) → nowhere ≡ behind (several (i + 1) (one test) ws)
+stays test i ws e = rw (several-add i 1 (one test) ws, stopped (several i (one test) ws) [] 0 e refl)
+
+module _ (test : ℕ → Bool) (ws : List ℕ) (start i n : ℕ) (h : 1 ≤ start) (k : i < n) (q : start + n ≤ length ws) where
+  words-kept : (g b : Bool) (w : ℕ) → w ≡ wordAt ws (start + i) → b ≡ (g && test w) → restAt ws (pick g (start + i) 0) ≡ behind (several i (one test) (drop start ws))
+      → restAt ws (pick b (start + (i + 1)) 0) ≡ behind (several (i + 1) (one test) (drop start ws))
+  words-kept false b w d f e = rw f (stays test i (drop start ws) e)
+  words-kept true b w d f e =
+      by-test (test w)
+      (λ t. rw (f, t, ← add-assoc start i 1) (words-go test ws start i (start + i) n e (omega arith) k refl (omega arith) (rw (← d) t)))
+      (λ t. rw (f, t) (words-stop test ws start i (start + i) (i + 1) e (omega arith) (omega arith) (rw (← d) t)))
+
+-- the thirteen limits
+pub limits-lack : (ws : List ℕ) → length ws < 15 → restAt ws 0 ≡ behind (several 13 (one (ofWord 3)) (drop 2 ws))
+limits-lack ws h = words-lack (ofWord 3) ws 2 13 (omega arith)
+
+pub limits-begin : (ws : List ℕ) → restAt ws 2 ≡ behind (several 0 (one (ofWord 3)) (drop 2 ws))
+limits-begin ws = several-begins (one (ofWord 3)) ws 2 (omega arith)
+
+module _ (ws : List ℕ) (i : ℕ) (g : Bool) where
+  pub limits-more : (b : Bool) (w : ℕ) → i < 13 → 15 ≤ length ws → w ≡ wordAt ws (2 + i) → b ≡ (g && ofWord 3 w)
+      → restAt ws (pick g (2 + i) 0) ≡ behind (several i (one (ofWord 3)) (drop 2 ws))
+      → restAt ws (pick b (2 + (i + 1)) 0) ≡ behind (several (i + 1) (one (ofWord 3)) (drop 2 ws))
+  limits-more b w k q d f e = words-kept (ofWord 3) ws 2 i 13 (omega arith) k (omega arith) g b w d f e
+
+  module _ (h : i ≤ 13) (k : 13 ≤ i) (e : restAt ws (pick g (2 + i) 0) ≡ behind (several i (one (ofWord 3)) (drop 2 ws))) where
+    done : i ≡ 13
+    done = omega arith
+
+    pub limits-all : g ≡ true → restAt ws 15 ≡ behind (several 13 (one (ofWord 3)) (drop 2 ws))
+    limits-all t = rw (done, t) at e
+
+    pub limits-none : g ≡ false → restAt ws 0 ≡ behind (several 13 (one (ofWord 3)) (drop 2 ws))
+    limits-none f = rw (done, f) at e
+
+pub still-is : (n : ℕ) (g : Bool) (w k : ℕ) → g ≡ true → k ≡ kindOf w → eqb k n ≡ (g && ofWord n w)
+still-is n g w k t e = rw (t, e)
+
+pub still-not : (n : ℕ) (g : Bool) (w : ℕ) → g ≡ false → false ≡ (g && ofWord n w)
+still-not n g w f = rw f
 
 -- a test that is asked for by a call
 pub told-false : (b t : Bool) → b ≡ t → not b ≡ true → t ≡ false

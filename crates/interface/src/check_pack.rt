@@ -1,16 +1,16 @@
 // The check of a module pack: torn is 1, misfiled is 2.
 ghost use mathlib.Core.Path.{_≡_};
+ghost use mathlib.Core.Bool.{_&&_};
 ghost use mathlib.Core.List.{_++_};
 ghost use Prim.Native.Nat.{_+_, _<_, _≤_};
 ghost use lib.ListN.{length, take, drop};
 ghost use Rattle.word.specs.Words.{wordAt, bits};
-ghost use Rattle.word.specs.Parse.{several, behind, restAt};
+ghost use Rattle.word.specs.Parse.{one, several, behind, restAt};
 ghost use Rattle.resource.specs.Format.{readResource};
-ghost use Rattle.interface.specs.Format.{editionFiled, totalsFiled, readEntryPoint, readPack, torn, decode, decodedNumber};
+ghost use Rattle.interface.specs.Format.{ofWord, editionFiled, totalsFiled, readEntryPoint, readPack, torn, decode, decodedNumber};
 ghost use Rattle.interface.specs.Parts.{resourceCount, Offsets, Heads};
 ghost use Rattle.interface.specs.Walks.{listed, roleOf, pairRoles, roleTable, packResources, Headed, entriesBehind, recordsBehind, Stops, EntryStops};
 use crate::check_entry::entry_point_next;
-use crate::check_entry::kinds_next;
 use crate::check_names::names_distinct;
 
 // What a resource can be in a sampling pair, by its type word: 2 for a texture that is sampled, 1 for a sampler, else 0.
@@ -166,6 +166,34 @@ fn records_next(body: &[u32], totals: u32, offsets: &mut [u16], heads: &mut [u16
     )
 }
 
+// Whether a word is a limit too, where those before are.
+fn still_good(good: bool, w: u32) -> bool
+    ensures { λ r. ⌜ r ≡ (good && ofWord 3 w) ⌝ }
+{
+    if good {
+        return word::kind(w) == 3;
+    }
+    false
+}
+
+// The position behind the limits, or 0. All are tested: a loop with one way out takes several at a time.
+fn limits_next(body: &[u32]) -> usize
+    ensures { λ r. ⌜ restAt (now (body .entry)) r ≡ behind (several 13 (one (ofWord 3)) (drop 2 (now (body .entry)))) ⌝ }
+    ensures { λ r. ⌜ r ≤ length (now (body .entry)) ⌝ }
+    ensures { λ r. ⌜ ((r ≡ 0 → ⊥) → r ≡ 15) ⌝ }
+{
+    if body.len() < 15 {
+        return 0;
+    }
+    let mut good = true;
+    let mut i: usize = 0;
+    while i < 13 {
+        good = still_good(good, body[2 + i]);
+        i += 1;
+    }
+    if good { 15 } else { 0 }
+}
+
 // The position behind a pack, or 0 where it is not well filed. The tables get the position of each record.
 fn pack_next(body: &[u32], offsets: &mut [u16], heads: &mut [u16]) -> usize
     requires { ⌜ (length (now body) ≤ 4096) × (128 ≤ length (now offsets)) × (16 ≤ length (now heads)) ⌝ }
@@ -181,7 +209,7 @@ fn pack_next(body: &[u32], offsets: &mut [u16], heads: &mut [u16]) -> usize
     if !totals_filed(totals) {
         return 0;
     }
-    if kinds_next(body, 2, 13, 3) == 0 {
+    if limits_next(body) == 0 {
         return 0;
     }
     records_next(body, totals, offsets, heads)

@@ -1,6 +1,6 @@
 use mathlib.Core.Path.{refl}
 use borrow.Author.Needs.{needs}
-use Rattle.interface.proofs.CheckPack.{edition-stop, totals-stop, limits-stop, pack-go, totals-in, few-resources, few-entries, limits-in}
+use Rattle.interface.proofs.CheckPack.{edition-stop, totals-stop, limits-stop, pack-go, few-resources, few-entries, limits-in}
 use Rattle.interface.proofs.CheckPositions.{resources-counted, entries-counted}
 use Rattle.interface.proofs.check_pack.pack_next.Statement.{statement}
 use Rattle.interface.proofs.check_pack.pack_next.Tie as tie
@@ -15,7 +15,7 @@ pack-next-spec =
     (λ c κs. search needs)  -- word-requires-2
     (λ c κs. search needs)  -- totals-filed-requires
     (λ c. (search totals-stop, (search needs, (λ n. absurd (n refl), λ n. absurd (n refl)))))  -- returns-2
-    (λ c κs. (search needs, search totals-in, search needs))  -- kinds-next-requires
+    (λ c κs. search needs)  -- limits-next-requires
     (λ c. (search limits-stop, (search needs, (λ n. absurd (n refl), λ n. absurd (n refl)))))  -- returns-3
     (λ c κs. ((search limits-in, search needs, search few-resources, search few-entries), search needs))  -- records-next-requires
     (λ c. search needs)  -- same-length
