@@ -153,7 +153,7 @@ module _ (w k : ℕ) (ek : k ≡ kindOf w) where
 
 -- the type of a local variable does not matter
 module _ (ws : List ℕ) (at w : ℕ) (ew : w ≡ wordAt ws at) where
-  width-there : varyingWidth (w ∷ []) ≡ varyingWidth (drop at ws)
+  pub width-there : varyingWidth (w ∷ []) ≡ varyingWidth (drop at ws)
   width-there = rw (here ws at, ← ew)
 
   pub ahead-by : (n width : ℕ) → Ahead ws n at → (n ≡ 0 → ⊥) → width ≡ varyingWidth (w ∷ []) → Ahead ws (n - 1) (at + width)

@@ -82,7 +82,7 @@ fn first_summary(w: u32) -> Summary
 }
 
 // How many words a varying takes, by its first word.
-fn first_width(w: u32) -> usize
+pub(crate) fn first_width(w: u32) -> usize
     ensures { λ r. ⌜ r ≡ varyingWidth (w ∷ []) ⌝ }
     ensures { λ r. ⌜ r ≤ 2 ⌝ }
 {
