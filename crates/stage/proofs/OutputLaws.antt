@@ -31,7 +31,7 @@ use Rattle.stage.specs.Meaning.{Request, both}
 use Rattle.stage.specs.Given.{Summed}
 use Rattle.stage.specs.Interfaces.{isLocal, clipPart, builtInPart, isDepth, isPrimitive, reachPart, localCount, clipPlaces, builtInPlaces, reachOf, anyOf, summaryOf, locationUse, locationUses, countUse, pointPart, vertexOutputs, fragmentPlaces, attachmentUse, fragmentOutputs, placesStep}
 use Rattle.stage.specs.declared.types.Summary.{Summary}
-use Rattle.stage.proofs.VaryingLaws.{varyings-left, varyings-none, Ahead, ahead-onward}
+use Rattle.stage.proofs.VaryingLaws.{varyings-left, varyings-none, varying-width, Ahead, ahead-onward}
 
 -- ---- summaries
 
@@ -153,11 +153,8 @@ module _ (w k : ℕ) (ek : k ≡ kindOf w) where
 
 -- the type of a local variable does not matter
 module _ (ws : List ℕ) (at w : ℕ) (ew : w ≡ wordAt ws at) where
-  pub width-there : varyingWidth (w ∷ []) ≡ varyingWidth (drop at ws)
-  width-there = rw (here ws at, ← ew)
-
   pub ahead-by : (n width : ℕ) → Ahead ws n at → (n ≡ 0 → ⊥) → width ≡ varyingWidth (w ∷ []) → Ahead ws (n - 1) (at + width)
-  ahead-by n width i h x = ahead-onward ws n at i h (at + width) (rw (x, width-there))
+  ahead-by n width i h x = ahead-onward ws n at i h (at + width) (rw (x, varying-width ws at w ew))
 
   first-summary : summaryOf (varying (w ∷ []) ∷ []) ≡ summaryOf (varying (drop at ws) ∷ [])
   first-summary =
@@ -238,7 +235,7 @@ module _ (ws : List ℕ) (k at : ℕ) (s goal : Summary) (inv : goal ≡ plus s 
   summary-onward w p r width h d e f x =
       let part : p ≡ summaryOf (varying (drop at ws) ∷ []) = e ∙ first-summary ws at w d in
       let others : List Varying = varyings (k - 1) (drop (at + width) ws) in
-      inv ∙ rw (varyings-left ws k at h, ← width-there ws at w d, ← x) (plus-more s (varying (drop at ws)) others ∙ rw (← part, f))
+      inv ∙ rw (varyings-left ws k at h, ← varying-width ws at w d, ← x) (plus-more s (varying (drop at ws)) others ∙ rw (← part, f))
 
   pub summary-ended : k ≡ 0 → s ≡ goal
   summary-ended h = sym (inv ∙ rw (varyings-none (drop at ws) k h) (plus-end s))
@@ -268,7 +265,7 @@ module _ (number past limit : ℕ) (ws : List ℕ) (k at : ℕ) (goal : Answer) 
     pub locations-onward : (width : ℕ) → a .number ≡ 0 → width ≡ varyingWidth (w ∷ [])
         → goal ≡ locationUses number past limit (varyings (k - 1) (drop (at + width) ws))
     unfolding locationUses
-    locations-onward width z x = inv ∙ rw (varyings-left ws k at h, ← use-is, eq-eqb (a .number) 0 z, ← width-there ws at w d, x)
+    locations-onward width z x = inv ∙ rw (varyings-left ws k at h, ← use-is, eq-eqb (a .number) 0 z, ← varying-width ws at w d, x)
 
   pub locations-ended : (a : Answer) → k ≡ 0 → a ≡ accepted → a ≡ goal
   unfolding locationUses
