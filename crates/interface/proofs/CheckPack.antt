@@ -115,7 +115,6 @@ module _ (ws : List ℕ) (w : ℕ) (b : Bool) (e : w ≡ wordAt ws 0) (f : b ≡
       pack-go x z m y = totals-go x (step-go ws r _ _ k x z (rw (m z) y))
 
 -- what the head words bound
-module _ (ws : List ℕ) (totals : ℕ) (c : Bool) (h : c ≡ totalsFiled totals) (u : not c ≡ false) where
 
 module _ (totals : ℕ) (c : Bool) (h : c ≡ totalsFiled totals) (u : not c ≡ false) where
   bounds : (leb (bits 26 16 totals) 128 && leb (bits 15 0 totals) 16) ≡ true

@@ -1,12 +1,12 @@
 -- What the code's stores into the list out make of it.
-use Prim.Native.Nat.{ℕ, zero, suc, _+_, _-_, _*_, _^_, _<_, _≤_}
+use Prim.Native.Nat.{ℕ, zero, suc, _+_, _-_, _*_, _%_, _^_, _<_, _≤_}
 use native.Mathlib.Omega.{arith}
 use mathlib.Core.Path.{_≡_, refl, sym, ap, _∙_}
 use mathlib.Core.Bool.{Bool, true, false}
 use mathlib.Core.List.{List, [], _∷_, _++_, append-assoc}
-use lib.ListN.{length, take, drop, set, length-append, length-drop, take-append-drop}
-use lib.Seq.{drop-drop, drop-at, take-append-add, length-take-le}
-use borrow.Author.Tests.{ltb-true}
+use lib.ListN.{length, take, drop, set, length-append, length-drop, length-set, take-append-drop}
+use lib.Seq.{drop-drop, drop-at, take-append-add, length-take-le, getD-set-same}
+use borrow.Author.Tests.{eqb-true}
 use Rattle.word.specs.Choice.{pick}
 use Rattle.word.specs.Words.{wordAt, kindOf, contentOf, bits, ofKind}
 use Rattle.varying.specs.Format.{locatedWords, locatedHeld, varFiled, varOf, varWord, payloadHeld, payloadWord}
@@ -19,7 +19,7 @@ use Rattle.lists.specs.Format.{put, past, records, each, flat, countOf, 
 use Rattle.lists.specs.Format.{outFiled, decodeStage, encodeStage, outGood}
 use Rattle.lists.specs.declared.types.PrimitiveIndex.{PrimitiveIndex}
 use Rattle.lists.proofs.Words.{here, there, put-put}
-use Rattle.lists.proofs.Records.{read-length, room-length, left-cons, left-none, each-cons, first-passes, rest-passes, past-drop, flat-append, flat-length, take-read}
+use Rattle.lists.proofs.Records.{read-length, room-length, left-cons, left-none, each-cons, each-nth, first-passes, rest-passes, past-drop, flat-append, flat-length, take-read}
 use Rattle.lists.proofs.Forms.{two, located-form}
 use Rattle.lists.proofs.StageLists.{Filed, filed, is-good, code-back, decode-encode, filed-encode, good-decode}
 use Rattle.lists.proofs.InsertLaws.{lastFrom, insert-last, insert-before, insert-over, insert-behind, insert-length, longer, good-inserted}
@@ -177,23 +177,34 @@ last-read (suc k) n ws =
     let e : 2 + 2 * k ≡ 2 * suc k = omega arith in
     last-read k (contentOf (wordAt ws 0)) (drop 2 ws) ∙ rw (there ws 2 (2 * k), e)
 
-module _ (s : List ℕ) (n : ℕ) (v : Located) (z : n ≡ 0 → ⊥) (up : rising (readVaryings n (drop 2 s)) ≡ true)
-    (above : contentOf (wordAt s (2 * n)) < v .location) where
-  last-goes : insert v (readVaryings n (drop 2 s)) ≡ readVaryings n (drop 2 s) ++ (v ∷ [])
-  last-goes =
-      let k : n ≡ suc (n - 1) = omega arith in
-      let e : 2 + 2 * (n - 1) ≡ 2 * n = omega arith in
-      let a : contentOf (wordAt (drop 2 s) (2 * (n - 1))) < v .location = rw (there s 2 (2 * (n - 1)), e) above in
-      insert-last v (readVaryings n (drop 2 s)) 0 up (rw (k, last-read (n - 1) 0 (drop 2 s)) a)
+last-goes : (s : List ℕ) (n a : ℕ) (v : Located) → kindOf a ≡ 12 → v .location ≡ contentOf a → each 2 locatedGood n (drop 2 s) ≡ true
+    → rising (readVaryings n (drop 2 s)) ≡ true → wordAt s (2 * n) < a → insert v (readVaryings n (drop 2 s)) ≡ readVaryings n (drop 2 s) ++ (v ∷ [])
+unfolding insert records
+last-goes s zero a v k l good up above = refl
+last-goes s (suc n) a v k l good up above =
+    let e : 2 + 2 * n ≡ 2 * suc n = omega arith in
+    let w : wordAt (drop 2 s) (2 * n) ≡ wordAt s (2 * suc n) = there s 2 (2 * n) ∙ rw e in
+    let g : locatedGood (drop (2 * n) (drop 2 s)) ≡ true = each-nth 2 locatedGood (suc n) n (drop 2 s) good (omega arith) in
+    let q : kindOf (wordAt s (2 * suc n)) ≡ 12 = rw (here (drop 2 s) (2 * n), w) at (eqb-true (kindOf (wordAt (drop (2 * n) (drop 2 s)) 0)) 12 (search first)) in
+    insert-last v (readVaryings (suc n) (drop 2 s)) 0 up (rw (last-read n 0 (drop 2 s), w) (omega (arith, q)))
 
+module _ (s : List ℕ) (n a : ℕ) (v : Located) (k : kindOf a ≡ 12) (l : v .location ≡ contentOf a) (good : each 2 locatedGood n (drop 2 s) ≡ true)
+    (up : rising (readVaryings n (drop 2 s)) ≡ true) (above : wordAt s (2 * n) < a) where
   pub last-counted : length (insert v (readVaryings n (drop 2 s))) ≡ n + 1
-  last-counted = rw (last-goes, length-append (readVaryings n (drop 2 s)) (v ∷ []), read-length 2 readLocated n (drop 2 s))
+  last-counted = rw (last-goes s n a v k l good up above, length-append (readVaryings n (drop 2 s)) (v ∷ []), read-length 2 readLocated n (drop 2 s))
 
-  pub last-placed : (m : List ℕ) (b : ℕ) → 2 + 2 * n + 2 ≤ length s → each 2 locatedGood n (drop 2 s) ≡ true → b ≡ varWord (v .var)
-      → m ≡ put s (2 + 2 * n) ((0x60000000 + v .location) ∷ b ∷ []) → m ≡ put s 2 (flat locatedWords (insert v (readVaryings n (drop 2 s))))
+  pub last-placed : (m : List ℕ) (b : ℕ) → 2 + 2 * n + 2 ≤ length s → b ≡ varWord (v .var)
+      → m ≡ put s (2 + 2 * n) (a ∷ b ∷ []) → m ≡ put s 2 (flat locatedWords (insert v (readVaryings n (drop 2 s))))
   unfolding flat
-  last-placed m b h good eb em =
-      em ∙ rw (last-goes, flat-append locatedWords (readVaryings n (drop 2 s)) (v ∷ []), rest-flat s n 2 good (omega arith), eb)
+  last-placed m b h eb em =
+      let f : a ≡ 0x60000000 + v .location = omega arith in
+      em ∙ rw (
+        f,
+        last-goes s n a v k l good up above,
+        flat-append locatedWords (readVaryings n (drop 2 s)) (v ∷ []),
+        rest-flat s n 2 good (omega arith),
+        eb,
+      )
       (sym (put-after s (locatedWords v) 2 (2 * n) (omega arith)))
 
 -- ---- the list with a variable more
@@ -201,34 +212,53 @@ module _ (s : List ℕ) (n : ℕ) (v : Located) (z : n ≡ 0 → ⊥) (up : risi
 pub var-again : (w : ℕ) → varFiled w ≡ true → w ≡ varWord (varOf w)
 var-again w h = sym (var-written w h)
 
-pub located-below : (v : Located) → locatedHeld v ≡ true → v .location < 2 ^ 27
-located-below v h = search (ltb-true, first)
-
 pub located-filed : (v : Located) (w : ℕ) → locatedHeld v ≡ true → w ≡ varWord (v .var) → varFiled w ≡ true
 located-filed v w h e = rw e (var-filed (v .var) (search second))
 
 located-again : (v : Located) (w : ℕ) → locatedHeld v ≡ true → w ≡ varWord (v .var) → record { location = v .location; var = varOf w } ≡ v
 located-again v w h e = rw (e, var-read (v .var) (search second))
 
-module _ (s : List ℕ) (n : ℕ) (f : outFiled s ≡ true) (en : n ≡ countOf s) where
-  pub out-good : each 2 locatedGood n (drop 2 s) ≡ true
-  out-good = rw en (filed s f .good)
+-- what is known of a list under a head that it does not have yet
+module _ (s : List ℕ) (head : ℕ) where
+  behind-head : drop 2 (set s 0 head) ≡ drop 2 s
+  behind-head = go s
+    where
+      go : (s : List ℕ) → drop 2 (set s 0 head) ≡ drop 2 s
+      go [] = refl
+      go (w ∷ ws) = refl
 
-  pub out-rises : rising (readVaryings n (drop 2 s)) ≡ true
-  out-rises = rw en (filed s f .rises)
+module _ (s : List ℕ) (head : ℕ) (f : outFiled (set s 0 head) ≡ true) where
+  there-head : wordAt (set s 0 head) 0 ≡ head
+  there-head = getD-set-same s 0 head 0 (omega (arith, filed (set s 0 head) f .holds, length-set s 0 head))
 
-  pub out-fits : 2 ≤ length (decodeStage s .room) → 2 + 2 * n + 2 ≤ length s
-  unfolding decodeStage
-  out-fits h = omega (arith, filed s f .holds, room-length 2 (countOf s) (drop 2 s), length-drop 2 s)
+  count-under : countOf (set s 0 head) ≡ head % 0x10000
+  unfolding countOf
+  count-under = rw there-head
 
-pub head-there : (s : List ℕ) → outFiled s ≡ true → 1 ≤ length s
-head-there s f = omega (arith, filed s f .holds)
+  pub head-sum : (r : ℕ) → r ≤ 1 → head + r < 2 ^ 32
+  head-sum r h = let k : kindOf head ≡ 11 = rw there-head at (filed (set s 0 head) f .kind) in omega arith
 
-pub head-sum : (s : List ℕ) (w r : ℕ) → outFiled s ≡ true → w ≡ wordAt s 0 → r ≤ 1 → w + r < 2 ^ 32
-head-sum s w r f e h = let k : kindOf w ≡ 11 = rw e (filed s f .kind) in omega arith
+  module _ (n : ℕ) (en : n ≡ head % 0x10000) where
+    count-is : n ≡ countOf (set s 0 head)
+    count-is = en ∙ sym count-under
 
-pub out-first : (s m : List ℕ) → outFiled s ≡ true → length m ≡ length s → 0 < length m
-out-first s m f e = omega (arith, filed s f .holds)
+    pub out-good : each 2 locatedGood n (drop 2 s) ≡ true
+    out-good = rw (count-is, ← behind-head s head) (filed (set s 0 head) f .good)
+
+    pub out-rises : rising (readVaryings n (drop 2 s)) ≡ true
+    out-rises = rw (count-is, ← behind-head s head) (filed (set s 0 head) f .rises)
+
+    pub out-fits : 2 ≤ length (decodeStage (set s 0 head) .room) → 2 + 2 * n + 2 ≤ length s
+    unfolding decodeStage
+    out-fits h =
+        omega (
+          arith,
+          count-is,
+          filed (set s 0 head) f .holds,
+          room-length 2 (countOf (set s 0 head)) (drop 2 (set s 0 head)),
+          length-drop 2 (set s 0 head),
+          length-set s 0 head,
+        )
 
 room-after : (b : Bool) (n r : ℕ) (ws : List ℕ) → longer b n ≡ n + r → drop (2 * (n + r)) ws ≡ pick b (past 2 n ws) (drop 2 (past 2 n ws))
 room-after true n r ws e = let z : 2 * (n + r) ≡ 2 * n = omega arith in rw (z, past-drop 2 n ws)
@@ -262,16 +292,28 @@ inserted-words (w ∷ p ∷ ws) v r f e few =
       room-after (isProvided (varyingAt (v .location) (readVaryings n ws))) n r ws b,
     )
 
-pub out-inserted : (s m : List ℕ) (v : Located) (n w b r : ℕ) → outFiled s ≡ true → locatedHeld v ≡ true → length (decodeStage s .varyings) < 63
-    → n ≡ countOf s → w ≡ wordAt s 0 → b ≡ varWord (v .var)
+count-read : (s : List ℕ) → length (decodeStage s .varyings) ≡ countOf s
+unfolding decodeStage
+count-read s = read-length 2 readLocated (countOf s) (drop 2 s)
+
+put-head : (s xs : List ℕ) (head r : ℕ) → set (put (set s 0 head) 2 xs) 0 r ≡ set (put s 2 xs) 0 r
+unfolding put
+put-head [] xs head r = refl
+put-head (w ∷ []) xs head r = let e : 2 + length xs ≡ suc (suc (length xs)) = omega arith in rw e
+put-head (w ∷ p ∷ ws) xs head r = let e : 2 + length xs ≡ suc (suc (length xs)) = omega arith in rw e
+
+pub out-inserted : (s m : List ℕ) (v : Located) (head n b r : ℕ) → outFiled (set s 0 head) ≡ true → locatedHeld v ≡ true
+    → length (decodeStage (set s 0 head) .varyings) < 63 → n ≡ head % 0x10000 → b ≡ varWord (v .var)
     → m ≡ put s 2 (flat locatedWords (insert (record { location = v .location; var = varOf b }) (readVaryings n (drop 2 s))))
     → length (insert (record { location = v .location; var = varOf b }) (readVaryings n (drop 2 s))) ≡ n + r → r ≤ 1
-    → set m 0 (w + r) ≡ encodeStage (inserted v (decodeStage s))
-unfolding decodeStage
-out-inserted s m v n w b r f h few en ew eb em e o =
-    let c = read-length 2 readLocated (countOf s) (drop 2 s) in
-    let k = rw (located-again v b h eb, en) at e in
-    rw (em, located-again v b h eb, ew, en) (inserted-words s v r f k (omega (arith, few, c)))
+    → set m 0 (head + r) ≡ encodeStage (inserted v (decodeStage (set s 0 head)))
+out-inserted s m v head n b r f h few en eb em e o =
+    let t = set s 0 head in
+    let c : n ≡ countOf t = count-is s head f n en in
+    let vs = insert v (readVaryings (countOf t) (drop 2 t)) in
+    let k : length vs ≡ countOf t + r = rw (located-again v b h eb, c, ← behind-head s head) at e in
+    let m-is : m ≡ put s 2 (flat locatedWords vs) = em ∙ rw (located-again v b h eb, c, ← behind-head s head) in
+    rw m-is (sym (put-head s (flat locatedWords vs) head (head + r)) ∙ rw (there-head s head f) at (inserted-words t v r f k (omega (arith, count-read t))))
 
 module _ (s m : List ℕ) (v : Located) (f : outFiled s ≡ true) (t : locatedHeld v ≡ true) (few : length (decodeStage s .varyings) < 63)
     (e : m ≡ encodeStage (inserted v (decodeStage s))) where
@@ -296,9 +338,13 @@ module _ (l m : List ℕ) (primitive : PrimitiveIndex) (payload : Payload) (a b 
   unfolding encodeStage put flat
   begun-words = let z : 2 ^ 25 * primitiveCode primitive + 0 ≡ 2 ^ 25 * primitiveCode primitive = omega arith in em ∙ rw (z, ea, eb)
 
-  module _ (h : payloadHeld payload ≡ true) where
-    pub begun-decoded : decodeStage m ≡ bare primitive payload l
-    begun-decoded = rw begun-words (decode-encode (bare primitive payload l) (good-bare primitive payload l h))
+  begun-head : set m 0 a ≡ m
+  unfolding put
+  begun-head = rw em
 
-    pub begun-filed : outFiled m ≡ true
-    begun-filed = rw begun-words (filed-encode (bare primitive payload l) (good-bare primitive payload l h))
+  module _ (h : payloadHeld payload ≡ true) where
+    pub begun-decoded : decodeStage (set m 0 a) ≡ bare primitive payload l
+    begun-decoded = rw (begun-head, begun-words) (decode-encode (bare primitive payload l) (good-bare primitive payload l h))
+
+    pub begun-filed : outFiled (set m 0 a) ≡ true
+    begun-filed = rw (begun-head, begun-words) (filed-encode (bare primitive payload l) (good-bare primitive payload l h))

@@ -3,11 +3,11 @@ ghost use mathlib.Core.Path.{_≡_};
 ghost use mathlib.Core.Bool.{true};
 ghost use mathlib.Core.List.{[], _∷_};
 ghost use Prim.Native.Nat.{_+_, _*_, _<_, _≤_, _^_};
-ghost use lib.ListN.{length, take, drop};
+ghost use lib.ListN.{length, take, drop, set};
+ghost use Rattle.word.specs.Words.{kindOf, contentOf};
 ghost use Rattle.varying.specs.Format.{varFiled, varOf, locatedHeld, locatedWords, payloadHeld};
 ghost use Rattle.lists.specs.Meaning.{rising, insert, inserted};
 ghost use Rattle.lists.specs.Format.{put, each, flat, locatedGood, readVaryings, outFiled, decodeStage, encodeStage};
-use crate::heads::counted;
 use crate::out_words::payload_word;
 use crate::out_words::primitive_word;
 use crate::out_words::var_word;
@@ -17,17 +17,18 @@ use crate::types::PrimitiveIndex;
 use varying::Payload;
 use word::word;
 
-// The head and the payload of a list without variables.
-pub fn begin_out(out: &mut [u32], primitive: PrimitiveIndex, payload: Payload)
+// The head and the payload of a list without variables. The answer is the head.
+pub fn begin_out(out: &mut [u32], primitive: PrimitiveIndex, payload: Payload) -> u32
     requires { ⌜ 2 ≤ length (now out) ⌝ }
     requires { ⌜ payloadHeld payload ≡ true ⌝ }
     ensures { λ _. ⌜ now (out .exit) ≡ encodeStage (record { primitive = primitive; payload = payload; varyings = []; room = drop 2 (now (out .entry)) }) ⌝ }
-    ensures { λ _. ⌜ decodeStage (now (out .exit)) ≡ record { primitive = primitive; payload = payload; varyings = []; room = drop 2 (now (out .entry)) } ⌝ }
-    ensures { λ _. ⌜ outFiled (now (out .exit)) ≡ true ⌝ }
+    ensures { λ r. ⌜ decodeStage (set (now (out .exit)) 0 r) ≡ record { primitive = primitive; payload = payload; varyings = []; room = drop 2 (now (out .entry)) } ⌝ }
+    ensures { λ r. ⌜ outFiled (set (now (out .exit)) 0 r) ≡ true ⌝ }
 {
     let head = primitive_word(primitive);
     let second = payload_word(payload);
     store_two(out, 0, head, second);
+    head
 }
 
 // Two words written before as many records, each of which moves up by one.
@@ -78,34 +79,31 @@ fn place(out: &mut [u32], n: usize, location: u32, var: u32) -> u32
     1
 }
 
-// The same where the locations rise: one above the last needs no search.
-fn place_last(out: &mut [u32], n: usize, location: u32, var: u32) -> u32
+// The same by its first word, where the locations rise: one above the last, or above the head where there is none, needs no search.
+fn place_last(out: &mut [u32], n: usize, first: u32, var: u32) -> u32
     requires { ⌜ (2 + 2 * n + 2 ≤ length (now out)) × (n < 0x1_0000) × (each 2 locatedGood n (drop 2 (now out)) ≡ true) ⌝ }
-    requires { ⌜ (location < 2 ^ 27) × (varFiled var ≡ true) × (rising (readVaryings n (drop 2 (now out))) ≡ true) ⌝ }
-    ensures { λ _. ⌜ now (out .exit) ≡ put (now (out .entry)) 2 (flat locatedWords (insert (record { location = location; var = varOf var }) (readVaryings n (drop 2 (now (out .entry)))))) ⌝ }
-    ensures { λ r. ⌜ length (insert (record { location = location; var = varOf var }) (readVaryings n (drop 2 (now (out .entry))))) ≡ n + r ⌝ }
+    requires { ⌜ (kindOf first ≡ 12) × (varFiled var ≡ true) × (rising (readVaryings n (drop 2 (now out))) ≡ true) ⌝ }
+    ensures { λ _. ⌜ now (out .exit) ≡ put (now (out .entry)) 2 (flat locatedWords (insert (record { location = contentOf first; var = varOf var }) (readVaryings n (drop 2 (now (out .entry)))))) ⌝ }
+    ensures { λ r. ⌜ length (insert (record { location = contentOf first; var = varOf var }) (readVaryings n (drop 2 (now (out .entry))))) ≡ n + r ⌝ }
     ensures { λ r. ⌜ r ≤ 1 ⌝ }
 {
-    if n != 0 {
-        if out[2 * n] % 0x800_0000 < location {
-            store_two(out, 2 + 2 * n, 0x6000_0000 + location, var);
-            return 1;
-        }
+    if out[2 * n] < first {
+        store_two(out, 2 + 2 * n, first, var);
+        return 1;
     }
-    place(out, n, location, var)
+    place(out, n, first % 0x800_0000, var)
 }
 
-// The variable of a word put into the list by its location; of equal locations the last is kept.
-pub fn insert_words(out: &mut [u32], location: u32, var: u32)
-    requires { ⌜ (outFiled (now out) ≡ true) × (locatedHeld (record { location = location; var = varOf var }) ≡ true) ⌝ }
-    requires { ⌜ (length (decodeStage (now out) .varyings) < 63) × (2 ≤ length (decodeStage (now out) .room)) ⌝ }
-    ensures { λ _. ⌜ now (out .exit) ≡ encodeStage (inserted (record { location = location; var = varOf var }) (decodeStage (now (out .entry)))) ⌝ }
-    ensures { λ _. ⌜ decodeStage (now (out .exit)) ≡ inserted (record { location = location; var = varOf var }) (decodeStage (now (out .entry))) ⌝ }
-    ensures { λ _. ⌜ outFiled (now (out .exit)) ≡ true ⌝ }
+// The variable of two words put into the list by its location; of equal locations the last is kept. The head is handed over, and the answer is the new one.
+pub fn insert_words(out: &mut [u32], head: u32, first: u32, var: u32) -> u32
+    requires { ⌜ outFiled (set (now out) 0 head) ≡ true ⌝ }
+    requires { ⌜ (kindOf first ≡ 12) × (locatedHeld (record { location = contentOf first; var = varOf var }) ≡ true) ⌝ }
+    requires { ⌜ (length (decodeStage (set (now out) 0 head) .varyings) < 63) × (2 ≤ length (decodeStage (set (now out) 0 head) .room)) ⌝ }
+    ensures { λ r. ⌜ set (now (out .exit)) 0 r ≡ encodeStage (inserted (record { location = contentOf first; var = varOf var }) (decodeStage (set (now (out .entry)) 0 head))) ⌝ }
+    ensures { λ r. ⌜ decodeStage (set (now (out .exit)) 0 r) ≡ inserted (record { location = contentOf first; var = varOf var }) (decodeStage (set (now (out .entry)) 0 head)) ⌝ }
+    ensures { λ r. ⌜ outFiled (set (now (out .exit)) 0 r) ≡ true ⌝ }
 {
-    let n = counted(out);
-    let head = out[0];
+    let n = (head % 0x1_0000) as usize;
     let second = var_word(var);
-    let more = place_last(out, n, location, second);
-    out[0] = head + more;
+    head + place_last(out, n, first, second)
 }

@@ -1,13 +1,14 @@
 -- What the program's tests say of the lists, entries and variables that it hands on.
 use Prim.Native.Nat.{ℕ, _+_, _*_, _^_, _<_, _≤_}
 use native.Mathlib.Omega.{arith}
-use mathlib.Core.Path.{_≡_, sym, _∙_}
+use mathlib.Core.Path.{_≡_, refl, sym, _∙_}
 use mathlib.Core.Bool.{Bool, true, false, not, _&&_}
-use mathlib.Core.List.{List}
+use mathlib.Core.List.{List, [], _∷_}
 use lib.Dec.{leb, ltb}
-use lib.ListN.{length, take, drop, length-drop}
+use lib.ListN.{length, take, drop, set, length-drop}
 use lib.Seq.{length-take-le}
 use borrow.Author.Tests.{not-true, not-false, lt-ltb, le-ltb, ltb-true, leb-true}
+use Rattle.word.specs.Words.{wordAt, contentOf}
 use Rattle.resource.specs.Format.{entryHeld, entryFiled, entryOf}
 use Rattle.resource.specs.declared.types.ResourceBinding.{ResourceBinding}
 use Rattle.resource.specs.declared.types.BindGroupLayoutEntry.{BindGroupLayoutEntry}
@@ -50,29 +51,55 @@ entry-within L f i h e = ltb-true i (length (L .entries)) (rw e at h)
 pub payload-fits : (p : Payload) (w : ℕ) → p ≡ payloadOf w → payloadHeld p ≡ true
 payload-fits p w e = rw e (payload-held w)
 
-pub located-fits : (location w : ℕ) (b : Bool) → b ≡ varFiled w → not b ≡ false → location < 2 ^ 27 → locatedHeld (record { location = location; var = varOf w }) ≡ true
-located-fits location w b q h n = rw (lt-ltb location (2 ^ 27) n) (var-held w (passed b (varFiled w) q h))
+pub located-fits : (location w : ℕ) (b : Bool) → b ≡ varFiled w → not b ≡ false → location < 2 ^ 27
+    → locatedHeld (record { location = contentOf (0x60000000 + location); var = varOf w }) ≡ true
+located-fits location w b q h n =
+    let e : contentOf (0x60000000 + location) ≡ location = omega arith in
+    rw (e, lt-ltb location (2 ^ 27) n) (var-held w (passed b (varFiled w) q h))
+
+own-head : (l : List ℕ) (head : ℕ) → head ≡ wordAt l 0 → set l 0 head ≡ l
+own-head [] head e = refl
+own-head (w ∷ ws) head e = rw e
 
 module _ (l : List ℕ) (h : hasRoom l ≡ true) where
-  pub list-out : outFiled l ≡ true
+  list-filed : outFiled l ≡ true
   unfolding hasRoom
-  list-out = first (outFiled l) (ltb (countOf l) 63 && leb (2 + 2 * countOf l + 2) (length l)) h
+  list-filed = first (outFiled l) (ltb (countOf l) 63 && leb (2 + 2 * countOf l + 2) (length l)) h
 
   counted : (ltb (countOf l) 63 && leb (2 + 2 * countOf l + 2) (length l)) ≡ true
   unfolding hasRoom
   counted = second (outFiled l) (ltb (countOf l) 63 && leb (2 + 2 * countOf l + 2) (length l)) h
 
-  pub variables-few : length (decodeStage l .varyings) < 63
+  few : length (decodeStage l .varyings) < 63
   unfolding decodeStage
-  variables-few =
+  few =
       let n = ltb-true (countOf l) 63 (first (ltb (countOf l) 63) (leb (2 + 2 * countOf l + 2) (length l)) counted) in
       omega (arith, n, read-length 2 readLocated (countOf l) (drop 2 l))
 
-  pub room-enough : 2 ≤ length (decodeStage l .room)
+  long : 2 + 2 * countOf l + 2 ≤ length l
+  long = leb-true (2 + 2 * countOf l + 2) (length l) (second (ltb (countOf l) 63) (leb (2 + 2 * countOf l + 2) (length l)) counted)
+
+  roomy : 2 ≤ length (decodeStage l .room)
   unfolding decodeStage
-  room-enough =
-      let n = leb-true (2 + 2 * countOf l + 2) (length l) (second (ltb (countOf l) 63) (leb (2 + 2 * countOf l + 2) (length l)) counted) in
-      omega (arith, n, room-length 2 (countOf l) (drop 2 l), length-drop 2 l)
+  roomy = omega (arith, long, room-length 2 (countOf l) (drop 2 l), length-drop 2 l)
+
+-- what has room, with its own head
+module _ (l : List ℕ) (b : Bool) (q : b ≡ hasRoom l) (t : not b ≡ false) where
+  pub head-there : 0 < length l
+  head-there = omega (arith, long l (passed b (hasRoom l) q t))
+
+  pub head-stays : (m : List ℕ) → length m ≡ length l → 0 < length m
+  head-stays m e = omega (arith, head-there)
+
+  module _ (head : ℕ) (e : head ≡ wordAt l 0) where
+    pub list-out : outFiled (set l 0 head) ≡ true
+    list-out = rw (own-head l head e) (list-filed l (passed b (hasRoom l) q t))
+
+    pub variables-few : length (decodeStage (set l 0 head) .varyings) < 63
+    variables-few = rw (own-head l head e) (few l (passed b (hasRoom l) q t))
+
+    pub room-enough : 2 ≤ length (decodeStage (set l 0 head) .room)
+    room-enough = rw (own-head l head e) (roomy l (passed b (hasRoom l) q t))
 
 -- the code's ways through the test of the room
 module _ (l : List ℕ) (b : Bool) (q : b ≡ outFiled l) where

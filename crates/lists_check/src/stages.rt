@@ -101,6 +101,7 @@ pub fn insert(l: &mut [u32], location: u32, var: u32) {
     if !var_filed(var) {
         return print::nothing();
     }
-    insert_words(l, location, var);
+    let head = l[0];
+    l[0] = insert_words(l, head, 0x6000_0000 + location, var);
     print::yes_no(true)
 }

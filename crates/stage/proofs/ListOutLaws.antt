@@ -4,7 +4,7 @@ use native.Mathlib.Omega.{arith}
 use mathlib.Core.Path.{_≡_, refl, sym, ap, _∙_}
 use mathlib.Core.Bool.{Bool, true, false, _||_}
 use mathlib.Core.List.{List, [], _∷_}
-use lib.ListN.{length, drop, length-drop}
+use lib.ListN.{length, drop, set, length-drop, length-set}
 use lib.Seq.{drop-drop}
 use borrow.Author.Tests.{eq-eqb, ne-eqb}
 use Rattle.word.specs.Choice.{pick}
@@ -18,7 +18,6 @@ use Rattle.lists.specs.Meaning.{StageIo, every, rising, varyingAt, isProvided, 
 use Rattle.lists.specs.Format.{outFiled, decodeStage, encodeStage}
 use Rattle.lists.specs.declared.types.PrimitiveIndex.{PrimitiveIndex}
 use Rattle.lists.specs.declared.types.PrimitiveIndex.the-variants as Index
-use Rattle.lists.proofs.Words.{here, there}
 use Rattle.lists.proofs.Records.{first-passes, rest-passes}
 use Rattle.lists.proofs.InsertLaws.{rising-insert, insert-length, longer}
 use Rattle.lists.proofs.StageLists.{good, good-decode, encode-decode}
@@ -34,7 +33,7 @@ use Rattle.stage.specs.Given.{Summed}
 use Rattle.stage.specs.ListOut.{outputHeld, handed}
 use Rattle.stage.specs.declared.types.InputWalk.{InputWalk}
 use Rattle.stage.specs.declared.types.Summary.{Summary}
-use Rattle.stage.proofs.VaryingLaws.{varyings-left, varyings-none}
+use Rattle.stage.proofs.VaryingLaws.{varyings-left, varyings-none, varying-words, varying-width}
 
 module _ (stage : ShaderStage) (w : Bool) where
   pub mesh-written : stage ≡ Stage.Mesh → w ≡ true → Index.True ≡ primitiveOut stage w
@@ -48,35 +47,27 @@ module _ (stage : ShaderStage) (w : Bool) where
 
 -- ---- one output
 
-module _ (ws : List ℕ) (at w k : ℕ) (ew : w ≡ wordAt ws at) (ek : k ≡ kindOf w) where
+module _ (x y k : ℕ) (ek : k ≡ kindOf x) where
   module _ (t : k ≡ 12) where
-    pub local-few : (n : ℕ) → n + isLocal (varying (drop at ws)) ≤ 63 → n < 63
-    local-few n h = let m : n + 1 ≤ 63 = rw (here ws at, ← ew, ← ek, eq-eqb k 12 t) at h in omega arith
+    pub local-few : (n : ℕ) → n + isLocal (varying (x ∷ y ∷ [])) ≤ 63 → n < 63
+    local-few n h = let m : n + 1 ≤ 63 = rw (← ek, eq-eqb k 12 t) at h in omega arith
 
-    pub local-roomy : (n : ℕ) → 2 * isLocal (varying (drop at ws)) ≤ n → 2 ≤ n
-    local-roomy n h = rw (here ws at, ← ew, ← ek, eq-eqb k 12 t) at h
+    pub local-roomy : (n : ℕ) → 2 * isLocal (varying (x ∷ y ∷ [])) ≤ n → 2 ≤ n
+    local-roomy n h = rw (← ek, eq-eqb k 12 t) at h
 
-    pub local-wide : at + 2 ≡ at + varyingWidth (drop at ws)
-    local-wide = rw (here ws at, ← ew, ← ek, eq-eqb k 12 t)
+    there-local : varying (x ∷ y ∷ []) ≡ Var.Local (contentOf x) (varOf y)
+    there-local = rw (← ek, eq-eqb k 12 t)
 
-    module _ (c x : ℕ) (ec : c ≡ contentOf w) (ex : x ≡ wordAt ws (at + 1)) where
-      there-local : varying (drop at ws) ≡ Var.Local c (varOf x)
-      there-local = rw (here ws at, there ws at 1, ← ew, ← ek, ← ex, ← ec, eq-eqb k 12 t)
+    pub local-held : outputHeld (varying (x ∷ y ∷ [])) ≡ true → locatedHeld (record { location = contentOf x; var = varOf y }) ≡ true
+    local-held h = ap outputHeld (sym there-local) ∙ h
 
-      pub local-held : outputHeld (varying (drop at ws)) ≡ true → locatedHeld (record { location = c; var = varOf x }) ≡ true
-      local-held h = ap outputHeld (sym there-local) ∙ h
-
-      pub local-handed : (S T : StageIo) → T ≡ inserted (record { location = c; var = varOf x }) S → T ≡ handed (varying (drop at ws)) S
-      unfolding handed
-      local-handed S T h = h ∙ ap (λ v. handed v S) (sym there-local)
-
-  module _ (t : k ≡ 12 → ⊥) where
-    pub built-in-handed : (S : StageIo) → S ≡ handed (varying (drop at ws)) S
+    pub local-handed : (S T : StageIo) → T ≡ inserted (record { location = contentOf x; var = varOf y }) S → T ≡ handed (varying (x ∷ y ∷ [])) S
     unfolding handed
-    built-in-handed S = rw (here ws at, ← ew, ← ek, ne-eqb k 12 t)
+    local-handed S T h = h ∙ ap (λ v. handed v S) (sym there-local)
 
-    pub built-in-wide : at + 1 ≡ at + varyingWidth (drop at ws)
-    built-in-wide = rw (here ws at, ← ew, ← ek, ne-eqb k 12 t)
+  pub built-in-handed : (S : StageIo) → (k ≡ 12 → ⊥) → S ≡ handed (varying (x ∷ y ∷ [])) S
+  unfolding handed
+  built-in-handed S t = rw (← ek, ne-eqb k 12 t)
 
 -- ---- all outputs in order
 
@@ -170,32 +161,40 @@ roomy-more v vs S h r =
       held = rest-passes (outputHeld v) (every outputHeld vs) (r .held);
     }
 
-module _ (ws : List ℕ) (k at : ℕ) (h : k ≡ 0 → ⊥) where
+module _ (ws : List ℕ) (k at x y : ℕ) (h : k ≡ 0 → ⊥) (ex : x ≡ wordAt ws at) (ey : y ≡ wordAt ws (at + 1)) where
+  these : varyings k (drop at ws) ≡ varying (x ∷ y ∷ []) ∷ varyings (k - 1) (drop (at + varyingWidth (drop at ws)) ws)
+  these = varyings-left ws k at h ∙ rw (varying-words ws at x y ex ey)
+
   module _ (S : StageIo) (r : Roomy (varyings k (drop at ws)) S) where
-    pub next-held : outputHeld (varying (drop at ws)) ≡ true
+    pub next-held : outputHeld (varying (x ∷ y ∷ [])) ≡ true
     unfolding every
-    next-held =
-        first-passes (outputHeld (varying (drop at ws))) (every outputHeld (varyings (k - 1) (drop (at + varyingWidth (drop at ws)) ws)))
-        (rw (varyings-left ws k at h) at r .held)
+    next-held = first-passes (outputHeld (varying (x ∷ y ∷ []))) (every outputHeld (varyings (k - 1) (drop (at + varyingWidth (drop at ws)) ws))) (rw these at r .held)
 
-    pub next-few : length (S .varyings) + isLocal (varying (drop at ws)) ≤ 63
+    pub next-few : length (S .varyings) + isLocal (varying (x ∷ y ∷ [])) ≤ 63
     unfolding localCount
-    next-few = omega (arith, rw (varyings-left ws k at h) at r .few)
+    next-few = omega (arith, rw these at r .few)
 
-    pub next-room : 2 * isLocal (varying (drop at ws)) ≤ length (S .room)
+    pub next-room : 2 * isLocal (varying (x ∷ y ∷ [])) ≤ length (S .room)
     unfolding localCount
-    next-room = omega (arith, rw (varyings-left ws k at h) at r .room)
+    next-room = omega (arith, rw these at r .room)
 
-  module _ (out : List ℕ) (T : StageIo) (on : ℕ) (e : T ≡ handed (varying (drop at ws)) (decodeStage out)) (x : on ≡ at + varyingWidth (drop at ws)) where
-    pub roomy-onward : outFiled out ≡ true → Roomy (varyings k (drop at ws)) (decodeStage out) → Roomy (varyings (k - 1) (drop on ws)) T
-    roomy-onward f r =
-        rw (e, x)
-        (roomy-more (varying (drop at ws)) (varyings (k - 1) (drop (at + varyingWidth (drop at ws)) ws)) (decodeStage out)
-        (good (decodeStage out) (good-decode out f) .rises) (rw (varyings-left ws k at h) at r))
+module _ (ws : List ℕ) (k at x y width : ℕ) (out : List ℕ) (T : StageIo) (e : T ≡ handed (varying (x ∷ y ∷ [])) (decodeStage out))
+    (ex : x ≡ wordAt ws at) (ey : y ≡ wordAt ws (at + 1)) (d : width ≡ varyingWidth (x ∷ [])) (h : k ≡ 0 → ⊥) where
+  others : varyings k (drop at ws) ≡ varying (x ∷ y ∷ []) ∷ varyings (k - 1) (drop (at + width) ws)
+  others = these ws k at x y h ex ey ∙ rw (d, varying-width ws at x ex)
 
-    pub all-onward : (goal : StageIo) → goal ≡ handedAll (varyings k (drop at ws)) (decodeStage out) → goal ≡ handedAll (varyings (k - 1) (drop on ws)) T
-    unfolding handedAll
-    all-onward goal inv = inv ∙ rw (varyings-left ws k at h, e, x)
+  pub roomy-onward : outFiled out ≡ true → Roomy (varyings k (drop at ws)) (decodeStage out) → Roomy (varyings (k - 1) (drop (at + width) ws)) T
+  roomy-onward f r =
+      rw e
+      (roomy-more (varying (x ∷ y ∷ [])) (varyings (k - 1) (drop (at + width) ws)) (decodeStage out) (good (decodeStage out) (good-decode out f) .rises)
+      (rw others at r))
+
+  pub all-onward : (goal : StageIo) → goal ≡ handedAll (varyings k (drop at ws)) (decodeStage out) → goal ≡ handedAll (varyings (k - 1) (drop (at + width) ws)) T
+  unfolding handedAll
+  all-onward goal inv = inv ∙ rw (others, e)
+
+pub as-long : (lent begun out : List ℕ) (head : ℕ) → length begun ≡ length lent → length out ≡ length begun → length (set out 0 head) ≡ length lent
+as-long lent begun out head e f = length-set out 0 head ∙ (f ∙ e)
 
 pub all-ended : (ws : List ℕ) (from n k at : ℕ) (p : PrimitiveIndex) (q : Payload) (lent out : List ℕ) (S : StageIo)
     → S ≡ record { primitive = p; payload = q; varyings = []; room = drop 2 lent } → k ≡ 0 → outFiled out ≡ true

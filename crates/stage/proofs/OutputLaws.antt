@@ -29,22 +29,11 @@ use Rattle.interface.specs.declared.types.Varying.{Varying}
 use Rattle.interface.specs.declared.types.Varying.the-variants as Var
 use Rattle.stage.specs.Meaning.{Request, both}
 use Rattle.stage.specs.Given.{Summed}
-use Rattle.stage.specs.Interfaces.{isLocal, clipPart, builtInPart, isDepth, isPrimitive, reachPart, localCount, clipPlaces, builtInPlaces, reachOf, anyOf, summaryOf, locationUse, locationUses, countUse, pointPart, vertexOutputs, fragmentPlaces, attachmentUse, fragmentOutputs, placesStep}
+use Rattle.stage.specs.Interfaces.{isLocal, clipPart, builtInPart, isDepth, isPrimitive, reachPart, localCount, clipPlaces, builtInPlaces, reachOf, anyOf, summaryOf, plus, locationUse, locationUses, countUse, pointPart, vertexOutputs, fragmentPlaces, attachmentUse, fragmentOutputs, placesStep}
 use Rattle.stage.specs.declared.types.Summary.{Summary}
-use Rattle.stage.proofs.VaryingLaws.{varyings-left, varyings-none, Ahead, ahead-onward}
+use Rattle.stage.proofs.VaryingLaws.{varyings-left, varyings-none, varying-width, Ahead, ahead-onward}
 
 -- ---- summaries
-
-abbrev pub plus : Summary → Summary → Summary
-plus a b =
-    record {
-      locals = a .locals + b .locals;
-      «clip_places» = a .«clip_places» + b .«clip_places»;
-      «built_in_places» = a .«built_in_places» + b .«built_in_places»;
-      reach = max (a .reach) (b .reach);
-      depth = a .depth || b .depth;
-      primitive = a .primitive || b .primitive;
-    }
 
 abbrev pub nothing : Summary
 nothing = record { locals = 0; «clip_places» = 0; «built_in_places» = 0; reach = 0; depth = false; primitive = false }
@@ -137,13 +126,22 @@ built-in-clip w q h e = rw (e, clip-coded (w / 2 ^ 24 % 8) (w % 256) h) (sym (on
 -- ---- a varying by its first word
 
 module _ (w k : ℕ) (ek : k ≡ kindOf w) where
-  pub first-local : (location : ℕ) → k ≡ 12 → location ≡ contentOf w
-      → _≡_ {A = Summary} (record { locals = 1; «clip_places» = 0; «built_in_places» = 0; reach = location + 1; depth = false; primitive = false })
-      (summaryOf (varying (w ∷ []) ∷ []))
-  first-local location h e = rw (← ek, eq-eqb k 12 h, e) (sym (one-varying (local w 0)))
+  pub with-local : (s : Summary) (location r : ℕ) → k ≡ 12 → location ≡ contentOf w → r ≡ max (s .reach) (location + 1)
+      → _≡_ {A = Summary}
+      (record {
+        locals = s .locals + 1;
+        «clip_places» = s .«clip_places»;
+        «built_in_places» = s .«built_in_places»;
+        reach = r;
+        depth = s .depth;
+        primitive = s .primitive;
+      })
+      (plus s (summaryOf (varying (w ∷ []) ∷ [])))
+  with-local s location r h e m = rw (m, e, ← ek, eq-eqb k 12 h, one-varying (local w 0)) (simp (add-zero, or-false))
 
-  pub first-built-in : (r : Summary) → (k ≡ 12 → ⊥) → r ≡ summaryOf (Var.BuiltIn (builtInOf w) ∷ []) → r ≡ summaryOf (varying (w ∷ []) ∷ [])
-  first-built-in r n e = rw (← ek, ne-eqb k 12 n) e
+  pub with-built-in : (s p r : Summary) → (k ≡ 12 → ⊥) → p ≡ summaryOf (Var.BuiltIn (builtInOf w) ∷ []) → r ≡ plus s p
+      → r ≡ plus s (summaryOf (varying (w ∷ []) ∷ []))
+  with-built-in s p r n e f = rw (← ek, ne-eqb k 12 n, ← e) f
 
   pub width-local : k ≡ 12 → 2 ≡ varyingWidth (w ∷ [])
   width-local h = rw (← ek, eq-eqb k 12 h)
@@ -153,11 +151,8 @@ module _ (w k : ℕ) (ek : k ≡ kindOf w) where
 
 -- the type of a local variable does not matter
 module _ (ws : List ℕ) (at w : ℕ) (ew : w ≡ wordAt ws at) where
-  width-there : varyingWidth (w ∷ []) ≡ varyingWidth (drop at ws)
-  width-there = rw (here ws at, ← ew)
-
   pub ahead-by : (n width : ℕ) → Ahead ws n at → (n ≡ 0 → ⊥) → width ≡ varyingWidth (w ∷ []) → Ahead ws (n - 1) (at + width)
-  ahead-by n width i h x = ahead-onward ws n at i h (at + width) (rw (x, width-there))
+  ahead-by n width i h x = ahead-onward ws n at i h (at + width) (rw (x, varying-width ws at w ew))
 
   first-summary : summaryOf (varying (w ∷ []) ∷ []) ≡ summaryOf (varying (drop at ws) ∷ [])
   first-summary =
@@ -199,18 +194,21 @@ varying-small : (w : ℕ) (t : Bool) → Small (partOf (pick t (local w 0) (Var.
 varying-small w true = record { locals = omega arith; clip = omega arith; built-in = omega arith }
 varying-small w false = built-in-small (builtInOf w) w refl
 
-part-small : (w : ℕ) (s : Summary) → s ≡ summaryOf (varying (w ∷ []) ∷ []) → Small s
-part-small w s e = rw (e, one-varying (varying (w ∷ []))) (varying-small w (locationFiled w))
+part-small : (w : ℕ) → Small (summaryOf (varying (w ∷ []) ∷ []))
+part-small w = rw (one-varying (varying (w ∷ []))) (varying-small w (locationFiled w))
 
-module _ (w : ℕ) (s : Summary) (e : s ≡ summaryOf (varying (w ∷ []) ∷ [])) where
+module _ (w : ℕ) (s : Summary) (e : s ≡ summaryOf (Var.BuiltIn (builtInOf w) ∷ [])) where
+  built-in-part : Small s
+  built-in-part = rw (e, one-varying (Var.BuiltIn (builtInOf w))) (built-in-small (builtInOf w) w refl)
+
   pub part-locals : s .locals < 2 ^ 31
-  part-locals = omega (arith, part-small w s e .locals)
+  part-locals = omega (arith, built-in-part .locals)
 
   pub part-clip : s .«clip_places» < 2 ^ 31
-  part-clip = omega (arith, part-small w s e .clip)
+  part-clip = omega (arith, built-in-part .clip)
 
   pub part-built-in : s .«built_in_places» < 2 ^ 31
-  part-built-in = omega (arith, part-small w s e .built-in)
+  part-built-in = omega (arith, built-in-part .built-in)
 
 -- what the varyings that are left may still add
 pub record Within (s : Summary) (left : ℕ) : Type 0 where
@@ -221,10 +219,9 @@ pub record Within (s : Summary) (left : ℕ) : Type 0 where
 pub within-start : (s : Summary) (n : ℕ) → s ≡ nothing → n ≤ 63 → Within s n
 within-start s n e h = rw e (record { locals = omega arith; clip = omega arith; built-in = omega arith })
 
-pub within-more : (w : ℕ) (s p r : Summary) (left : ℕ) → p ≡ summaryOf (varying (w ∷ []) ∷ []) → r ≡ plus s p
-    → (left ≡ 0 → ⊥) → Within s left → Within r (left - 1)
-within-more w s p r left e f n h =
-    let q : Small p = part-small w p e in
+pub within-more : (w : ℕ) (s r : Summary) (left : ℕ) → r ≡ plus s (summaryOf (varying (w ∷ []) ∷ [])) → (left ≡ 0 → ⊥) → Within s left → Within r (left - 1)
+within-more w s r left f n h =
+    let q = part-small w in
     rw f (record { locals = omega (arith, h .locals, q .locals); clip = omega (arith, h .clip, q .clip); built-in = omega (arith, h .built-in, q .built-in) })
 
 -- ---- one pass
@@ -233,12 +230,12 @@ pub summary-start : (vs : List Varying) (s : Summary) → s ≡ nothing → summ
 summary-start vs s e = rw e (plus-start vs)
 
 module _ (ws : List ℕ) (k at : ℕ) (s goal : Summary) (inv : goal ≡ plus s (summaryOf (varyings k (drop at ws)))) where
-  pub summary-onward : (w : ℕ) (p r : Summary) (width : ℕ) → (k ≡ 0 → ⊥) → w ≡ wordAt ws at → p ≡ summaryOf (varying (w ∷ []) ∷ []) → r ≡ plus s p
+  pub summary-onward : (w : ℕ) (r : Summary) (width : ℕ) → (k ≡ 0 → ⊥) → w ≡ wordAt ws at → r ≡ plus s (summaryOf (varying (w ∷ []) ∷ []))
       → width ≡ varyingWidth (w ∷ []) → goal ≡ plus r (summaryOf (varyings (k - 1) (drop (at + width) ws)))
-  summary-onward w p r width h d e f x =
-      let part : p ≡ summaryOf (varying (drop at ws) ∷ []) = e ∙ first-summary ws at w d in
+  summary-onward w r width h d f x =
       let others : List Varying = varyings (k - 1) (drop (at + width) ws) in
-      inv ∙ rw (varyings-left ws k at h, ← width-there ws at w d, ← x) (plus-more s (varying (drop at ws)) others ∙ rw (← part, f))
+      inv ∙ rw (varyings-left ws k at h, ← varying-width ws at w d, ← x)
+      (plus-more s (varying (drop at ws)) others ∙ rw (← first-summary ws at w d, f))
 
   pub summary-ended : k ≡ 0 → s ≡ goal
   summary-ended h = sym (inv ∙ rw (varyings-none (drop at ws) k h) (plus-end s))
@@ -268,7 +265,7 @@ module _ (number past limit : ℕ) (ws : List ℕ) (k at : ℕ) (goal : Answer) 
     pub locations-onward : (width : ℕ) → a .number ≡ 0 → width ≡ varyingWidth (w ∷ [])
         → goal ≡ locationUses number past limit (varyings (k - 1) (drop (at + width) ws))
     unfolding locationUses
-    locations-onward width z x = inv ∙ rw (varyings-left ws k at h, ← use-is, eq-eqb (a .number) 0 z, ← width-there ws at w d, x)
+    locations-onward width z x = inv ∙ rw (varyings-left ws k at h, ← use-is, eq-eqb (a .number) 0 z, ← varying-width ws at w d, x)
 
   pub locations-ended : (a : Answer) → k ≡ 0 → a ≡ accepted → a ≡ goal
   unfolding locationUses

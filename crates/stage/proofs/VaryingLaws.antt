@@ -22,9 +22,6 @@ pub varyings-none : (ws : List ℕ) (k : ℕ) → k ≡ 0 → varyings k ws ≡ 
 unfolding varyings
 varyings-none ws k h = rw h
 
-pub varying-words : (ws : List ℕ) (at x y : ℕ) → x ≡ wordAt ws at → y ≡ wordAt ws (at + 1) → varying (x ∷ y ∷ []) ≡ varying (drop at ws)
-varying-words ws at x y e f = rw (here ws at, there ws at 1, ← e, ← f)
-
 -- as many varyings stand from a position on before the end of a pack
 pub record Ahead (ws : List ℕ) (n at : ℕ) : Type 0 where
   pub begins : at < length ws
@@ -40,6 +37,9 @@ module _ (ws : List ℕ) (n at : ℕ) (i : Ahead ws n at) (h : n ≡ 0 → ⊥) 
 
   pub ahead-onward : (on : ℕ) → on ≡ at + varyingWidth (drop at ws) → Ahead ws (n - 1) on
   ahead-onward on x = rw x (ahead ws (n - 1) (at + varyingWidth (drop at ws)) (ends-left ws n at (i .ends) h (varyingWidth (drop at ws)) refl))
+
+pub varying-words : (ws : List ℕ) (at x y : ℕ) → x ≡ wordAt ws at → y ≡ wordAt ws (at + 1) → varying (x ∷ y ∷ []) ≡ varying (drop at ws)
+varying-words ws at x y e f = rw (here ws at, there ws at 1, ← e, ← f)
 
 pub varying-width : (ws : List ℕ) (at x : ℕ) → x ≡ wordAt ws at → varyingWidth (x ∷ []) ≡ varyingWidth (drop at ws)
 varying-width ws at x e = rw (here ws at, ← e)

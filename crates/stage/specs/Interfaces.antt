@@ -337,3 +337,15 @@ summaryOf vs =
       depth = anyOf isDepth vs;
       primitive = anyOf isPrimitive vs;
     }
+
+-- what two passes gather together
+abbrev pub plus : Summary → Summary → Summary
+plus a b =
+    record {
+      locals = a .locals + b .locals;
+      «clip_places» = a .«clip_places» + b .«clip_places»;
+      «built_in_places» = a .«built_in_places» + b .«built_in_places»;
+      reach = max (a .reach) (b .reach);
+      depth = a .depth || b .depth;
+      primitive = a .primitive || b .primitive;
+    }

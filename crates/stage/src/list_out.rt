@@ -1,18 +1,19 @@
 // What a stage hands on: the list out, written over the lent words.
 ghost use mathlib.Core.Path.{_≡_};
 ghost use mathlib.Core.Bool.{true};
-ghost use mathlib.Core.List.{[]};
+ghost use mathlib.Core.List.{[], _∷_};
 ghost use Prim.Native.Nat.{_+_, _*_, _<_, _≤_};
-ghost use lib.ListN.{length, drop};
+ghost use lib.ListN.{length, drop, set};
 ghost use Rattle.varying.specs.Format.{payloadHeld};
 ghost use Rattle.lists.specs.Meaning.{every};
 ghost use Rattle.lists.specs.Format.{outFiled, decodeStage, encodeStage};
-ghost use Rattle.interface.specs.Reads.{varying, varyingWidth, varyings, standing};
+ghost use Rattle.interface.specs.Reads.{varying, varyings, standing};
 ghost use Rattle.interface.specs.Parts.{Placed, varyingsEnd};
 ghost use Rattle.stage.specs.Interfaces.{isLocal, localCount, localsOf, primitiveOut, stageOut};
 ghost use Rattle.stage.specs.Given.{Summed};
 ghost use Rattle.stage.specs.ListOut.{outputHeld, handed};
 use crate::inputs::either;
+use crate::outputs::first_width;
 use crate::types::InputWalk;
 use crate::types::Summary;
 use interface::parts::outputs_counted;
@@ -22,7 +23,6 @@ use lists::list_out::begin_out;
 use lists::list_out::insert_words;
 use lists::types::PrimitiveIndex;
 use varying::Payload;
-use word::content;
 use word::kind;
 
 // Whether a mesh stage writes a primitive index; other stages have none.
@@ -43,22 +43,18 @@ fn primitive_out(stage: ShaderStage, written: bool) -> PrimitiveIndex
     }
 }
 
-// The output at a position: a local one is put into its place, a built-in one is passed over. The answer is where the next one begins.
-fn hand_next(pack: &[u32], at: usize, out: &mut [u32]) -> usize
-    requires { ⌜ (at + 1 < length (now pack)) × (length (now pack) ≤ 4096) ⌝ }
-    requires { ⌜ (outFiled (now out) ≡ true) × (outputHeld (varying (drop at (now pack))) ≡ true) ⌝ }
-    requires { ⌜ length (decodeStage (now out) .varyings) + isLocal (varying (drop at (now pack))) ≤ 63 ⌝ }
-    requires { ⌜ 2 * isLocal (varying (drop at (now pack))) ≤ length (decodeStage (now out) .room) ⌝ }
-    ensures { λ _. ⌜ decodeStage (now (out .exit)) ≡ handed (varying (drop at (now (pack .entry)))) (decodeStage (now (out .entry))) ⌝ }
-    ensures { λ _. ⌜ outFiled (now (out .exit)) ≡ true ⌝ }
-    ensures { λ r. ⌜ r ≡ at + varyingWidth (drop at (now (pack .entry))) ⌝ }
+// An output by its words: a local one is put into its place, a built-in one is passed over. The head is handed over, and the answer is the new one.
+fn hand_on(out: &mut [u32], head: u32, first: u32, second: u32) -> u32
+    requires { ⌜ (outFiled (set (now out) 0 head) ≡ true) × (outputHeld (varying (first ∷ second ∷ [])) ≡ true) ⌝ }
+    requires { ⌜ length (decodeStage (set (now out) 0 head) .varyings) + isLocal (varying (first ∷ second ∷ [])) ≤ 63 ⌝ }
+    requires { ⌜ 2 * isLocal (varying (first ∷ second ∷ [])) ≤ length (decodeStage (set (now out) 0 head) .room) ⌝ }
+    ensures { λ r. ⌜ decodeStage (set (now (out .exit)) 0 r) ≡ handed (varying (first ∷ second ∷ [])) (decodeStage (set (now (out .entry)) 0 head)) ⌝ }
+    ensures { λ r. ⌜ outFiled (set (now (out .exit)) 0 r) ≡ true ⌝ }
 {
-    let w = pack[at];
-    if kind(w) == 12 {
-        insert_words(out, content(w), pack[at + 1]);
-        return at + 2;
+    if kind(first) == 12 {
+        return insert_words(out, head, first, second);
     }
-    at + 1
+    head
 }
 
 // The outputs from a position on, by rising location, behind a payload and a primitive index.
@@ -81,13 +77,17 @@ pub(crate) fn write_out(
       room = drop (2 + 2 * length (localsOf (varyings n (drop from (now (pack .entry)))) [])) (now (out .entry));
     }) ⌝ }
 {
-    begin_out(out, primitive, payload);
+    let mut head = begin_out(out, primitive, payload);
     let mut at = from;
     let mut left = n;
     while left != 0 {
-        at = hand_next(pack, at, out);
+        let first = pack[at];
+        let second = pack[at + 1];
+        head = hand_on(out, head, first, second);
+        at += first_width(first);
         left -= 1;
     }
+    out[0] = head;
 }
 
 // The list out of the entry point whose parts stand at these positions.

@@ -1,6 +1,6 @@
 // Outputs of vertex and fragment stages, and the inter-stage places that both take.
 ghost use mathlib.Core.Path.{_≡_};
-ghost use mathlib.Core.Bool.{false, not, _&&_, _||_};
+ghost use mathlib.Core.Bool.{false, not, _&&_};
 ghost use mathlib.Core.List.{[], _∷_};
 ghost use Prim.Native.Nat.{_+_, _*_, _/_, _<_, _≤_, _^_, max};
 ghost use lib.ListN.{length, drop};
@@ -10,7 +10,7 @@ ghost use Rattle.interface.specs.declared.types.Varying.the-variants as Var;
 ghost use Rattle.interface.specs.Parts.{Placed, varyingsEnd};
 ghost use Rattle.stage.specs.Meaning.{both};
 ghost use Rattle.stage.specs.Given.{Summed};
-ghost use Rattle.stage.specs.Interfaces.{summaryOf, locationUse, locationUses, countUse, pointPart, vertexOutputs, fragmentPlaces, attachmentUse, placesStep};
+ghost use Rattle.stage.specs.Interfaces.{summaryOf, plus, locationUse, locationUses, countUse, pointPart, vertexOutputs, fragmentPlaces, attachmentUse, placesStep};
 use crate::inputs::either;
 use crate::types::Summary;
 use interface::parts::inputs_counted;
@@ -64,25 +64,8 @@ fn built_in_summary(w: u32) -> Summary
     }
 }
 
-// The summary of a varying, by its first word.
-fn first_summary(w: u32) -> Summary
-    ensures { λ r. ⌜ r ≡ summaryOf (varying (w ∷ []) ∷ []) ⌝ }
-{
-    if kind(w) == 12 {
-        return Summary {
-            locals: 1,
-            clip_places: 0,
-            built_in_places: 0,
-            reach: content(w) + 1,
-            depth: false,
-            primitive: false,
-        };
-    }
-    built_in_summary(w)
-}
-
 // How many words a varying takes, by its first word.
-fn first_width(w: u32) -> usize
+pub(crate) fn first_width(w: u32) -> usize
     ensures { λ r. ⌜ r ≡ varyingWidth (w ∷ []) ⌝ }
     ensures { λ r. ⌜ r ≤ 2 ⌝ }
 {
@@ -105,14 +88,7 @@ fn larger(a: u32, b: u32) -> u32
 fn joined(a: Summary, b: Summary) -> Summary
     requires { ⌜ (a .locals < 2 ^ 31) × (a .«clip_places» < 2 ^ 31) × (a .«built_in_places» < 2 ^ 31) ⌝ }
     requires { ⌜ (b .locals < 2 ^ 31) × (b .«clip_places» < 2 ^ 31) × (b .«built_in_places» < 2 ^ 31) ⌝ }
-    ensures { λ r. ⌜ r ≡ record {
-      locals = a .locals + b .locals;
-      «clip_places» = a .«clip_places» + b .«clip_places»;
-      «built_in_places» = a .«built_in_places» + b .«built_in_places»;
-      reach = max (a .reach) (b .reach);
-      depth = a .depth || b .depth;
-      primitive = a .primitive || b .primitive;
-    } ⌝ }
+    ensures { λ r. ⌜ r ≡ plus a b ⌝ }
 {
     Summary {
         locals: a.locals + b.locals,
@@ -122,6 +98,24 @@ fn joined(a: Summary, b: Summary) -> Summary
         depth: either(a.depth, b.depth),
         primitive: either(a.primitive, b.primitive),
     }
+}
+
+// A summary with one varying more, by its first word.
+fn with_next(s: Summary, w: u32) -> Summary
+    requires { ⌜ (s .locals < 2 ^ 31) × (s .«clip_places» < 2 ^ 31) × (s .«built_in_places» < 2 ^ 31) ⌝ }
+    ensures { λ r. ⌜ r ≡ plus s (summaryOf (varying (w ∷ []) ∷ [])) ⌝ }
+{
+    if kind(w) == 12 {
+        return Summary {
+            locals: s.locals + 1,
+            clip_places: s.clip_places,
+            built_in_places: s.built_in_places,
+            reach: larger(s.reach, content(w) + 1),
+            depth: s.depth,
+            primitive: s.primitive,
+        };
+    }
+    joined(s, built_in_summary(w))
 }
 
 // What stands among the varyings from a position on, in one pass.
@@ -135,8 +129,7 @@ pub(crate) fn summary(pack: &[u32], from: usize, n: usize) -> Summary
     let mut left = n;
     while left != 0 {
         let w = pack[at];
-        let part = first_summary(w);
-        s = joined(s, part);
+        s = with_next(s, w);
         at += first_width(w);
         left -= 1;
     }

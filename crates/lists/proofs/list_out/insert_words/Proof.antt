@@ -1,4 +1,4 @@
-use Rattle.lists.proofs.OutStores.{head-there, located-below, located-filed, out-fits, out-good, out-rises, head-sum, out-first, out-inserted, inserted-decoded, inserted-filed}
+use Rattle.lists.proofs.OutStores.{located-filed, out-fits, out-good, out-rises, head-sum, out-inserted, inserted-decoded, inserted-filed}
 use borrow.Author.Needs.{needs}
 use Rattle.lists.proofs.list_out.insert_words.Statement.{statement}
 use Rattle.lists.proofs.list_out.insert_words.Tie as tie
@@ -7,11 +7,9 @@ pub insert-words-spec : {M : Type 1} → statement M
 insert-words-spec =
     tie.close
     (tie.spec
-    (λ c κs. search head-there)  -- counted-requires
-    (λ c. search head-there)  -- slice-read-head
+    (λ c. search needs)  -- cast-n
     (λ c κs. search needs)  -- var-word-requires
-    (λ c κs. ((search out-fits, search needs, search out-good), (search located-below, search located-filed, search out-rises)))  -- place-last-requires
-    (λ c. search head-sum)  -- add-out
-    (λ c. search out-first)  -- slice-write-out
+    (λ c κs. ((search out-fits, search needs, search out-good), (search needs, search located-filed, search out-rises)))  -- place-last-requires
+    (λ c. search head-sum)  -- add-result
     (λ c. search needs)  -- same-length
     (λ c. (search out-inserted, (search (inserted-decoded, out-inserted), search (inserted-filed, out-inserted)))))  -- returns

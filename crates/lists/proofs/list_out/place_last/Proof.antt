@@ -7,12 +7,11 @@ pub place-last-spec : {M : Type 1} → statement M
 place-last-spec =
     tie.close
     (tie.spec
-    (λ c. search needs)  -- mul-if2
-    (λ c. search needs)  -- mul-if2-2
-    (λ c. search needs)  -- slice-read-if2
+    (λ c. search needs)  -- mul-if1
+    (λ c. search needs)  -- mul-if1-2
+    (λ c. search needs)  -- slice-read-if1
     (λ c. search needs)  -- mul-store-two
     (λ c. search needs)  -- add-store-two
-    (λ c. search needs)  -- add-store-two-2
     (λ c κs. search needs)  -- store-two-requires
     (λ c. search needs)  -- same-length
     (λ c. (search (last-placed, var-again), (search last-counted, search needs)))  -- returns

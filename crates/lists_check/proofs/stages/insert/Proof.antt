@@ -1,4 +1,4 @@
-use Rattle.lists_check.proofs.Tested.{passed, located-fits, list-out, variables-few, room-enough}
+use Rattle.lists_check.proofs.Tested.{located-fits, head-there, head-stays, list-out, variables-few, room-enough}
 use borrow.Author.Needs.{needs}
 use Rattle.lists_check.proofs.stages.insert.Statement.{statement}
 use Rattle.lists_check.proofs.stages.insert.Tie as tie
@@ -18,7 +18,10 @@ insert-spec =
     (λ c κs. search needs)  -- nothing-requires-3
     (λ c. search needs)  -- same-length-3
     (λ c. search needs)  -- returns-3
-    (λ c κs. ((list-out _ (search passed), search located-fits), (variables-few _ (search passed), room-enough _ (search passed))))  -- insert-words-requires
+    (λ c. search head-there)  -- slice-read-head
+    (λ c. search needs)  -- add-insert-words
+    (λ c κs. (search list-out, ((search needs, search located-fits), (search variables-few, search room-enough))))  -- insert-words-requires
+    (λ c. search head-stays)  -- slice-write-l
     (λ c κs. search needs)  -- yes-no-requires
     (λ c. search needs)  -- same-length-4
     (λ c. search needs))  -- returns-4

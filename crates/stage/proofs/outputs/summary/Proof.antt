@@ -1,9 +1,9 @@
 use mathlib.Core.Path.{_≡_}
 use lib.ListN.{drop}
 use Rattle.interface.specs.Reads.{varyings}
-use Rattle.stage.specs.Interfaces.{summaryOf}
+use Rattle.stage.specs.Interfaces.{summaryOf, plus}
 use Rattle.stage.proofs.VaryingLaws.{Ahead, ahead}
-use Rattle.stage.proofs.OutputLaws.{ahead-by, plus, Within, within-start, within-more, part-locals, part-clip, part-built-in, summary-start, summary-onward, summary-ended}
+use Rattle.stage.proofs.OutputLaws.{ahead-by, Within, within-start, within-more, summary-start, summary-onward, summary-ended}
 use borrow.Author.Needs.{needs}
 use Rattle.stage.proofs.outputs.summary.Statement.{statement}
 use Rattle.stage.proofs.outputs.summary.Tie as tie
@@ -25,8 +25,7 @@ summary-spec =
     (λ c. (search ahead, search within-start, search summary-start))  -- loop-holds
     (λ c. search needs)  -- mul-w
     (λ c. search needs)  -- shared-slice-read-w
-    (λ c κs. search needs)  -- first-summary-requires
-    (λ c κs. (search needs, (search part-locals, search part-clip, search part-built-in)))  -- joined-requires
+    (λ c κs. search needs)  -- with-next-requires
     (λ c κs. search needs)  -- first-width-requires
     (λ c. search needs)  -- add-at
     (λ c. search needs)  -- sub-left
