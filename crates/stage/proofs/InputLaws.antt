@@ -124,13 +124,6 @@ module _ (x y : ℕ) (t : Bool) (ht : t ≡ locationFiled x) where
         → m ≡ pick (locationFiled x) (metLocal (varOf y) w) (metBuiltIn (builtInOf x) w)
     past-built-in b is hb e = rw (← ht, is, ← hb) e
 
-  module _ (at : ℕ) where
-    pub behind-local : t ≡ true → at + 2 ≡ at + varyingWidth (x ∷ [])
-    behind-local is = rw (← ht, is)
-
-    pub behind-built-in : t ≡ false → at + 1 ≡ at + varyingWidth (x ∷ [])
-    behind-built-in is = rw (← ht, is)
-
 module _ (stage : ShaderStage) (provided : List Located) (x y number : ℕ) (w : InputWalk) (a : Answer)
     (hn : number ≡ pick (locationFiled x) (inputNumber stage (varOf y) (varyingAt (contentOf x) provided)) 0) where
   pub value-refused : (location : ℕ) → (number ≡ 0 → ⊥) → location ≡ contentOf x → a ≡ answer number location 0 0

@@ -33,7 +33,8 @@ use Rattle.stage.specs.Given.{Summed}
 use Rattle.stage.specs.ListOut.{outputHeld, handed}
 use Rattle.stage.specs.declared.types.InputWalk.{InputWalk}
 use Rattle.stage.specs.declared.types.Summary.{Summary}
-use Rattle.stage.proofs.VaryingLaws.{varyings-left, varyings-none, varying-words, varying-width}
+use Rattle.interface.proofs.ReadsWays.{width-there}
+use Rattle.stage.proofs.VaryingLaws.{varyings-left, varyings-none, varying-words}
 
 module _ (stage : ShaderStage) (w : Bool) where
   pub mesh-written : stage ≡ Stage.Mesh → w ≡ true → Index.True ≡ primitiveOut stage w
@@ -181,7 +182,7 @@ module _ (ws : List ℕ) (k at x y : ℕ) (h : k ≡ 0 → ⊥) (ex : x ≡ word
 module _ (ws : List ℕ) (k at x y width : ℕ) (out : List ℕ) (T : StageIo) (e : T ≡ handed (varying (x ∷ y ∷ [])) (decodeStage out))
     (ex : x ≡ wordAt ws at) (ey : y ≡ wordAt ws (at + 1)) (d : width ≡ varyingWidth (x ∷ [])) (h : k ≡ 0 → ⊥) where
   others : varyings k (drop at ws) ≡ varying (x ∷ y ∷ []) ∷ varyings (k - 1) (drop (at + width) ws)
-  others = these ws k at x y h ex ey ∙ rw (d, varying-width ws at x ex)
+  others = these ws k at x y h ex ey ∙ rw (d, width-there ws at x ex)
 
   pub roomy-onward : outFiled out ≡ true → Roomy (varyings k (drop at ws)) (decodeStage out) → Roomy (varyings (k - 1) (drop (at + width) ws)) T
   roomy-onward f r =

@@ -31,7 +31,8 @@ use Rattle.stage.specs.Meaning.{Request, both}
 use Rattle.stage.specs.Given.{Summed}
 use Rattle.stage.specs.Interfaces.{isLocal, clipPart, builtInPart, isDepth, isPrimitive, reachPart, localCount, clipPlaces, builtInPlaces, reachOf, anyOf, summaryOf, plus, locationUse, locationUses, countUse, pointPart, vertexOutputs, fragmentPlaces, attachmentUse, fragmentOutputs, placesStep}
 use Rattle.stage.specs.declared.types.Summary.{Summary}
-use Rattle.stage.proofs.VaryingLaws.{varyings-left, varyings-none, varying-width, Ahead, ahead-onward}
+use Rattle.interface.proofs.ReadsWays.{width-there}
+use Rattle.stage.proofs.VaryingLaws.{varyings-left, varyings-none, Ahead, ahead-onward}
 
 -- ---- summaries
 
@@ -143,16 +144,10 @@ module _ (w k : ℕ) (ek : k ≡ kindOf w) where
       → r ≡ plus s (summaryOf (varying (w ∷ []) ∷ []))
   with-built-in s p r n e f = rw (← ek, ne-eqb k 12 n, ← e) f
 
-  pub width-local : k ≡ 12 → 2 ≡ varyingWidth (w ∷ [])
-  width-local h = rw (← ek, eq-eqb k 12 h)
-
-  pub width-built-in : (k ≡ 12 → ⊥) → 1 ≡ varyingWidth (w ∷ [])
-  width-built-in n = rw (← ek, ne-eqb k 12 n)
-
 -- the type of a local variable does not matter
 module _ (ws : List ℕ) (at w : ℕ) (ew : w ≡ wordAt ws at) where
   pub ahead-by : (n width : ℕ) → Ahead ws n at → (n ≡ 0 → ⊥) → width ≡ varyingWidth (w ∷ []) → Ahead ws (n - 1) (at + width)
-  ahead-by n width i h x = ahead-onward ws n at i h (at + width) (rw (x, varying-width ws at w ew))
+  ahead-by n width i h x = ahead-onward ws n at i h (at + width) (rw (x, width-there ws at w ew))
 
   first-summary : summaryOf (varying (w ∷ []) ∷ []) ≡ summaryOf (varying (drop at ws) ∷ [])
   first-summary =
@@ -234,7 +229,7 @@ module _ (ws : List ℕ) (k at : ℕ) (s goal : Summary) (inv : goal ≡ plus s 
       → width ≡ varyingWidth (w ∷ []) → goal ≡ plus r (summaryOf (varyings (k - 1) (drop (at + width) ws)))
   summary-onward w r width h d f x =
       let others : List Varying = varyings (k - 1) (drop (at + width) ws) in
-      inv ∙ rw (varyings-left ws k at h, ← varying-width ws at w d, ← x)
+      inv ∙ rw (varyings-left ws k at h, ← width-there ws at w d, ← x)
       (plus-more s (varying (drop at ws)) others ∙ rw (← first-summary ws at w d, f))
 
   pub summary-ended : k ≡ 0 → s ≡ goal
@@ -265,7 +260,7 @@ module _ (number past limit : ℕ) (ws : List ℕ) (k at : ℕ) (goal : Answer) 
     pub locations-onward : (width : ℕ) → a .number ≡ 0 → width ≡ varyingWidth (w ∷ [])
         → goal ≡ locationUses number past limit (varyings (k - 1) (drop (at + width) ws))
     unfolding locationUses
-    locations-onward width z x = inv ∙ rw (varyings-left ws k at h, ← use-is, eq-eqb (a .number) 0 z, ← varying-width ws at w d, x)
+    locations-onward width z x = inv ∙ rw (varyings-left ws k at h, ← use-is, eq-eqb (a .number) 0 z, ← width-there ws at w d, x)
 
   pub locations-ended : (a : Answer) → k ≡ 0 → a ≡ accepted → a ≡ goal
   unfolding locationUses

@@ -40,6 +40,3 @@ module _ (ws : List ℕ) (n at : ℕ) (i : Ahead ws n at) (h : n ≡ 0 → ⊥) 
 
 pub varying-words : (ws : List ℕ) (at x y : ℕ) → x ≡ wordAt ws at → y ≡ wordAt ws (at + 1) → varying (x ∷ y ∷ []) ≡ varying (drop at ws)
 varying-words ws at x y e f = rw (here ws at, there ws at 1, ← e, ← f)
-
-pub varying-width : (ws : List ℕ) (at x : ℕ) → x ≡ wordAt ws at → varyingWidth (x ∷ []) ≡ varyingWidth (drop at ws)
-varying-width ws at x e = rw (here ws at, ← e)

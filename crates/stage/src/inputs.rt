@@ -18,6 +18,7 @@ ghost use Rattle.stage.specs.Interfaces.{vertexInput, fragmentInput, inp
 use crate::types::InputWalk;
 use crate::types::Walked;
 use interface::reads::built_in_of;
+use interface::reads::varying_width;
 use interface::types::BuiltIn;
 use interface::types::ShaderStage;
 use lists::stage_io::find_location;
@@ -239,10 +240,7 @@ fn past_input(first: u32, at: usize) -> usize
     requires { ⌜ at < 2 ^ 60 ⌝ }
     ensures { λ r. ⌜ r ≡ at + varyingWidth (first ∷ []) ⌝ }
 {
-    if location_filed(first) {
-        return at + 2;
-    }
-    at + 1
+    at + varying_width(first)
 }
 
 // Each input in order, until one is refused.

@@ -13,10 +13,10 @@ ghost use Rattle.stage.specs.Interfaces.{isLocal, localCount, localsOf, 
 ghost use Rattle.stage.specs.Given.{Summed};
 ghost use Rattle.stage.specs.ListOut.{outputHeld, handed};
 use crate::inputs::either;
-use crate::outputs::first_width;
 use crate::types::InputWalk;
 use crate::types::Summary;
 use interface::parts::outputs_counted;
+use interface::reads::varying_width;
 use interface::types::EntryParts;
 use interface::types::ShaderStage;
 use lists::list_out::begin_out;
@@ -84,7 +84,7 @@ pub(crate) fn write_out(
         let first = pack[at];
         let second = pack[at + 1];
         head = hand_on(out, head, first, second);
-        at += first_width(first);
+        at += varying_width(first);
         left -= 1;
     }
     out[0] = head;

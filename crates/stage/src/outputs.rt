@@ -15,6 +15,7 @@ use crate::inputs::either;
 use crate::types::Summary;
 use interface::parts::inputs_counted;
 use interface::parts::outputs_counted;
+use interface::reads::varying_width;
 use interface::types::EntryParts;
 use interface::types::Limits;
 use interface::types::ShaderStage;
@@ -62,17 +63,6 @@ fn built_in_summary(w: u32) -> Summary
         depth: false,
         primitive: false,
     }
-}
-
-// How many words a varying takes, by its first word.
-pub(crate) fn first_width(w: u32) -> usize
-    ensures { λ r. ⌜ r ≡ varyingWidth (w ∷ []) ⌝ }
-    ensures { λ r. ⌜ r ≤ 2 ⌝ }
-{
-    if kind(w) == 12 {
-        return 2;
-    }
-    1
 }
 
 fn larger(a: u32, b: u32) -> u32
@@ -130,7 +120,7 @@ pub(crate) fn summary(pack: &[u32], from: usize, n: usize) -> Summary
     while left != 0 {
         let w = pack[at];
         s = with_next(s, w);
-        at += first_width(w);
+        at += varying_width(w);
         left -= 1;
     }
     s
@@ -180,7 +170,7 @@ pub(crate) fn location_uses(
         if a.number != 0 {
             return a;
         }
-        at += first_width(w);
+        at += varying_width(w);
         left -= 1;
     }
     Answer::accepted()

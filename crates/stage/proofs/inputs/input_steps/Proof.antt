@@ -73,7 +73,8 @@ use Rattle.stage.specs.declared.types.Walked.{Walked}
 use Rattle.stage.proofs.types.Walked as S
 use Rattle.stage.proofs.types.Walked.Laws as S′
 use Rattle.stage.proofs.LendLaws.{stage-vals, val, mach, lies, taken}
-use Rattle.stage.proofs.VaryingLaws.{varying-words, varying-width}
+use Rattle.interface.proofs.ReadsWays.{width-there}
+use Rattle.stage.proofs.VaryingLaws.{varying-words}
 use Rattle.stage.proofs.InputLaws.{inputs-refused, inputs-onward, inputs-ended, locals-left}
 use Rattle.stage.proofs.inputs.word_in as reads
 use Rattle.stage.proofs.inputs.word_in.Symbol as reads-def
@@ -390,7 +391,7 @@ module _ {M : Type 1} (𝓤 : URA M) (H : Heap 𝓤) (A : Atoms 𝓤) (W : Given
         onward : (y z : ℕ) (r : Answer) (w : InputWalk) (j : ℕ) → y ≡ wordAt (now s) i → z ≡ wordAt (now s) (i + 1) → Ensured l₆ h y z r w → r .number ≡ 0 → j ≡ i + varyingWidth (y ∷ []) → Is T.the-row w (mach w) → Inv (k - 1) j w
         onward y z r w j ey ez e none ej is-w =
             let step : made w r ≡ inputStep g provided (varying (y ∷ z ∷ [])) h = λ a. made (e .1 a) (e .0 a) in
-            let wide : varyingWidth (y ∷ []) ≡ varyingWidth (drop-list i (now s)) = varying-width (now s) i y ey in
+            let wide : varyingWidth (y ∷ []) ≡ varyingWidth (drop-list i (now s)) = width-there (now s) i y ey in
             (rw ej (varyings-left (now s) k i ends more-left (varyingWidth (y ∷ [])) wide), (locals-left g provided (varying (y ∷ z ∷ [])) h (made w r) k step more-left few-left, (is-w, inputs-onward g provided (now s) k i h goal inv (varying (y ∷ z ∷ [])) (made w r) more-left (varying-words (now s) i y z ey ez) step j none (ej ∙ ap (λ (v : ℕ). i + v) wide))))
 
     turns : (st : State) → Sq W (At st) (runs C Λ En pieces.turn-1 (anyQ (Turned st)))

@@ -1,4 +1,3 @@
-use Rattle.stage.proofs.InputLaws.{behind-local, behind-built-in}
 use borrow.Author.Needs.{needs}
 use Rattle.stage.proofs.inputs.past_input.Statement.{statement}
 use Rattle.stage.proofs.inputs.past_input.Tie as tie
@@ -7,8 +6,6 @@ pub past-input-spec : {M : Type 1} → statement M
 past-input-spec =
     tie.close
     (tie.spec
-    (λ c κs. search needs)  -- location-filed-requires
+    (λ c κs. search needs)  -- varying-width-requires
     (λ c. search needs)  -- add
-    (λ c. search behind-local)  -- returns
-    (λ c. search needs)  -- add-2
-    (λ c. search behind-built-in))  -- returns-2
+    (λ c. search needs))  -- returns

@@ -32,7 +32,7 @@ write-out-spec =
     (λ c. search needs)  -- mul-second
     (λ c. search second-there)  -- shared-slice-read-second
     (λ c κs. ((search needs, search next-held), (search next-few, search next-room)))  -- hand-on-requires
-    (λ c κs. search needs)  -- first-width-requires
+    (λ c κs. search needs)  -- varying-width-requires
     (λ c. search needs)  -- add-at
     (λ c. search needs)  -- sub-left
     (λ c. search needs)  -- loop-less

@@ -26,7 +26,7 @@ summary-spec =
     (λ c. search needs)  -- mul-w
     (λ c. search needs)  -- shared-slice-read-w
     (λ c κs. search needs)  -- with-next-requires
-    (λ c κs. search needs)  -- first-width-requires
+    (λ c κs. search needs)  -- varying-width-requires
     (λ c. search needs)  -- add-at
     (λ c. search needs)  -- sub-left
     (λ c. search needs)  -- loop-less
