@@ -56,20 +56,28 @@ module _ (ws : List ℕ) (h : decodedNumber (decode ws) ≡ 0) (left at : ℕ) (
   pub entries-begin : interfaceOf (decode ws) .entries ≡ left-of ws left at
   entries-begin = rw (hl, ha) (accepted ws h .entries)
 
-  pub ends-begin : endFrom (entryEnd ws) left at ≤ length ws
-  ends-begin = rw (hl, ha) (omega (arith, accepted ws h .ends))
+  pub ends-begin : endFrom (entryEnd ws) left at < length ws
+  ends-begin = rw (hl, ha) (accepted ws h .ends)
 
-module _ (ws : List ℕ) (left at : ℕ) (ends : endFrom (entryEnd ws) left at ≤ length ws) (h : left ≡ 0 → ⊥) where
-  pub ends-onward : (next : ℕ) → next ≡ entryEnd ws at → endFrom (entryEnd ws) (left - 1) next ≤ length ws
+pub short-pack : (ws : List ℕ) → decodedNumber (decode ws) ≡ 0 → length ws ≤ 4096
+short-pack ws h = accepted ws h .short
+
+module _ (ws : List ℕ) (left at : ℕ) (ends : endFrom (entryEnd ws) left at < length ws) (h : left ≡ 0 → ⊥) where
+  pub ends-onward : (next : ℕ) → next ≡ entryEnd ws at → endFrom (entryEnd ws) (left - 1) next < length ws
   ends-onward next e = rw e (rw (end-left (entryEnd ws) left at h) at ends)
+
+  pub entry-within : entryEnd ws at < length ws
+  entry-within = omega (arith, past (entryEnd ws) (head-past ws) (left - 1) (entryEnd ws at), end-left (entryEnd ws) left at h)
+
+  pub head-within : at < length ws
+  head-within = omega (arith, head-past ws at, entry-within)
 
   workgroup-outputs : workgroupAt ws at ≤ partsAt ws at .outputs
   unfolding partsAt
   workgroup-outputs = omega (arith, varyings-past ws (bits 11 6 (wordAt ws (countsAt ws at))) (inputsAt ws (countsAt ws at)))
 
   pub name-within : workgroupAt ws at ≤ length ws
-  name-within =
-      omega (arith, workgroup-outputs, outputs-past ws at, past (entryEnd ws) (head-past ws) (left - 1) (entryEnd ws at), end-left (entryEnd ws) left at h)
+  name-within = omega (arith, workgroup-outputs, outputs-past ws at, entry-within)
 
 -- ---- by stage and name
 

@@ -1,11 +1,11 @@
-use Prim.Native.Nat.{_+_, _*_, _≤_}
+use Prim.Native.Nat.{_+_, _*_, _<_, _≤_}
 use mathlib.Core.Path.{_≡_}
 use mathlib.Core.List.{[]}
 use lib.ListN.{length, take, drop}
 use Rattle.interface.specs.Format.{decode}
 use Rattle.interface.specs.Reads.{interfaceOf}
 use Rattle.interface.specs.Parts.{endFrom, entryEnd}
-use Rattle.interface.proofs.ReadsChoice.{left-of, entries-begin, ends-begin, ends-onward, name-within}
+use Rattle.interface.proofs.ReadsChoice.{left-of, entries-begin, ends-begin, short-pack, ends-onward, entry-within, head-within, name-within}
 use Rattle.report.specs.Report.{ran, runEntries}
 use Rattle.report.proofs.Running.{run-begin, run-onward, run-ended, behind-onward}
 use borrow.Author.Needs.{needs}
@@ -14,7 +14,7 @@ use Rattle.report.proofs.run.run_entries.Tie as tie
 
 abbrev Inv-loop : tie.InvT-loop
 Inv-loop pack layout₀ io₀ text₀ at₀ head₀ left₀ layout io text at head left =
-    (left ≤ 16) × (head + 512 * left ≤ 8592) × (at + 55 * left ≤ 880) × (endFrom (entryEnd pack) left head ≤ length pack)
+    (left ≤ 16) × (length pack ≤ 4096) × (at + 55 * left ≤ 880) × (endFrom (entryEnd pack) left head < length pack)
     × (length layout ≡ length layout₀) × (length io ≡ 128) × (length text ≡ length text₀) × (drop at text ≡ drop at text₀)
     × (runEntries pack (interfaceOf (decode pack) .entries) (ran layout₀ io₀ []) ≡ runEntries pack (left-of pack left head) (ran layout io (take at text)))
 
@@ -29,9 +29,9 @@ run-entries-spec =
     μ-loop
     (λ c κs. search needs)  -- entries-at-requires
     (λ c κs. search needs)  -- entry-count-requires
-    (λ c. (search needs, search needs, search needs, search ends-begin, search needs, search needs, search needs, search needs, search (run-begin, entries-begin)))  -- loop-holds
+    (λ c. (search needs, search short-pack, search needs, search ends-begin, search needs, search needs, search needs, search needs, search (run-begin, entries-begin)))  -- loop-holds
     (λ c κs. (search name-within, search needs, search needs))  -- run-entry-requires
-    (λ c κs. search needs)  -- entry-end-requires
+    (λ c κs. (search head-within, search entry-within, search needs))  -- entry-end-requires
     (λ c. search needs)  -- sub-left
     (λ c. search needs)  -- loop-less
     (λ c. (search needs, search needs, search needs, search ends-onward, search needs, search needs, search needs, search behind-onward, search run-onward))  -- loop-again
