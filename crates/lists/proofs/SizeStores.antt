@@ -1,10 +1,11 @@
 -- What the code's stores into a size list make of it.
-use Prim.Native.Nat.{ℕ, suc, _+_, _-_, _*_, _^_, _<_, _≤_, max}
+use Prim.Native.Nat.{ℕ, suc, _+_, _-_, _*_, _%_, _^_, _<_, _≤_, max}
 use native.Mathlib.Omega.{arith}
 use mathlib.Core.Path.{_≡_, sym, ap, _∙_}
 use mathlib.Core.Bool.{Bool, true, false}
 use mathlib.Core.List.{List, [], _∷_, _++_}
 use lib.ListN.{length, drop, getD, set, length-append, length-drop, length-map}
+use lib.Seq.{drop-drop}
 use lib.Dec.{eqb}
 use borrow.Author.Tests.{eqb-true, eqb-false, ne-eqb, not-true, le-leb, lt-leb}
 use Rattle.word.specs.Words.{wordAt, kindOf, contentOf, bits, ofKind}
@@ -13,20 +14,36 @@ use Rattle.resource.specs.declared.types.ResourceBinding.{ResourceBinding}
 use Rattle.resource.proofs.ReadLaws.{place-held}
 use Rattle.resource.proofs.EntryFormat.{place-filed, place-read, place-back}
 use Rattle.word.proofs.Truth.{first, second}
-use Rattle.lists.specs.Meaning.{Sizes, placeFrom, sizePlaces, sizeHas, sizeRecord, sizeFits, recorded}
-use Rattle.lists.specs.Format.{put, past, records, each, flat, countOf, places, readSize, readSizes, sizeGood, sizeWords}
+use Rattle.lists.specs.Meaning.{Sizes, placeFrom, distinctPlaces, sizePlaces, sizeHas, sizeRecord, sizeFits, recorded}
+use Rattle.lists.specs.Format.{put, past, records, each, flat, countOf, places, readPlace, readSize, readSizes, sizeGood, sizeWords}
 use Rattle.lists.specs.Format.{sizesFiled, decodeSizes, encodeSizes, sizesGood}
 use Rattle.lists.specs.declared.types.SizeRecord.{SizeRecord}
 use Rattle.lists.specs.declared.types.Found.{Found}
 use Rattle.lists.specs.declared.types.Found.the-variants.{At, Nothing}
-use Rattle.lists.proofs.Words.{put-next, there}
+use Rattle.lists.proofs.Words.{put-next, here, there}
 use Rattle.lists.proofs.Records.{read-length, room-length, nth-record, each-nth, flat-read, put-last, set-flat}
 use Rattle.lists.proofs.Forms.{size-written, size-form}
-use Rattle.lists.proofs.PlaceLaws.{FoundAt, found-there}
-use Rattle.lists.proofs.PlaceWays.{place-found, place-lacks}
+use Rattle.lists.proofs.PlaceLaws.{FoundAt, found-there, found-nth}
+use Rattle.lists.proofs.PlaceWays.{place-found, place-lacks, content-place}
 use Rattle.lists.proofs.SizeLists.{Filed, filed, encode-decode, decode-encode, filed-encode, good-decode}
 use Rattle.lists.proofs.SizeLaws.{raised, noRecord, raised-set, length-raised, good-recorded}
 use Rattle.lists.proofs.SizeWays.{size-places}
+
+-- ---- a position that is tried first: no other record has its place
+
+module _ (s : List ℕ) (n i content : ℕ) (h : i < n) where
+  pub near-record : distinctPlaces (places 2 n (drop 1 s)) ≡ true → wordAt s (1 + 2 * i) % 0x800_0000 ≡ content
+      → At i ≡ placeFrom (placeOf content) (places 2 n (drop 1 s)) 0
+  near-record d q =
+      let ps = places 2 n (drop 1 s) in
+      let g : getD ps i (placeOf content) ≡ placeOf content
+      = nth-record 2 readPlace n i (drop 1 s) (placeOf content) h
+      ∙ rw (drop-drop (2 * i) 1 s, here s (1 + 2 * i)) (sym (content-place (wordAt s (1 + 2 * i))) ∙ ap placeOf q) in
+      let z : 0 + i ≡ i = omega arith in
+      sym (rw (g, z) at (found-nth ps 0 i (placeOf content) d (omega (arith, read-length 2 readPlace n (drop 1 s)))))
+
+pub sizes-differ : (s : List ℕ) (n : ℕ) → sizesFiled s ≡ true → n ≡ countOf s → distinctPlaces (places 2 n (drop 1 s)) ≡ true
+sizes-differ s n f e = rw e (rw (size-places (countOf s) (drop 1 s)) at (filed s f .distinct))
 
 -- ---- where the place is
 
@@ -60,6 +77,12 @@ module _ (s : List ℕ) (place : ResourceBinding) (n : ℕ) (r : Found) (en : n 
 
       pub index-scaled : 2 * i < 2 ^ 64
       index-scaled = omega (arith, filed s f .holds, filed s f .short, size-below)
+
+      pub index-next : i + 1 < 2 ^ 64
+      index-next = omega (arith, filed s f .holds, filed s f .short, size-below)
+
+      pub index-few : i + 1 < 2 ^ 16
+      index-few = omega (arith, filed s f .holds, filed s f .short, size-below)
 
       pub index-placed : 2 * i + 2 < 2 ^ 64
       index-placed = omega (arith, filed s f .holds, filed s f .short, size-below)

@@ -5,8 +5,8 @@ ghost use Prim.Native.Nat.{_+_, _*_, _<_, _≤_, _^_};
 ghost use lib.ListN.{length, drop};
 ghost use Rattle.word.specs.Words.{contentOf};
 ghost use Rattle.resource.specs.Format.{placeFiled, placeOf, placeHeld, sizeFiled};
-ghost use Rattle.lists.specs.Meaning.{sizeHas, sizeFits, recorded};
-ghost use Rattle.lists.specs.Format.{countOf, each, sizeGood, sizesHead, sizesFiled, decodeSizes, encodeSizes};
+ghost use Rattle.lists.specs.Meaning.{placeFrom, distinctPlaces, foundBelow, sizeHas, sizeFits, recorded};
+ghost use Rattle.lists.specs.Format.{countOf, places, each, sizeGood, sizesHead, sizesFiled, decodeSizes, encodeSizes};
 use crate::heads::counted;
 use crate::places::distinct_places;
 use crate::places::find_within;
@@ -95,8 +95,29 @@ fn push_size(s: &mut [u32], place: u32, size: u32) -> bool
     true
 }
 
+// Which of as many records has the place that a word's content tells, tried at a position first.
+fn find_near(s: &[u32], n: usize, content: u32, near: usize) -> Found
+    requires { ⌜ (n < 2 ^ 32) × (1 + 2 * n ≤ length (now s)) × (content < 2 ^ 27) ⌝ }
+    requires { ⌜ distinctPlaces (places 2 n (drop 1 (now s))) ≡ true ⌝ }
+    ensures { λ r. ⌜ r ≡ placeFrom (placeOf content) (places 2 n (drop 1 (now (s .entry)))) 0 ⌝ }
+    ensures { λ r. ⌜ foundBelow n r ≡ true ⌝ }
+{
+    if near < n {
+        if s[1 + 2 * near] % 0x800_0000 == content {
+            return Found::At { index: near };
+        }
+    }
+    find_within(s, 1, n, 2, content)
+}
+
+// The position that was noted.
+fn noted(next: &[u16; 1]) -> u16 {
+    next[0]
+}
+
 // A size recorded at a place, by the words of both: the larger where the place has a record, else a new one where there is room.
-pub fn record_words(s: &mut [u32], place: u32, size: u32) -> bool
+// Records mostly stand in the order in which they are asked for: the position behind the last is noted and tried first.
+pub fn record_words(s: &mut [u32], place: u32, size: u32, next: &mut [u16; 1]) -> bool
     requires { ⌜ sizesFiled (now s) ≡ true ⌝ }
     requires { ⌜ (placeFiled place ≡ true) × (sizeFiled size ≡ true) ⌝ }
     ensures { λ r. ⌜ r ≡ sizeFits (placeOf place) (decodeSizes (now (s .entry))) ⌝ }
@@ -104,8 +125,9 @@ pub fn record_words(s: &mut [u32], place: u32, size: u32) -> bool
     ensures { λ r. ⌜ decodeSizes (now (s .exit)) ≡ recorded (placeOf place) (contentOf size) (decodeSizes (now (s .entry))) ⌝ }
     ensures { λ r. ⌜ sizesFiled (now (s .exit)) ≡ true ⌝ }
 {
-    match find_within(s, 1, counted(s), 2, content(place)) {
+    match find_near(s, counted(s), content(place), noted(next) as usize) {
         Found::At { index } => {
+            next[0] = (index + 1) as u16;
             raise_word(s, 2 * index + 2, size);
             true
         }
@@ -123,5 +145,6 @@ pub fn record_size(s: &mut [u32], place: ResourceBinding, size: u64) -> bool
     ensures { λ r. ⌜ decodeSizes (now (s .exit)) ≡ recorded place size (decodeSizes (now (s .entry))) ⌝ }
     ensures { λ r. ⌜ sizesFiled (now (s .exit)) ≡ true ⌝ }
 {
-    record_words(s, place_word(place), 0x3000_0000 + size as u32)
+    let mut next: [u16; 1] = [0; 1];
+    record_words(s, place_word(place), 0x3000_0000 + size as u32, &mut next)
 }

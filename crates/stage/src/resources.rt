@@ -79,7 +79,7 @@ fn note(entries: &mut [u8; 128], i: u32, found: Found)
 // ---- provided
 
 // Records the size that a buffer asks for; a list without room is 5.
-fn record_size(place: u32, w: u32, size: u32, sizes: &mut [u32]) -> Answer
+fn record_size(place: u32, w: u32, size: u32, next: &mut [u16; 1], sizes: &mut [u32]) -> Answer
     requires { ⌜ sizesFiled (now sizes) ≡ true ⌝ }
     requires { ⌜ typeHeld (resourceTypeOf w (contentOf size)) ≡ true ⌝ }
     ensures { λ r. ⌜ ((L : Layout) → state r L (decodeSizes (now (sizes .exit)))
@@ -93,6 +93,7 @@ fn record_size(place: u32, w: u32, size: u32, sizes: &mut [u32]) -> Answer
         sizes,
         0x2000_0000 + content(place),
         0x3000_0000 + content(size),
+        next,
     ) {
         return Answer::accepted();
     }
@@ -140,6 +141,7 @@ fn provide_found(
     place: u32,
     w: u32,
     size: u32,
+    next: &mut [u16; 1],
     layout: &[u32],
     sizes: &mut [u32],
 ) -> Answer
@@ -151,7 +153,7 @@ fn provide_found(
         ≡ provideStep stage (resource place w (contentOf size)) (decodeLayout (now (layout .entry))) (decodeSizes (now (sizes .entry))) ⌝ }
     ensures { λ a. ⌜ sizesFiled (now (sizes .exit)) ≡ true ⌝ }
 {
-    let recorded = record_size(place, w, size, sizes);
+    let recorded = record_size(place, w, size, next, sizes);
     if recorded.number != 0 {
         return recorded;
     }
@@ -167,6 +169,7 @@ fn provide_step(
     place: u32,
     w: u32,
     size: u32,
+    next: &mut [u16; 1],
     layout: &[u32],
     sizes: &mut [u32],
 ) -> Answer
@@ -178,7 +181,7 @@ fn provide_step(
 {
     let found = find_entry_near(layout, place, near);
     note(entries, i, found);
-    provide_found(stage, found, place, w, size, layout, sizes)
+    provide_found(stage, found, place, w, size, next, layout, sizes)
 }
 
 // ---- derived
@@ -318,6 +321,7 @@ fn resource_step(
     i: u32,
     near: usize,
     entries: &mut [u8; 128],
+    next: &mut [u16; 1],
     layout: &mut [u32],
     sizes: &mut [u32],
 ) -> Answer
@@ -338,10 +342,10 @@ fn resource_step(
         let named = named_sampled(pack, pairs_at, pairs_n, w, i);
         return derive_step(stage, named, place, w, size, layout);
     }
-    provide_step(stage, i, near, entries, place, w, size, layout, sizes)
+    provide_step(stage, i, near, entries, place, w, size, next, layout, sizes)
 }
 
-// Each resource of the entry point in list order, up to the first that is refused. Entries mostly stand in the same order.
+// Each resource of the entry point in list order, up to the first that is refused. Entries and sizes mostly stand in the same order.
 pub(crate) fn resource_steps(
     pack: &[u32],
     offsets: &[u16],
@@ -368,6 +372,7 @@ pub(crate) fn resource_steps(
     let mut at = from;
     let mut left = n;
     let mut near: usize = 0;
+    let mut next: [u16; 1] = [0; 1];
     while left != 0 {
         let i = content(pack[at]);
         let a = resource_step(
@@ -380,6 +385,7 @@ pub(crate) fn resource_steps(
             i,
             near,
             entries,
+            &mut next,
             layout,
             sizes,
         );

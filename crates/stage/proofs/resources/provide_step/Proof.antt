@@ -9,6 +9,6 @@ provide-step-spec =
     (tie.spec
     (λ c κs. search needs)  -- find-entry-near-requires
     (λ c κs. search found-few)  -- note-requires
-    (λ c κs. search needs)  -- provide-found-requires
+    (λ c κs. (search needs, (search needs, (search needs, search needs))))  -- provide-found-requires
     (λ c. search needs)  -- same-length
     (λ c. search needs))  -- returns

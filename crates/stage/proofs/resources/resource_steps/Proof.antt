@@ -12,7 +12,7 @@ use Rattle.stage.proofs.resources.resource_steps.Statement.{statement}
 use Rattle.stage.proofs.resources.resource_steps.Tie as tie
 
 abbrev Inv-loop : tie.InvT-loop
-Inv-loop pack offsets from n pairs-at pairs-n stage derived entries₀ layout₀ sizes₀ at₀ left₀ near₀ entries layout sizes at left near =
+Inv-loop pack offsets from n pairs-at pairs-n stage derived entries₀ layout₀ sizes₀ at₀ left₀ near₀ next₀ entries layout sizes at left near next =
     (at + left ≤ length pack) × (length layout ≡ length layout₀) × (length sizes ≡ length sizes₀) × (layoutFiled layout ≡ true) × (sizesFiled sizes ≡ true)
     × (eachBelow (length (resourceTable pack offsets)) (contents (take left (drop at pack))) ≡ true)
     × (resourceSteps stage derived (resourceTable pack offsets) (pairsOf (take pairs-n (drop pairs-at pack))) (contents (take n (drop from pack)))
@@ -21,7 +21,7 @@ Inv-loop pack offsets from n pairs-at pairs-n stage derived entries₀ layout₀
     (decodeLayout layout) (decodeSizes sizes))
 
 abbrev μ-loop : tie.MeasureT-loop
-μ-loop pack offsets from n pairs-at pairs-n stage derived entries₀ layout₀ sizes₀ at₀ left₀ near₀ entries layout sizes at left near = left
+μ-loop pack offsets from n pairs-at pairs-n stage derived entries₀ layout₀ sizes₀ at₀ left₀ near₀ next₀ entries layout sizes at left near next = left
 
 pub resource-steps-spec : {M : Type 1} → statement M
 resource-steps-spec =
