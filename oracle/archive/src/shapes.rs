@@ -75,10 +75,12 @@ pub struct Beside {
     pub inputs: usize,
     /// Whether the places beside share one mark, so that each is compared with all behind it.
     pub one_mark: bool,
+    /// Whether what is asked for stands in the opposite order, so that each look-up searches.
+    pub reversed: bool,
 }
 
-pub const NOTHING: Beside = Beside { layout: 0, sizes: 0, inputs: 0, one_mark: false };
-pub const FULL: Beside = Beside { layout: 255, sizes: 511, inputs: 63, one_mark: false };
+pub const NOTHING: Beside = Beside { layout: 0, sizes: 0, inputs: 0, one_mark: false, reversed: false };
+pub const FULL: Beside = Beside { layout: 255, sizes: 511, inputs: 63, one_mark: false, reversed: false };
 
 impl Beside {
     /// A place that no resource has.
@@ -88,6 +90,15 @@ impl Beside {
             (n, true) => place(0, 1024 * n),
         }
     }
+
+    /// The listed resources in the order in which the lists have them.
+    fn listed<'a>(&self, pack: &'a Pack, e: &EntryPoint) -> Vec<(u32, &'a Resource)> {
+        let mut out: Vec<_> = e.resources.iter().map(|i| (*i, &pack.resources[*i as usize])).collect();
+        if self.reversed {
+            out.reverse();
+        }
+        out
+    }
 }
 
 /// In provided mode the entries of all listed resources, in derived mode room for them, behind others.
@@ -96,9 +107,8 @@ fn layout(pack: &Pack, e: &EntryPoint, mode: u32, beside: &Beside) -> Layout {
     for i in e.resources.len()..beside.layout {
         out.entries.push(LayoutEntry { place: beside.place(i), ty: 0, least: 64, visibility: 31 });
     }
-    for index in &e.resources {
-        let r = &pack.resources[*index as usize];
-        let named = e.pairs.iter().any(|p| p.0 == *index);
+    for (index, r) in beside.listed(pack, e) {
+        let named = e.pairs.iter().any(|p| p.0 == index);
         let (ty, least) = binding::derive(r.ty, r.size, named).unwrap();
         match mode {
             0 => out.entries.push(LayoutEntry { place: r.place, ty, least, visibility: 31 }),
@@ -110,7 +120,7 @@ fn layout(pack: &Pack, e: &EntryPoint, mode: u32, beside: &Beside) -> Layout {
 
 /// Room for the records of the listed buffers, or behind others the records themselves, with a smaller size.
 fn sizes(pack: &Pack, e: &EntryPoint, mode: u32, beside: &Beside) -> Sizes {
-    let listed = e.resources.iter().map(|i| &pack.resources[*i as usize]);
+    let listed = beside.listed(pack, e).into_iter().map(|(_, r)| r);
     let buffers: Vec<&Resource> = listed.filter(|r| r.sort() == 0).collect();
     let mut out = Sizes { records: Vec::new(), free: Vec::new() };
     for i in buffers.len()..beside.sizes {
@@ -193,6 +203,7 @@ pub fn all() -> Vec<(String, StageCall)> {
         ("upper middle fragment", pack(&upper, &[0, 1, 2]), 4, NOTHING),
         ("largest", in_turn, 15, FULL),
         ("largest, most look-ups", buffers.clone(), 15, FULL),
+        ("largest, most look-ups, reversed", buffers.clone(), 15, Beside { reversed: true, ..FULL }),
         ("largest, one mark for all", buffers, 15, Beside { one_mark: true, ..FULL }),
     ];
     let mut out = Vec::new();
@@ -227,7 +238,7 @@ pub fn series() -> Vec<(String, StageCall)> {
     }
     for n in [4u32, 8, 16, 32, 63] {
         let m = Measure { resources: 2 * n, entries: 1, listed: n, pairs: n as usize / 4, varyings: n, name: 8, sorts };
-        let beside = Beside { layout: 4 * n as usize, sizes: 8 * n as usize, inputs: n as usize, one_mark: false };
+        let beside = Beside { layout: 4 * n as usize, sizes: 8 * n as usize, inputs: n as usize, one_mark: false, reversed: false };
         out.push((format!("growing entry point and lists, {n}"), call(&pack(&m, &[1]), 0, 0, beside)));
     }
     out
