@@ -16,12 +16,12 @@ use Rattle.lists.specs.Meaning.{placeFrom as lists-placeFrom, placeIn as lists-
 use Rattle.interface.specs.Format.{readVarying as interface-readVarying, clips as interface-clips, bytesOf as interface-bytesOf, noZero as interface-noZero, allZero as interface-allZero, readName as interface-readName, readWorkgroup as interface-readWorkgroup, readMesh as interface-readMesh, contents as interface-contents, member as interface-member, ofType as interface-ofType, pairsOf as interface-pairsOf, readEntryPoint as interface-readEntryPoint, sameBytes as interface-sameBytes, hasName as interface-hasName, distinctNames as interface-distinctNames, readPack as interface-readPack, torn as interface-torn, decode as interface-decode, concat as interface-concat, packName as interface-packName, entryPointWords as interface-entryPointWords, recordWords as interface-recordWords, encode as interface-encode}
 use Rattle.interface.specs.Reads.{varyings as interface-varyings, standing as interface-standing, resourcesAt as interface-resourcesAt, entryNth as interface-entryNth}
 use Rattle.interface.specs.Rules.{findFrom as interface-findFrom, onlyFrom as interface-onlyFrom, finalizeName as interface-finalizeName}
-use Rattle.stage.specs.Interfaces.{workgroupUse as stage-workgroupUse, workgroupStep as stage-workgroupStep, vertexInput as stage-vertexInput, fragmentInput as stage-fragmentInput, inputNumber as stage-inputNumber, inputStep as stage-inputStep, inputSteps as stage-inputSteps, clipPlaces as stage-clipPlaces, builtInPlaces as stage-builtInPlaces, localCount as stage-localCount, locationUses as stage-locationUses, vertexOutputs as stage-vertexOutputs, anyOf as stage-anyOf, attachmentUse as stage-attachmentUse, fragmentPlaces as stage-fragmentPlaces, fragmentOutputs as stage-fragmentOutputs, placesStep as stage-placesStep, meshUse as stage-meshUse, payloadMatch as stage-payloadMatch, primitiveUse as stage-primitiveUse, drawUse as stage-drawUse, perVertexUse as stage-perVertexUse, lastStep as stage-lastStep, localsOf as stage-localsOf, stageOut as stage-stageOut, summaryOf as stage-summaryOf}
+use Rattle.stage_steps.specs.Interfaces.{workgroupUse as steps-workgroupUse, workgroupStep as steps-workgroupStep, vertexInput as steps-vertexInput, fragmentInput as steps-fragmentInput, inputNumber as steps-inputNumber, inputStep as steps-inputStep, inputSteps as steps-inputSteps, clipPlaces as steps-clipPlaces, builtInPlaces as steps-builtInPlaces, localCount as steps-localCount, locationUses as steps-locationUses, vertexOutputs as steps-vertexOutputs, anyOf as steps-anyOf, attachmentUse as steps-attachmentUse, fragmentPlaces as steps-fragmentPlaces, fragmentOutputs as steps-fragmentOutputs, placesStep as steps-placesStep, meshUse as steps-meshUse, payloadMatch as steps-payloadMatch, primitiveUse as steps-primitiveUse, drawUse as steps-drawUse, perVertexUse as steps-perVertexUse, lastStep as steps-lastStep, localsOf as steps-localsOf, stageOut as steps-stageOut, summaryOf as steps-summaryOf}
 use Rattle.stage.specs.Resources.{resourceNth as stage-resourceNth, recordSize as stage-recordSize, providedUse as stage-providedUse, provideStep as stage-provideStep, occupied as stage-occupied, vacant as stage-vacant, deriveStep as stage-deriveStep, namedTexture as stage-namedTexture, resourceStep as stage-resourceStep, resourceSteps as stage-resourceSteps, pairNumber as stage-pairNumber, pairUse as stage-pairUse, pairUses as stage-pairUses}
 use Rattle.stage.specs.Stage.{judgement as stage-judgement, stageBody as stage-stageBody, callGood as stage-callGood, finish as stage-finish, runBody as stage-runBody, checkStage as stage-checkStage}
 use Rattle.deliveries.specs.Deliveries.{locals, deliveries}
 use Rattle.deliveries.specs.Kinds.{startsWith, allHold}
 
 pub deliveries-hold : allHold deliveries ≡ true
-unfolding word-yes word-several word-sumOf word-closingSum numeric-typeFiled numeric-typeOf numeric-readType numeric-typeWord numeric-compareTypes numeric-checkTextureFormat numeric-shapeFits numeric-subtypeOf numeric-floatVertexFormat numeric-vertexFormat numeric-otherTextureFormat numeric-textureFormat resource-checkWords resource-deriveWords resource-resourceTypeFiled resource-resourceTypeOf resource-readResource resource-resourceWords resource-typeHeld resource-bindingTypeFiled resource-bindingTypeOf resource-entryFiled resource-entryOf resource-bindingCode resource-entryWords resource-sameSpace resource-bufferUse resource-samplerUse resource-viewFits resource-sampledFits resource-storageFits resource-textureUse resource-accelerationUse resource-checkBindingUse resource-derivedTexture resource-deriveBindingType resource-handBack varying-varFiled varying-varOf varying-varWord varying-payloadFiled varying-payloadOf varying-payloadWord varying-samePayload lists-past lists-records lists-each lists-flat lists-put lists-groupsOf lists-countOf lists-layoutHead lists-layoutFiled lists-decodeLayout lists-encodeLayout lists-layoutGood lists-sizesHead lists-sizesFiled lists-decodeSizes lists-encodeSizes lists-sizesGood lists-stageHead lists-outFiled lists-decodeStage lists-encodeStage lists-outGood lists-placeFrom lists-placeIn lists-distinctPlaces lists-every lists-entryNth lists-pushed lists-joinAt lists-joined lists-sizeAt lists-raiseAt lists-recorded lists-varyingAt lists-rising lists-insert lists-inserted interface-readVarying interface-clips interface-bytesOf interface-noZero interface-allZero interface-readName interface-readWorkgroup interface-readMesh interface-contents interface-member interface-ofType interface-pairsOf interface-readEntryPoint interface-sameBytes interface-hasName interface-distinctNames interface-readPack interface-torn interface-decode interface-concat interface-packName interface-entryPointWords interface-recordWords interface-encode interface-varyings interface-standing interface-resourcesAt interface-entryNth interface-findFrom interface-onlyFrom interface-finalizeName stage-workgroupUse stage-workgroupStep stage-vertexInput stage-fragmentInput stage-inputNumber stage-inputStep stage-inputSteps stage-clipPlaces stage-builtInPlaces stage-localCount stage-locationUses stage-vertexOutputs stage-anyOf stage-attachmentUse stage-fragmentPlaces stage-fragmentOutputs stage-placesStep stage-meshUse stage-payloadMatch stage-primitiveUse stage-drawUse stage-perVertexUse stage-lastStep stage-localsOf stage-stageOut stage-summaryOf stage-resourceNth stage-recordSize stage-providedUse stage-provideStep stage-occupied stage-vacant stage-deriveStep stage-namedTexture stage-resourceStep stage-resourceSteps stage-pairNumber stage-pairUse stage-pairUses stage-judgement stage-stageBody stage-callGood stage-finish stage-runBody stage-checkStage locals deliveries startsWith allHold
+unfolding word-yes word-several word-sumOf word-closingSum numeric-typeFiled numeric-typeOf numeric-readType numeric-typeWord numeric-compareTypes numeric-checkTextureFormat numeric-shapeFits numeric-subtypeOf numeric-floatVertexFormat numeric-vertexFormat numeric-otherTextureFormat numeric-textureFormat resource-checkWords resource-deriveWords resource-resourceTypeFiled resource-resourceTypeOf resource-readResource resource-resourceWords resource-typeHeld resource-bindingTypeFiled resource-bindingTypeOf resource-entryFiled resource-entryOf resource-bindingCode resource-entryWords resource-sameSpace resource-bufferUse resource-samplerUse resource-viewFits resource-sampledFits resource-storageFits resource-textureUse resource-accelerationUse resource-checkBindingUse resource-derivedTexture resource-deriveBindingType resource-handBack varying-varFiled varying-varOf varying-varWord varying-payloadFiled varying-payloadOf varying-payloadWord varying-samePayload lists-past lists-records lists-each lists-flat lists-put lists-groupsOf lists-countOf lists-layoutHead lists-layoutFiled lists-decodeLayout lists-encodeLayout lists-layoutGood lists-sizesHead lists-sizesFiled lists-decodeSizes lists-encodeSizes lists-sizesGood lists-stageHead lists-outFiled lists-decodeStage lists-encodeStage lists-outGood lists-placeFrom lists-placeIn lists-distinctPlaces lists-every lists-entryNth lists-pushed lists-joinAt lists-joined lists-sizeAt lists-raiseAt lists-recorded lists-varyingAt lists-rising lists-insert lists-inserted interface-readVarying interface-clips interface-bytesOf interface-noZero interface-allZero interface-readName interface-readWorkgroup interface-readMesh interface-contents interface-member interface-ofType interface-pairsOf interface-readEntryPoint interface-sameBytes interface-hasName interface-distinctNames interface-readPack interface-torn interface-decode interface-concat interface-packName interface-entryPointWords interface-recordWords interface-encode interface-varyings interface-standing interface-resourcesAt interface-entryNth interface-findFrom interface-onlyFrom interface-finalizeName steps-workgroupUse steps-workgroupStep steps-vertexInput steps-fragmentInput steps-inputNumber steps-inputStep steps-inputSteps steps-clipPlaces steps-builtInPlaces steps-localCount steps-locationUses steps-vertexOutputs steps-anyOf steps-attachmentUse steps-fragmentPlaces steps-fragmentOutputs steps-placesStep steps-meshUse steps-payloadMatch steps-primitiveUse steps-drawUse steps-perVertexUse steps-lastStep steps-localsOf steps-stageOut steps-summaryOf stage-resourceNth stage-recordSize stage-providedUse stage-provideStep stage-occupied stage-vacant stage-deriveStep stage-namedTexture stage-resourceStep stage-resourceSteps stage-pairNumber stage-pairUse stage-pairUses stage-judgement stage-stageBody stage-callGood stage-finish stage-runBody stage-checkStage locals deliveries startsWith allHold
 deliveries-hold = refl

@@ -20,11 +20,11 @@ use Rattle.lists.proofs.LayoutLists.{good, good-decode}
 use Rattle.interface.specs.Meaning.{Interface, EntryPoint}
 use Rattle.interface.specs.Format.{stageAt, member}
 use Rattle.interface.specs.declared.types.ShaderStage.{ShaderStage}
+use Rattle.stage_steps.specs.Interfaces.{stageOut}
+use Rattle.stage_steps.specs.declared.types.InputWalk.{InputWalk}
 use Rattle.stage.specs.Meaning.{Call, State}
 use Rattle.stage.specs.Resources.{resourceNth, namedTexture, providedUse, resourceSteps, pairUses}
-use Rattle.stage.specs.Interfaces.{stageOut}
 use Rattle.stage.specs.Stage.{callGood, requestOf, inputWalk, judgement, runBody, checkStage}
-use Rattle.stage.specs.declared.types.InputWalk.{InputWalk}
 use Rattle.stage.proofs.GivenLaws.{resource-held, entry-pairs}
 use Rattle.handback.specs.HandBack.{derivedOver, putAgain, packKept, interfaceOfCall, entryOfCall, lacking, RoomEnough, used, Again}
 use Rattle.handback.proofs.Growth.{Grows}

@@ -11,9 +11,10 @@ use Rattle.lists.specs.Meaning.{Layout, Sizes, StageIo}
 use Rattle.interface.specs.Meaning.{EntryPoint, Interface}
 use Rattle.interface.specs.declared.types.ShaderStage.{ShaderStage}
 use Rattle.interface.specs.declared.types.ShaderStage.the-variants as Stage
-use Rattle.stage.specs.Meaning.{Request, State, state, andThen, both}
+use Rattle.stage_steps.specs.Meaning.{Request, both}
+use Rattle.stage_steps.specs.Interfaces.{workgroupStep, placesStep, fragmentOutputs, lastStep}
+use Rattle.stage.specs.Meaning.{State, state, andThen}
 use Rattle.stage.specs.Resources.{resourceSteps, pairUses}
-use Rattle.stage.specs.Interfaces.{workgroupStep, placesStep, fragmentOutputs, lastStep}
 use Rattle.stage.specs.Stage.{afterInputs, inputWalk, judgement, stageBody}
 
 -- ---- a step, and a judgement of what it left

@@ -27,6 +27,9 @@ use Rattle.interface.specs.declared.types.Varying.{Varying}
 use Rattle.interface.specs.declared.types.Varying.the-variants as Var
 use Rattle.interface.specs.declared.types.SamplingPair.{SamplingPair}
 use Rattle.interface.specs.declared.types.Limits.{Limits}
+use Rattle.stage_steps.specs.Interfaces.{workgroupUse, workgroupStep, inputStep, inputSteps, clipPlaces, builtInPlaces, localCount, locationUses, vertexOutputs}
+use Rattle.stage_steps.specs.Interfaces.{anyOf, attachmentUse, fragmentPlaces, fragmentOutputs, placesStep, meshUse, payloadMatch, primitiveUse, drawUse}
+use Rattle.stage_steps.specs.Interfaces.{perVertexUse, lastStep, localsOf, stageOut}
 use Rattle.stage.specs.Meaning.{Call}
 use Rattle.handback.specs.HandBack.{derivedOver, putAgain, packKept, interfaceOfCall, RoomEnough, Again}
 use Rattle.handback.proofs.HandBack.{hand-back}
@@ -47,9 +50,6 @@ use Rattle.interface.specs.Format.{readEntryPoint, sameBytes, hasName, distinct
 use Rattle.interface.specs.Format.{encode}
 use Rattle.interface.specs.Reads.{entryNth as interface-entryNth}
 use Rattle.interface.specs.Rules.{findFrom}
-use Rattle.stage.specs.Interfaces.{workgroupUse, workgroupStep, inputStep, inputSteps, clipPlaces, builtInPlaces, localCount, locationUses, vertexOutputs}
-use Rattle.stage.specs.Interfaces.{anyOf, attachmentUse, fragmentPlaces, fragmentOutputs, placesStep, meshUse, payloadMatch, primitiveUse, drawUse}
-use Rattle.stage.specs.Interfaces.{perVertexUse, lastStep, localsOf, stageOut}
 use Rattle.stage.specs.Resources.{resourceNth, recordSize, providedUse, provideStep, occupied, vacant, deriveStep, namedTexture, resourceStep, resourceSteps}
 use Rattle.stage.specs.Resources.{pairNumber, pairUse, pairUses}
 use Rattle.stage.specs.Stage.{judgement, stageBody, callGood, finish, runBody, checkStage}

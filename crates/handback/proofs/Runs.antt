@@ -12,9 +12,9 @@ use Rattle.lists.proofs.LayoutLists.{good-decode, filed-encode, decode-encode}
 use Rattle.interface.specs.Meaning.{Interface, EntryPoint}
 use Rattle.interface.specs.Format.{stageAt, member}
 use Rattle.interface.specs.Reads.{entryNth}
+use Rattle.stage_steps.specs.Interfaces.{stageOut}
 use Rattle.stage.specs.Meaning.{Call, State}
 use Rattle.stage.specs.Resources.{resourceNth, namedTexture, resourceSteps}
-use Rattle.stage.specs.Interfaces.{stageOut}
 use Rattle.stage.specs.Stage.{requestOf, inputWalk, stageBody, finish, runBody, checkStage}
 use Rattle.stage.proofs.GivenLaws.{resource-held}
 use Rattle.handback.specs.HandBack.{derivedOver, runOver}

@@ -24,15 +24,16 @@ use Rattle.interface.specs.declared.types.Chosen.{Chosen}
 use Rattle.interface.specs.declared.types.Chosen.the-variants as Ch
 use Rattle.interface.specs.declared.types.EntryParts.{EntryParts}
 use Rattle.interface.specs.declared.types.ShaderStage.{ShaderStage}
+use Rattle.stage_steps.specs.Interfaces.{stageOut, summaryOf}
+use Rattle.stage_steps.specs.Given.{Summed}
+use Rattle.stage_steps.specs.ListOut.{outputHeld}
+use Rattle.stage_steps.specs.declared.types.Walked.{Walked}
+use Rattle.stage_steps.specs.declared.types.Summary.{Summary}
 use Rattle.stage.specs.Meaning.{Call, Outcome, outcome, State, state}
 use Rattle.stage.specs.Resources.{resourceSteps}
-use Rattle.stage.specs.Interfaces.{stageOut, summaryOf}
-use Rattle.stage.specs.Given.{resourceTable, eachHeld, eachBelow, pairsBelow, Named, Given, Summed}
-use Rattle.stage.specs.ListOut.{outputHeld}
+use Rattle.stage.specs.Given.{resourceTable, eachHeld, eachBelow, pairsBelow, Named, Given}
 use Rattle.stage.specs.Judging.{request, requestWith, judged, handedOut}
 use Rattle.stage.specs.Stage.{requestOf, inputWalk, judgement, outWords, finish, runBody, callGood, onEntryPoint, onChosen, checkStage, call}
-use Rattle.stage.specs.declared.types.Walked.{Walked}
-use Rattle.stage.specs.declared.types.Summary.{Summary}
 use Rattle.stage.proofs.JudgeLaws.{judged-answer, judged-walk, pairs-standing}
 use Rattle.stage.proofs.ResourceParts.{counted}
 use Rattle.stage.proofs.GivenLaws.{given-held, given-below, given-pairs, given-outputs}

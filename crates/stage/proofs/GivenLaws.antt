@@ -21,8 +21,8 @@ use Rattle.interface.specs.declared.types.Varying.the-variants as Var
 use Rattle.interface.proofs.EncodeRecords.{every-first, every-others}
 use Rattle.interface.proofs.EncodeEntry.{type-below}
 use Rattle.interface.proofs.Packs.{GivenParts, resources-given, entry-given}
+use Rattle.stage_steps.specs.ListOut.{outputHeld}
 use Rattle.stage.specs.Given.{eachHeld, eachBelow, pairBelow, pairsBelow}
-use Rattle.stage.specs.ListOut.{outputHeld}
 use Rattle.stage.specs.Resources.{resourceNth}
 use Rattle.stage.proofs.ResourceParts.{listed-held}
 

@@ -29,14 +29,14 @@ use Rattle.interface.specs.declared.types.PrimitiveTopology.{PrimitiveTopology}
 use Rattle.interface.specs.declared.types.WorkgroupSize.{WorkgroupSize}
 use Rattle.interface.specs.declared.types.EntryParts.{EntryParts}
 use Rattle.interface.specs.declared.types.Limits.{Limits}
-use Rattle.stage.specs.Meaning.{Request, both}
+use Rattle.stage_steps.specs.Meaning.{Request, both}
+use Rattle.stage_steps.specs.Interfaces.{workgroupStep, placesStep, lastStep, meshUse, payloadUse, payloadMatch, primitiveUse, drawUse, perVertexUse, inputSteps, startWalk, walked, fragmentOutputs}
+use Rattle.stage_steps.specs.declared.types.InputWalk.{InputWalk}
+use Rattle.stage_steps.specs.declared.types.Walked.{Walked}
 use Rattle.stage.specs.Resources.{pairUses}
-use Rattle.stage.specs.Interfaces.{workgroupStep, placesStep, lastStep, meshUse, payloadUse, payloadMatch, primitiveUse, drawUse, perVertexUse, inputSteps, startWalk, walked, fragmentOutputs}
 use Rattle.stage.specs.Given.{pairsBelow}
 use Rattle.stage.specs.Judging.{behindInputs, judgedInputs, stopAt, judged}
 use Rattle.stage.specs.Stage.{inputWalk, afterInputs, judgement}
-use Rattle.stage.specs.declared.types.InputWalk.{InputWalk}
-use Rattle.stage.specs.declared.types.Walked.{Walked}
 
 -- the last steps in the form in which the code calls them
 abbrev lastOf : Request → Limits → MeshRecord → Payload → Payload → PrimitiveIndex → InputWalk → Answer

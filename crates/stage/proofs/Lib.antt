@@ -1,17 +1,9 @@
-pub mod Both
-pub mod VaryingLaws
-pub mod WorkgroupLaws
-pub mod InputLaws
-pub mod LendLaws
-pub mod OutputLaws
-pub mod LastLaws
 pub mod StateLaws
 pub mod ResourceParts
 pub mod ResourceLaws
 pub mod ResourceWalk
 pub mod PairLaws
 pub mod GivenLaws
-pub mod ListOutLaws
 pub mod JudgeLaws
 pub mod RunLaws
 pub mod CheckLaws

@@ -46,13 +46,14 @@ use Rattle.interface.specs.declared.types.Varying.{Varying}
 use Rattle.interface.specs.declared.types.Varying.the-variants as Var
 use Rattle.interface.specs.declared.types.WorkgroupSize.{WorkgroupSize}
 use Rattle.interface.specs.declared.types.Limits.{Limits}
-use Rattle.stage.specs.Meaning.{Request, State, state, andThen, both}
+use Rattle.stage_steps.specs.Meaning.{Request, both}
+use Rattle.stage_steps.specs.Interfaces.{workgroupUse, workgroupStep, vertexInput, fragmentInput, inputNumber, localStep, inputStep, inputSteps, walked, metLocal, metBuiltIn, locationUse, locationUses, countUse, clipPlaces, pointPart, localCount, builtInPlaces, anyOf, isDepth, vertexOutputs, attachmentUse, fragmentPlaces, fragmentOutputs, placesStep, valueUse, meshUse, payloadUse, payloadMatch, primitiveUse, drawUse, perVertexUse, lastStep}
+use Rattle.stage_steps.specs.declared.types.InputWalk.{InputWalk}
+use Rattle.stage_steps.specs.declared.types.Walked.{Walked}
+use Rattle.stage.specs.Meaning.{State, state, andThen}
 use Rattle.stage.specs.Resources.{recordSize, foundUse, providedUse, provideStep, occupied, vacant, placeStep, derivedStep, deriveStep, resourceStep, resourceSteps, resourceNth, namedTexture, visibleTo, sampleNumber, filtering, pairNumber, pairUse, pairUses, typeAt}
-use Rattle.stage.specs.Interfaces.{workgroupUse, workgroupStep, vertexInput, fragmentInput, inputNumber, localStep, inputStep, inputSteps, walked, metLocal, metBuiltIn, locationUse, locationUses, countUse, clipPlaces, pointPart, localCount, builtInPlaces, anyOf, isDepth, vertexOutputs, attachmentUse, fragmentPlaces, fragmentOutputs, placesStep, valueUse, meshUse, payloadUse, payloadMatch, primitiveUse, drawUse, perVertexUse, lastStep}
 use Rattle.stage.specs.Stage.{pairStep, inputWalk, judgement, stageBody}
 use Rattle.stage.specs.Table.{among, stepNumbers}
-use Rattle.stage.specs.declared.types.InputWalk.{InputWalk}
-use Rattle.stage.specs.declared.types.Walked.{Walked}
 
 -- a number, and an answer, of a step
 pub record Known (n : ℕ) : Type 0 where

@@ -13,9 +13,9 @@ use Rattle.interface.specs.Meaning.{EntryPoint, Interface}
 use Rattle.interface.specs.Format.{Decoded, Torn, Misfiled, Pack, decode, decodedNumber, stageAt}
 use Rattle.interface.specs.Reads.{interfaceOf}
 use Rattle.interface.specs.Rules.{findEntryPoint}
+use Rattle.stage_steps.specs.Interfaces.{stageOut}
 use Rattle.stage.specs.Meaning.{Call, Outcome, outcome, state}
 use Rattle.stage.specs.Resources.{resourceSteps}
-use Rattle.stage.specs.Interfaces.{stageOut}
 use Rattle.stage.specs.Stage.{requestOf, inputWalk, judgement, stageBody, finish, runBody, unchanged, callGood, onChosen, onDecoded, checkStage}
 
 -- ---- the body

@@ -1,5 +1,5 @@
 -- What the steps behind the check of a pack are given: its resources by a table of their positions, and indexes that stand in it.
-use Prim.Native.Nat.{ℕ, _+_, _*_, _<_, _≤_}
+use Prim.Native.Nat.{ℕ, _+_, _<_, _≤_}
 use mathlib.Core.Path.{_≡_}
 use mathlib.Core.Bool.{Bool, true, _&&_}
 use mathlib.Core.List.{List}
@@ -11,13 +11,10 @@ use Rattle.resource.specs.declared.types.Resource.{Resource}
 use Rattle.resource.specs.declared.types.BindingType.{BindingType}
 use Rattle.lists.specs.Meaning.{every}
 use Rattle.interface.specs.Meaning.{EntryPoint, Interface}
-use Rattle.interface.specs.Reads.{resourcesAt, standing}
+use Rattle.interface.specs.Reads.{resourcesAt}
 use Rattle.interface.specs.Parts.{resourceCount}
 use Rattle.interface.specs.declared.types.SamplingPair.{SamplingPair}
-use Rattle.interface.specs.declared.types.EntryParts.{EntryParts}
-use Rattle.stage.specs.Interfaces.{summaryOf}
-use Rattle.stage.specs.ListOut.{outputHeld}
-use Rattle.stage.specs.declared.types.Summary.{Summary}
+use Rattle.stage_steps.specs.ListOut.{outputHeld}
 
 -- the resources of a pack, each at its position in a table of as many
 unfoldable pub resourceTable : List ℕ → List ℕ → List Resource
@@ -60,12 +57,6 @@ pub record Given (ws offsets : List ℕ) (i : Interface) (e : EntryPoint) : Type
   pub table : resourceTable ws offsets ≡ i .resources
   pub inside : Inside ws offsets
   pub named : Named i e
-
--- what stands among the outputs of the entry point at these parts
-pub record Summed (ws : List ℕ) (p : EntryParts) (s : Summary) : Type 0 where
-  pub outputs : s ≡ summaryOf (standing ws p .outputs)
-  pub locals : s .locals ≤ 63
-  pub clip : s .«clip_places» ≤ 63 * 64
 
 -- a type is the one that a word means, with whatever least size
 abbrev pub wordMeans : ℕ → BindingType → Type 0

@@ -12,12 +12,12 @@ use Rattle.lists.specs.Format.{encodeStage}
 use Rattle.interface.specs.Meaning.{EntryPoint}
 use Rattle.interface.specs.declared.types.ShaderStage.{ShaderStage}
 use Rattle.interface.specs.declared.types.Limits.{Limits}
-use Rattle.stage.specs.Meaning.{Request, both}
+use Rattle.stage_steps.specs.Meaning.{Request, both}
+use Rattle.stage_steps.specs.Interfaces.{workgroupStep, placesStep, lastStep, startWalk, walked, walkOn, stageOut}
+use Rattle.stage_steps.specs.declared.types.InputWalk.{InputWalk}
+use Rattle.stage_steps.specs.declared.types.Walked.{Walked}
 use Rattle.stage.specs.Resources.{pairUses}
-use Rattle.stage.specs.Interfaces.{workgroupStep, placesStep, lastStep, startWalk, walked, walkOn, stageOut}
 use Rattle.stage.specs.Stage.{inputWalk}
-use Rattle.stage.specs.declared.types.InputWalk.{InputWalk}
-use Rattle.stage.specs.declared.types.Walked.{Walked}
 
 -- a request in provided mode, for the steps that do not look at the mode
 abbrev pub request : ShaderStage → ℕ → Bool → Bool → Request

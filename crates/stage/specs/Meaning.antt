@@ -1,12 +1,10 @@
 -- A call of the stage check, and what it comes to.
 use Prim.Native.Nat.{ℕ}
-use mathlib.Core.Bool.{Bool}
 use mathlib.Core.List.{List}
 use lib.Dec.{eqb}
 use Rattle.word.specs.Choice.{pick}
 use Rattle.word.specs.declared.answer.Answer.{Answer}
 use Rattle.lists.specs.Meaning.{Layout, Sizes}
-use Rattle.interface.specs.declared.types.ShaderStage.{ShaderStage}
 
 -- 'The call gives a stage, a name of any bytes, topology 0–4 or 5 for none, mode 0 provided or 1 derived, and two fragment flags
 -- (dual source, depth attached), 0 or 1', with the words of the pack and the lists that are lent
@@ -33,14 +31,6 @@ pub record Outcome : Type 0 where
 abbrev pub outcome : Answer → List ℕ → List ℕ → List ℕ → Outcome
 outcome a l s o = record { answer = a; layout = l; sizes = s; out = o }
 
--- a call's codes, once they are known to be good; a topology of 5 is none
-pub record Request : Type 0 where
-  pub stage : ShaderStage
-  pub topology : ℕ
-  pub derived : Bool
-  pub dual : Bool
-  pub depth : Bool
-
 -- an answer, and the layout and sizes with what the steps so far recorded
 pub record State : Type 0 where
   pub answer : Answer
@@ -53,7 +43,3 @@ state a L S = record { answer = a; layout = L; sizes = S }
 -- 'first failure ending it': a second step where the first accepted
 abbrev pub andThen : State → (Layout → Sizes → State) → State
 andThen x k = pick (eqb (x .answer .number) 0) (k (x .layout) (x .sizes)) x
-
--- a judgement that alters nothing, and a second one where it accepted
-abbrev pub both : Answer → Answer → Answer
-both a b = pick (eqb (a .number) 0) b a

@@ -28,7 +28,8 @@ use Rattle.lists.specs.declared.types.Found.the-variants.{At, Nothing}
 use Rattle.interface.specs.Format.{stageCode}
 use Rattle.interface.specs.declared.types.ShaderStage.{ShaderStage}
 use Rattle.interface.specs.declared.types.SamplingPair.{SamplingPair}
-use Rattle.stage.specs.Meaning.{State, state, andThen, both}
+use Rattle.stage_steps.specs.Meaning.{both}
+use Rattle.stage.specs.Meaning.{State, state, andThen}
 
 -- the resource of an index; past the end an acceleration structure at the first place
 abbrev pub noResource : Resource

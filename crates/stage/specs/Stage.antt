@@ -15,11 +15,12 @@ use Rattle.interface.specs.Reads.{entryNth}
 use Rattle.interface.specs.Rules.{findEntryPoint}
 use Rattle.interface.specs.declared.types.Chosen.{Chosen}
 use Rattle.interface.specs.declared.types.Chosen.the-variants as Ch
-use Rattle.stage.specs.Meaning.{Call, Outcome, outcome, Request, State, state, andThen, both}
+use Rattle.stage_steps.specs.Meaning.{Request, both}
+use Rattle.stage_steps.specs.Interfaces.{workgroupStep, inputSteps, startWalk, placesStep, lastStep, stageOut, localCount}
+use Rattle.stage_steps.specs.declared.types.InputWalk.{InputWalk}
+use Rattle.stage_steps.specs.declared.types.Walked.{Walked}
+use Rattle.stage.specs.Meaning.{Call, Outcome, outcome, State, state, andThen}
 use Rattle.stage.specs.Resources.{resourceSteps, pairUses}
-use Rattle.stage.specs.Interfaces.{workgroupStep, inputSteps, startWalk, placesStep, lastStep, stageOut, localCount}
-use Rattle.stage.specs.declared.types.InputWalk.{InputWalk}
-use Rattle.stage.specs.declared.types.Walked.{Walked}
 
 -- ---- the steps behind the resources: they alter no list
 

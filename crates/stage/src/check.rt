@@ -10,16 +10,14 @@ ghost use Rattle.interface.specs.Format.{decode, decodedNumber, stageAt};
 ghost use Rattle.interface.specs.Reads.{interfaceOf, entryNth, standing};
 ghost use Rattle.interface.specs.Parts.{Placed, Offsets, Heads};
 ghost use Rattle.interface.specs.Rules.{findEntryPoint};
+ghost use Rattle.stage_steps.specs.Given.{Summed};
 ghost use Rattle.stage.specs.Meaning.{outcome, state};
 ghost use Rattle.stage.specs.Resources.{resourceSteps};
-ghost use Rattle.stage.specs.Given.{Given, Summed};
+ghost use Rattle.stage.specs.Given.{Given};
 ghost use Rattle.stage.specs.Judging.{requestWith, handedOut};
 ghost use Rattle.stage.specs.Stage.{inputWalk, judgement, outWords, runBody, onEntryPoint, onChosen, callGood, checkStage, call};
 use crate::judge::judge;
-use crate::list_out::list_out;
-use crate::outputs::output_summary;
 use crate::resources::resource_steps;
-use crate::types::Summary;
 use interface::check_pack::index_pack;
 use interface::choose::find_entry_point;
 use interface::parts::pairs_counted;
@@ -32,6 +30,9 @@ use interface::types::ShaderStage;
 use lists::layout::layout_filed;
 use lists::sizes::sizes_filed;
 use lists::stage_io::stage_filed;
+use stage_steps::list_out::list_out;
+use stage_steps::outputs::output_summary;
+use stage_steps::types::Summary;
 use word::answer::Answer;
 
 // The resources of an entry point against the layout and the sizes.

@@ -1,0 +1,4 @@
+pub mod Meaning
+pub mod Interfaces
+pub mod ListOut
+pub mod Given
