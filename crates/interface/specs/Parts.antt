@@ -4,7 +4,7 @@ use mathlib.Core.Path.{_≡_}
 use mathlib.Core.Bool.{Bool, true, false}
 use mathlib.Core.List.{List, [], _∷_}
 use lib.Dec.{eqb, ltb}
-use lib.ListN.{length, getD, take, drop}
+use lib.ListN.{length, take, drop}
 use Rattle.word.specs.Choice.{pick}
 use Rattle.word.specs.Words.{wordAt, bits, bit}
 use Rattle.resource.specs.Format.{resourceAt, isBuffer}
@@ -41,9 +41,6 @@ resourceEnd ws at = at + pick (isBuffer (wordAt ws (at + 1))) 3 2
 -- as many bytes of the words from a position on
 unfoldable pub bytesFrom : List ℕ → ℕ → ℕ → List ℕ
 bytesFrom ws from n = take n (bytesOf (drop from ws))
-
-unfoldable pub byteAt : List ℕ → ℕ → ℕ → ℕ
-byteAt ws from k = getD (bytesOf (drop from ws)) k 0
 
 abbrev pub workgroupAt : List ℕ → ℕ → ℕ
 workgroupAt ws head = head + 1 + nameWords (bits 22 16 (wordAt ws head))
