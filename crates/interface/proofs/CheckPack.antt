@@ -19,7 +19,7 @@ use Rattle.interface.specs.Format.{ofWord, editionFiled, totalsFiled, di
 use Rattle.interface.specs.Walks.{onward, word, thence, listed, packResources, pairRoles, roleTable, distinctHeads, Headed, entriesBehind, recordsBehind}
 use Rattle.interface.proofs.CheckRecords.{listed-long}
 use Rattle.word.proofs.Truth.{first, second}
-use Rattle.interface.proofs.CheckSteps.{step-stop, step-go, word-stop, word-go, word-in}
+use Rattle.interface.proofs.CheckSteps.{step-stop, step-go, word-stop, word-go}
 use Rattle.interface.proofs.CheckWalks.{on-word, on-step}
 use Rattle.interface.proofs.CheckEntries.{distinct-named}
 use Rattle.interface.proofs.CheckCases.{decided, test-behind}

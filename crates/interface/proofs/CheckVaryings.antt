@@ -15,7 +15,6 @@ use Rattle.word.specs.Words.{wordAt, kindOf, bits}
 use Rattle.word.specs.Parse.{fault, got, next, one, Rest, restAt}
 use Rattle.word.proofs.Parse.{rest-from, first-of, others-of, one-fault, one-got, one-in, Yields, yields-next, yields-pick}
 use Rattle.word.proofs.Truth.{first, second}
-use Rattle.numeric.specs.Format.{typeFiled}
 use Rattle.varying.specs.Format.{locationFiled, varFiled}
 use Rattle.interface.specs.Format.{builtInFiled, builtInOf, readVarying, local, isClip}
 use Rattle.interface.specs.Walks.{thence, varyingsBehind}

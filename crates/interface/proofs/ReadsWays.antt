@@ -10,7 +10,7 @@ use lib.Dec.{ltb}
 use lib.ListN.{length, drop}
 use lib.Seq.{getD-drop}
 use Rattle.word.specs.Words.{wordAt, kindOf, contentOf}
-use Rattle.interface.specs.Format.{pairOf, decode, decodedNumber, limitsOf}
+use Rattle.interface.specs.Format.{decode, decodedNumber, limitsOf}
 use Rattle.interface.specs.Reads.{varyingWidth, interfaceOf}
 use Rattle.interface.specs.Parts.{resourceCount, entryCount, resourceEnd, entryEnd, entriesAt, entryAt}
 use Rattle.resource.specs.Format.{resourceAt}

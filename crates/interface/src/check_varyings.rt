@@ -1,10 +1,8 @@
 // Varyings: a location and a variable, or a built-in.
 ghost use mathlib.Core.Path.{_≡_};
-ghost use mathlib.Core.Bool.{true};
 ghost use Prim.Native.Nat.{_≤_};
 ghost use lib.ListN.{length, drop};
 ghost use Rattle.word.specs.Parse.{restAt};
-ghost use Rattle.varying.specs.Format.{varFiled};
 ghost use Rattle.interface.specs.Format.{builtInFiled};
 ghost use Rattle.interface.specs.Walks.{varyingsBehind};
 

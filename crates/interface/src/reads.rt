@@ -1,8 +1,8 @@
 // What stands in a pack: codes, varyings and pairs at a position, and of an accepted pack its limits and counts.
 ghost use mathlib.Core.Path.{_≡_};
 ghost use mathlib.Core.List.{[], _∷_};
-ghost use Prim.Native.Nat.{_<_, _≤_, _^_};
-ghost use lib.ListN.{length, drop};
+ghost use Prim.Native.Nat.{_<_, _≤_};
+ghost use lib.ListN.{length};
 ghost use Rattle.word.specs.Words.{wordAt, contentOf};
 ghost use Rattle.interface.specs.Format.{stageAt, stageCode, topologyAt, builtInOf, pairOf, decode, decodedNumber};
 ghost use Rattle.interface.specs.Reads.{varyingWidth, interfaceOf, standing, entryNth};

@@ -5,7 +5,7 @@ ghost use mathlib.Core.List.{[], _∷_};
 ghost use Prim.Native.Nat.{_+_, _*_, _/_, _<_, _≤_, _^_, max};
 ghost use lib.ListN.{length, drop};
 ghost use Rattle.interface.specs.Format.{builtInOf};
-ghost use Rattle.interface.specs.Reads.{varying, varyingWidth, varyings, standing};
+ghost use Rattle.interface.specs.Reads.{varying, varyings, standing};
 ghost use Rattle.interface.specs.declared.types.Varying.the-variants as Var;
 ghost use Rattle.interface.specs.Parts.{Placed, varyingsEnd};
 ghost use Rattle.stage_steps.specs.Meaning.{both};
