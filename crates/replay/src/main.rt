@@ -4,16 +4,21 @@
 // A line has number and three details, and for a stage check what changed in layout, sizes and list out, as position:word.
 use interface::choose::finalize_entry_point_name;
 use stage::check::check_stage;
+use test_text::print;
+use test_text::read;
 use word::word;
-
-mod print;
-mod read;
 
 // Words for the longest lent list, a little past what document 01 takes.
 const MOST: usize = 1040;
 
 // Words for the longest pack, likewise.
 const PACK: usize = 4200;
+
+// What changed in a list.
+fn changes(before: &[u32], after: &[u32]) {
+    print::text(b" ;");
+    print::changes(before, after, b" ", b"");
+}
 
 // The answer to a stage check, and what it changed of the lists as they were.
 fn answer_stage(
@@ -42,9 +47,9 @@ fn answer_stage(
         word(head, 11),
     );
     print::answer(answer);
-    print::changes(old_layout, layout);
-    print::changes(old_sizes, sizes);
-    print::changes(old_out, out);
+    changes(old_layout, layout);
+    changes(old_sizes, sizes);
+    changes(old_out, out);
 }
 
 // Keeps the lists as they are, then the check.

@@ -14,7 +14,7 @@ pub fn bytes(space: &mut [u8]) {
     io::read_full(STDIN_FILENO, space);
 }
 
-// The next word of the input, 0 behind its end.
+// The next word of the input, low byte first, 0 behind its end.
 pub fn next() -> u32 {
     let mut four = [0u8; 4];
     io::read_full(STDIN_FILENO, &mut four);
@@ -29,12 +29,19 @@ pub fn words(space: &mut [u32]) {
     }
 }
 
-// A length of a case's head, at most what there is space for.
+// A length that the input gives, at most what there is space for.
+pub fn at_most(n: u32, space: usize) -> usize
+    ensures { λ r. ⌜ r ≤ space ⌝ }
+{
+    let n = n as usize;
+    if n < space { n } else { space }
+}
+
+// The length at a position of a case's head, at most what there is space for.
 pub fn length(head: &[u32], at: usize, space: usize) -> usize
     ensures { λ r. ⌜ r ≤ space ⌝ }
 {
-    let n = word(head, at) as usize;
-    if n < space { n } else { space }
+    at_most(word(head, at), space)
 }
 
 pub fn copy(list: &[u32], space: &mut [u32]) {

@@ -2,8 +2,8 @@ use Prim.Native.Nat.{_-_}
 use mathlib.Core.Path.{_≡_}
 use lib.ListN.{length}
 use borrow.Author.Needs.{needs}
-use Rattle.replay.proofs.read.words.Statement.{statement}
-use Rattle.replay.proofs.read.words.Tie as tie
+use Rattle.test_text.proofs.read.words.Statement.{statement}
+use Rattle.test_text.proofs.read.words.Tie as tie
 
 abbrev Inv-loop : tie.InvT-loop
 Inv-loop space₀ i₀ space i = length space ≡ length space₀
