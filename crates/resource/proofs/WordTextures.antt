@@ -20,6 +20,7 @@ use Rattle.resource.specs.declared.types.BindingUse.{BindingUse}
 use Rattle.resource.specs.declared.types.BindingUse.the-variants as Use
 use Rattle.word.proofs.Truth.{by-test}
 use Rattle.resource.proofs.HandBack.{same-bool}
+use Rattle.resource.proofs.ReadLaws.{by-resource}
 use Rattle.resource.proofs.EntryFormat.{view-back}
 
 -- flags by their bits
@@ -196,29 +197,18 @@ abbrev Stands : ℕ → ℕ → Bool
 Stands w view = viewFits (dimensionAt (bits 1 0 w)) (bitSet 2 w) (viewAt view)
 
 texture-type : (w size : ℕ) → 2 ≤ typeCode w → typeCode w < 6 → resourceTypeOf w size ≡ texture w (classAt w)
-unfolding resourceTypeOf
 texture-type w size l h =
-    let n0 = ne-eqb (typeCode w) 0 (λ e. omega arith) in
-    let n1 = ne-eqb (typeCode w) 1 (λ e. omega arith) in
-    by-test (eqb (typeCode w) 2) (λ t. rw (n0, n1, t)) λ n2.
-    by-test (eqb (typeCode w) 3) (λ t. rw (n0, n1, n2, t)) λ n3.
-    by-test (eqb (typeCode w) 4) (λ t. rw (n0, n1, n2, n3, t)) λ n4.
-    let z : typeCode w ≡ 5 = omega (arith, eqb-false (typeCode w) 2 n2, eqb-false (typeCode w) 3 n3, eqb-false (typeCode w) 4 n4) in
-    rw z
+    by-resource (λ r. r ≡ texture w (classAt w)) w size
+    (λ e. absurd (omega arith)) (λ e. absurd (omega arith)) (λ e. rw e) (λ e. rw e) (λ e. rw e) (λ e. rw e) (λ past. absurd (omega arith))
 
 -- a type past the textures is an acceleration structure
 pub acceleration-type : (w size entry least : ℕ) → 6 ≤ typeCode w
     → checkBindingUse (resourceTypeOf w size) (bindingTypeOf entry least) ≡ accelerationUse (bitSet 0 w) (bindingTypeOf entry least)
-unfolding resourceTypeOf checkBindingUse
+unfolding checkBindingUse
 acceleration-type w size entry least l =
-    rw (
-      ne-eqb (typeCode w) 0 (λ e. omega arith),
-      ne-eqb (typeCode w) 1 (λ e. omega arith),
-      ne-eqb (typeCode w) 2 (λ e. omega arith),
-      ne-eqb (typeCode w) 3 (λ e. omega arith),
-      ne-eqb (typeCode w) 4 (λ e. omega arith),
-      ne-eqb (typeCode w) 5 (λ e. omega arith),
-    )
+    by-resource (λ r. checkBindingUse r (bindingTypeOf entry least) ≡ accelerationUse (bitSet 0 w) (bindingTypeOf entry least)) w size
+    (λ e. absurd (omega arith)) (λ e. absurd (omega arith)) (λ e. absurd (omega arith)) (λ e. absurd (omega arith)) (λ e. absurd (omega arith))
+    (λ e. absurd (omega arith)) (λ past. refl)
 
 -- what each sort of entry asks of a texture
 module _ (w entry size least : ℕ) (l : 2 ≤ typeCode w) (h : typeCode w < 6) where

@@ -8,29 +8,13 @@ use borrow.Author.Tests.{eqb-true, eqb-false, eq-eqb, ne-eqb, le-leb}
 use Rattle.word.specs.Choice.{pick, yes}
 use Rattle.word.specs.Words.{bits, bit}
 use Rattle.resource.specs.Rules.{sameBool, spaceOf, sameSpace, sizeUse, bufferUse, comparing, samplerUse, accelerationUse, checkBindingUse, useNumber}
-use Rattle.resource.specs.Format.{typeCode, bitSet, spaceAt, resourceTypeOf, viewAt, sampleAt, accessAt, samplerAt, bufferAt, bindingTypeOf}
+use Rattle.resource.specs.Format.{typeCode, bitSet, spaceAt, resourceTypeOf, samplerAt, bufferAt, bindingTypeOf}
 use Rattle.resource.specs.declared.types.AddressSpace.{AddressSpace}
 use Rattle.resource.specs.declared.types.AddressSpace.the-variants as Space
-use Rattle.resource.specs.declared.types.BindingType.{BindingType}
-use Rattle.resource.specs.declared.types.BindingType.the-variants as Bind
 use Rattle.word.proofs.Truth.{by-test}
+use Rattle.resource.proofs.ReadLaws.{past-two, past-five}
+use Rattle.resource.proofs.EntryFormat.{by-binding}
 use Rattle.resource.proofs.WordTextures.{bits-same, Number, acceleration-type}
-
--- what a type word of an entry means, by its code
-pub by-binding : (P : BindingType → Type 0) (w least : ℕ) → (typeCode w ≡ 0 → P (Bind.Buffer (bufferAt w) (bitSet 2 w) least))
-    → (typeCode w ≡ 1 → P (Bind.Sampler (samplerAt (bits 22 0 w)))) → (typeCode w ≡ 2 → P (Bind.Texture (sampleAt (bits 6 4 w)) (viewAt (bits 2 0 w)) (bitSet 3 w)))
-    → (typeCode w ≡ 4 → P (Bind.StorageTexture (accessAt (bits 17 16 w)) (bits 14 8 w) (viewAt (bits 2 0 w)))) → (typeCode w ≡ 5 → P Bind.ExternalTexture)
-    → ((typeCode w ≡ 0 → ⊥) → (typeCode w ≡ 1 → ⊥) → (typeCode w ≡ 2 → ⊥) → (typeCode w ≡ 4 → ⊥) → (typeCode w ≡ 5 → ⊥)
-    → P (Bind.AccelerationStructure (bitSet 0 w))) → P (bindingTypeOf w least)
-unfolding bindingTypeOf
-by-binding P w least c0 c1 c2 c4 c5 c6 =
-    by-test (eqb (typeCode w) 0) (λ t. rw t (c0 (eqb-true (typeCode w) 0 t))) λ n0.
-    by-test (eqb (typeCode w) 1) (λ t. rw (n0, t) (c1 (eqb-true (typeCode w) 1 t))) λ n1.
-    by-test (eqb (typeCode w) 2) (λ t. rw (n0, n1, t) (c2 (eqb-true (typeCode w) 2 t))) λ n2.
-    by-test (eqb (typeCode w) 4) (λ t. rw (n0, n1, n2, t) (c4 (eqb-true (typeCode w) 4 t))) λ n4.
-    by-test (eqb (typeCode w) 5) (λ t. rw (n0, n1, n2, n4, t) (c5 (eqb-true (typeCode w) 5 t))) λ n5.
-    rw (n0, n1, n2, n4, n5)
-    (c6 (eqb-false (typeCode w) 0 n0) (eqb-false (typeCode w) 1 n1) (eqb-false (typeCode w) 2 n2) (eqb-false (typeCode w) 4 n4) (eqb-false (typeCode w) 5 n5))
 
 -- ---- buffers
 
@@ -97,12 +81,8 @@ module _ (comparison : Bool) (entry : ℕ) where
 
 -- ---- acceleration structures
 
--- below 6 an entry of a code other than 3 is no acceleration structure
-past-two : (c : ℕ) → (c ≡ 0 → ⊥) → (c ≡ 1 → ⊥) → (c ≡ 2 → ⊥) → 3 ≤ c
-past-two c n0 n1 n2 = omega arith
-
-none-left : (c : ℕ) → 3 ≤ c → c < 6 → (c ≡ 3 → ⊥) → (c ≡ 4 → ⊥) → (c ≡ 5 → ⊥) → ⊥
-none-left c l h n3 n4 n5 = omega arith
+past-end : {P : Type 0} (c : ℕ) → 6 ≤ c → c < 6 → P
+past-end c l h = absurd (omega arith)
 
 module _ (w entry : ℕ) where
   -- an entry's answer to an acceleration structure
@@ -114,7 +94,9 @@ module _ (w entry : ℕ) where
   acceleration-other l n3 least =
       by-binding (λ t. useNumber (accelerationUse (bitSet 0 w) t) ≡ 22) entry least
       (λ z. refl) (λ z. refl) (λ z. refl) (λ z. refl) (λ z. refl)
-      (λ n0 n1 n2 n4 n5. absurd (none-left (typeCode entry) (past-two (typeCode entry) n0 n1 n2) l n3 n4 n5))
+      (λ n0 n1 n2 n4 n5.
+      let past = past-five (typeCode entry) (past-two (typeCode entry) n0 n1 n2) n3 n4 n5 in
+      past-end (typeCode entry) past l)
 
   pub returns-differ : (bit 0 w ≡ bit 0 entry → ⊥) → Accelerated 22
   unfolding accelerationUse
