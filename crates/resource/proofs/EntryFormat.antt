@@ -6,7 +6,7 @@ use mathlib.Core.Path.{_≡_, refl, sym, _∙_}
 use mathlib.Core.Bool.{Bool, true, false, _&&_, _||_}
 use mathlib.Core.List.{[], _∷_}
 use lib.Dec.{eqb, ltb}
-use borrow.Author.Tests.{eqb-true, eqb-false, eq-eqb, ltb-true, lt-ltb}
+use borrow.Author.Tests.{eqb-true, eqb-false, eq-eqb, ne-eqb, ltb-true, lt-ltb}
 use Rattle.word.specs.Choice.{yes}
 use Rattle.word.specs.Words.{kindOf, contentOf, bits, bit, ofKind}
 use Rattle.resource.specs.Rules.{viewCode}
@@ -155,6 +155,22 @@ module _ (ty : BindingType) (h : formatHeld ty ≡ true) where
   pub type-read : bindingTypeOf (ofKind 18 (bindingCode ty)) (leastSize ty) ≡ ty
   type-read = type-again ty h .1
 
+-- what a type word of an entry means, by its code
+pub by-binding : (P : BindingType → Type 0) (w least : ℕ) → (typeCode w ≡ 0 → P (Bind.Buffer (bufferAt w) (bitSet 2 w) least))
+    → (typeCode w ≡ 1 → P (Bind.Sampler (samplerAt (bits 22 0 w)))) → (typeCode w ≡ 2 → P (Bind.Texture (sampleAt (bits 6 4 w)) (viewAt (bits 2 0 w)) (bitSet 3 w)))
+    → (typeCode w ≡ 4 → P (Bind.StorageTexture (accessAt (bits 17 16 w)) (bits 14 8 w) (viewAt (bits 2 0 w)))) → (typeCode w ≡ 5 → P Bind.ExternalTexture)
+    → ((typeCode w ≡ 0 → ⊥) → (typeCode w ≡ 1 → ⊥) → (typeCode w ≡ 2 → ⊥) → (typeCode w ≡ 4 → ⊥) → (typeCode w ≡ 5 → ⊥)
+    → P (Bind.AccelerationStructure (bitSet 0 w))) → P (bindingTypeOf w least)
+unfolding bindingTypeOf
+by-binding P w least c0 c1 c2 c4 c5 c6 =
+    by-test (eqb (typeCode w) 0) (λ t. rw t (c0 (eqb-true (typeCode w) 0 t))) λ n0.
+    by-test (eqb (typeCode w) 1) (λ t. rw (n0, t) (c1 (eqb-true (typeCode w) 1 t))) λ n1.
+    by-test (eqb (typeCode w) 2) (λ t. rw (n0, n1, t) (c2 (eqb-true (typeCode w) 2 t))) λ n2.
+    by-test (eqb (typeCode w) 4) (λ t. rw (n0, n1, n2, t) (c4 (eqb-true (typeCode w) 4 t))) λ n4.
+    by-test (eqb (typeCode w) 5) (λ t. rw (n0, n1, n2, n4, t) (c5 (eqb-true (typeCode w) 5 t))) λ n5.
+    rw (n0, n1, n2, n4, n5)
+    (c6 (eqb-false (typeCode w) 0 n0) (eqb-false (typeCode w) 1 n1) (eqb-false (typeCode w) 2 n2) (eqb-false (typeCode w) 4 n4) (eqb-false (typeCode w) 5 n5))
+
 -- ---- a well filed type's word is written again
 
 binding-cases : {P : Type 0} (w : ℕ) → bindingTypeFiled w ≡ true
@@ -182,16 +198,16 @@ buffer-back w h =
     let o : bit 0 w ≡ 1 → ⊥ = eqb-false (bit 0 w) 1 f in
     rw f (omega arith))
 
-sums : (w a f : ℕ) → typeCode w ≡ 4 → w / 2 ^ 16 ≡ 2 ^ 7 * (w / 2 ^ 23) + a → w / 8 ≡ 2 ^ 13 * (w / 2 ^ 16) + 2 ^ 5 * f
+pub code-sum : (w a f : ℕ) → typeCode w ≡ 4 → w / 2 ^ 16 ≡ 2 ^ 7 * (w / 2 ^ 23) + a → w / 8 ≡ 2 ^ 13 * (w / 2 ^ 16) + 2 ^ 5 * f
     → 2 ^ 23 * 4 + (2 ^ 16 * a + 2 ^ 8 * f + bits 2 0 w) ≡ contentOf w
-sums w a f e p q = omega (arith, field w (2 ^ 23) 16)
+code-sum w a f e p q = omega (arith, field w (2 ^ 23) 16)
 
 stored-sum : (w : ℕ) → typeCode w ≡ 4 → bits 22 18 w ≡ 0 → bit 15 w ≡ 0 → bits 7 3 w ≡ 0
     → 2 ^ 23 * 4 + (2 ^ 16 * bits 17 16 w + 2 ^ 8 * bits 14 8 w + bits 2 0 w) ≡ contentOf w
 stored-sum w e z y x =
     let above : w / 2 ^ 16 ≡ 2 ^ 7 * (w / 2 ^ 23) + bits 17 16 w = omega (arith, field w (2 ^ 16) 4, field w (2 ^ 18) 32) in
     let below : w / 8 ≡ 2 ^ 13 * (w / 2 ^ 16) + 2 ^ 5 * bits 14 8 w = omega (arith, field w 8 32, field w 256 128, field w (2 ^ 15) 2) in
-    sums w (bits 17 16 w) (bits 14 8 w) e above below
+    code-sum w (bits 17 16 w) (bits 14 8 w) e above below
 
 pub type-back : (w least : ℕ) → bindingTypeFiled w ≡ true → bindingCode (bindingTypeOf w least) ≡ contentOf w
 unfolding bindingTypeOf bindingCode
@@ -221,15 +237,10 @@ least-filed Bind.ExternalTexture = refl
 least-filed (Bind.AccelerationStructure returns) = or-right (isBuffer (ofKind 18 (bindingCode (Bind.AccelerationStructure returns)))) true refl
 
 pub least-back : (w least : ℕ) → isBuffer w || eqb least 0 ≡ true → leastSize (bindingTypeOf w least) ≡ least
-unfolding bindingTypeOf
 least-back w least h =
-    by-test (eqb (typeCode w) 0) (λ t. rw t) λ n0.
-    let z : 0 ≡ least = sym (eqb-true least 0 (rw n0 at h)) in
-    by-test (eqb (typeCode w) 1) (λ t. rw (n0, t) z) λ n1.
-    by-test (eqb (typeCode w) 2) (λ t. rw (n0, n1, t) z) λ n2.
-    by-test (eqb (typeCode w) 4) (λ t. rw (n0, n1, n2, t) z) λ n4.
-    by-test (eqb (typeCode w) 5) (λ t. rw (n0, n1, n2, n4, t) z) λ n5.
-    rw (n0, n1, n2, n4, n5) z
+    let z : (typeCode w ≡ 0 → ⊥) → 0 ≡ least = λ n. sym (eqb-true least 0 (rw (ne-eqb (typeCode w) 0 n) at h)) in
+    by-binding (λ t. leastSize t ≡ least) w least
+    (λ e. refl) (λ e. z (λ y. omega arith)) (λ e. z (λ y. omega arith)) (λ e. z (λ y. omega arith)) (λ e. z (λ y. omega arith)) (λ n0 n1 n2 n4 n5. z n0)
 
 -- words can hold what a well filed type word means
 pub type-held : (w least : ℕ) → least < 2 ^ 27 → bindingTypeFiled w ≡ true → formatHeld (bindingTypeOf w least) ≡ true

@@ -1,4 +1,4 @@
--- What the definitions say of written-out resources and entries (document 01, 'Deliveries from the test line' and 'Traps').
+-- What the definitions say of written-out resources and entries (document 01, 'Traps').
 use Prim.Native.Nat.{ℕ, _+_, _*_, _^_}
 use mathlib.Core.Path.{_≡_, refl}
 use mathlib.Core.Bool.{Bool, true, false}
@@ -6,9 +6,8 @@ use mathlib.Core.List.{List, [], _∷_}
 use lib.Dec.{eqb}
 use Rattle.word.specs.Choice.{pick, yes}
 use Rattle.word.specs.Words.{ofKind}
-use Rattle.resource.specs.Rules.{sameSpace, bufferUse, samplerUse, viewFits, sampledFits, storageFits, textureUse, accelerationUse, checkBindingUse}
-use Rattle.resource.specs.Rules.{derivedTexture, deriveBindingType}
-use Rattle.resource.specs.Format.{resourceTypeFiled, resourceTypeOf, readResource, bindingTypeFiled, bindingTypeOf, entryFiled, entryOf, bindingCode}
+use Rattle.resource.specs.Rules.{viewFits, storageFits, textureUse, accelerationUse, checkBindingUse, deriveBindingType}
+use Rattle.resource.specs.Format.{resourceTypeFiled, resourceTypeOf, readResource, bindingTypeFiled, bindingTypeOf, entryFiled, entryOf}
 use Rattle.resource.specs.Answers.{checkWords, deriveWords}
 
 -- words of group 1, binding 7
@@ -30,12 +29,9 @@ entry type content least = place ∷ ofKind 18 (typed type content) ∷ ofKind 6
 abbrev storage : ℕ → ℕ → ℕ
 storage format access = 2 ^ 16 * access + 2 ^ 8 * format + 1
 
--- the number given on a resource and an entry, and on a resource and the entry that it derives
+-- the number given on a resource and an entry
 abbrev served : List ℕ → List ℕ → ℕ
 served resource provided = checkWords resource provided .number
-
-abbrev again : List ℕ → ℕ
-again resource = served resource (place ∷ deriveWords resource false .first ∷ deriveWords resource false .second ∷ ofKind 19 1 ∷ [])
 
 pub record Example : Type 0 where
   pub found : ℕ
@@ -43,34 +39,15 @@ pub record Example : Type 0 where
 
 pub examples : List Example
 examples =
-    -- P1: uniform size 64 on least 64, none and 63
-    record { found = served (buffer 0 64) (entry 0 0 64); right = 0 } ∷
-    record { found = served (buffer 0 64) (entry 0 0 0); right = 0 } ∷
-    record { found = served (buffer 0 64) (entry 0 0 63); right = 25 } ∷
-    -- P2: a storage texture that stores, and one that loads, on an entry of both
-    record { found = served (other 4 (storage 0 2)) (entry 4 (storage 0 2) 0); right = 0 } ∷
-    record { found = served (other 4 (storage 0 1)) (entry 4 (storage 0 2) 0); right = 27 } ∷
-    -- P10: an arrayed 2D texture on a sampler
-    record { found = served (other 2 5) (entry 1 0 0); right = 26 } ∷
-    -- a texture on a buffer, a buffer on a texture
-    record { found = served (other 2 1) (entry 0 0 0); right = 26 } ∷
-    record { found = served (buffer 0 64) (entry 2 1 0); right = 22 } ∷
     -- an entry's format that can't be stored, and one in another view
     record { found = served (other 4 (storage 0 2)) (entry 4 (storage 28 1) 0); right = 30 } ∷
     record { found = served (other 2 0) (entry 4 (storage 28 1) 0); right = 26 } ∷
     -- atomic is compared with atomic, load and store
     record { found = served (other 4 (storage 0 7)) (entry 4 (storage 0 3) 0); right = 0 } ∷
-    record { found = served (other 4 (storage 0 4)) (entry 4 (storage 0 3) 0); right = 27 } ∷
-    -- vertex return, comparison
+    -- vertex return
     record { found = served (other 6 1) (entry 6 0 0); right = 22 } ∷
-    record { found = served (other 1 1) (entry 1 1 0); right = 28 } ∷
-    -- a storage buffer of access 0 derives load and store, which does not serve it
-    record { found = deriveWords (buffer 8 64) false .first; right = ofKind 18 1 } ∷
-    record { found = again (buffer 8 64); right = 23 } ∷
-    record { found = again (buffer 9 64); right = 0 } ∷
-    -- a space that is neither uniform nor storage, and words that are none
+    -- a space that is neither uniform nor storage, and an entry that is read-only and not storage
     record { found = deriveWords (buffer 16 64) false .number; right = 24 } ∷
-    record { found = served (buffer 0 0) (entry 0 0 0); right = 2 } ∷
     record { found = served (buffer 0 64) (entry 0 2 0); right = 3 } ∷
     []
 
@@ -80,6 +57,6 @@ allRight (e ∷ es) = pick (eqb (e .found) (e .right)) (allRight es) false
 
 pub examples-right : allRight examples ≡ true
 unfolding allRight examples
-    checkWords deriveWords readResource resourceTypeFiled resourceTypeOf bindingTypeFiled bindingTypeOf entryFiled entryOf bindingCode
-    sameSpace bufferUse samplerUse viewFits sampledFits storageFits textureUse accelerationUse checkBindingUse derivedTexture deriveBindingType yes
+    checkWords deriveWords readResource resourceTypeFiled resourceTypeOf bindingTypeFiled bindingTypeOf entryFiled entryOf
+    viewFits storageFits textureUse accelerationUse checkBindingUse deriveBindingType yes
 examples-right = refl

@@ -1,5 +1,3 @@
-pub mod UseLaws
-pub mod DeriveLaws
 pub mod ResourceLaws
 pub mod CodeLaws
 pub mod EntryLaws
@@ -8,7 +6,10 @@ pub mod HandBack
 pub mod EntryFormat
 pub mod ResourceFormat
 pub mod SameBinding
+pub mod WordLaws
+pub mod WordTextures
+pub mod WordUses
+pub mod UseLaws
+pub mod DeriveLaws
 pub mod AnswerLaws
 pub mod Examples
-pub mod WordLaws
-pub mod WordUses

@@ -1,16 +1,19 @@
 -- What the reader of resources reads: the resource that stands at the start, within the ranges that words can hold.
-use Prim.Native.Nat.{ℕ, _^_, _<_}
+use Prim.Native.Nat.{ℕ, _^_, _<_, _≤_}
 use native.Mathlib.Omega.{arith}
 use mathlib.Core.Path.{_≡_, refl, _∙_}
 use mathlib.Core.Bool.{true, false, not, _&&_}
 use mathlib.Core.List.{List, [], _∷_}
 use lib.Dec.{eqb, ltb}
-use borrow.Author.Tests.{lt-ltb, eqb-true}
+use borrow.Author.Tests.{lt-ltb, eqb-true, eqb-false}
 use Rattle.word.specs.Words.{wordAt, kindOf, contentOf, bits, bit}
 use Rattle.word.specs.Parse.{fault, got}
 use Rattle.resource.specs.Rules.{storable}
-use Rattle.resource.specs.Format.{placeFiled, placeOf, placeHeld, typeCode, spaceAt, spaceHeld, bufferFiled, storageFiled, resourceTypeFiled, resourceWordFiled}
+use Rattle.resource.specs.Format.{placeFiled, placeOf, placeHeld, typeCode, bitSet, sampleKindAt, texture, spaceAt, spaceHeld, bufferFiled, storageFiled, resourceTypeFiled, resourceWordFiled}
 use Rattle.resource.specs.Format.{sizeFiled, isBuffer, resource, resourceTypeOf, readResource, resourceAt, typeHeld, resourceHeld}
+use Rattle.resource.specs.declared.types.ImageClass.the-variants as Class
+use Rattle.resource.specs.declared.types.ResourceType.{ResourceType}
+use Rattle.resource.specs.declared.types.ResourceType.the-variants as Res
 use Rattle.resource.specs.declared.types.Resource.{Resource}
 use Rattle.word.proofs.Truth.{first, second, by-test, never}
 
@@ -61,6 +64,30 @@ read-at ws r rest h =
 
 pub place-held : (w : ℕ) → placeHeld (placeOf w) ≡ true
 place-held w = rw (lt-ltb (bits 26 23 w) 16 (omega arith), lt-ltb (bits 22 0 w) (2 ^ 23) (omega arith))
+
+-- codes that differ from the first ones
+pub past-two : (c : ℕ) → (c ≡ 0 → ⊥) → (c ≡ 1 → ⊥) → (c ≡ 2 → ⊥) → 3 ≤ c
+past-two c n0 n1 n2 = omega arith
+
+pub past-five : (c : ℕ) → 3 ≤ c → (c ≡ 3 → ⊥) → (c ≡ 4 → ⊥) → (c ≡ 5 → ⊥) → 6 ≤ c
+past-five c l n3 n4 n5 = omega arith
+
+-- what a type word of a resource means, by its code
+pub by-resource : (P : ResourceType → Type 0) (w size : ℕ) → (typeCode w ≡ 0 → P (Res.Buffer size (spaceAt (bits 4 3 w) (bits 2 0 w))))
+    → (typeCode w ≡ 1 → P (Res.Sampler (bitSet 0 w))) → (typeCode w ≡ 2 → P (texture w (Class.Sampled (sampleKindAt (bits 5 4 w)) (bitSet 3 w))))
+    → (typeCode w ≡ 3 → P (texture w (Class.Depth (bitSet 3 w)))) → (typeCode w ≡ 4 → P (texture w (Class.Storage (bits 14 8 w) (bits 18 16 w))))
+    → (typeCode w ≡ 5 → P (texture w Class.External)) → (6 ≤ typeCode w → P (Res.AccelerationStructure (bitSet 0 w))) → P (resourceTypeOf w size)
+unfolding resourceTypeOf
+by-resource P w size c0 c1 c2 c3 c4 c5 c6 =
+    by-test (eqb (typeCode w) 0) (λ t. rw t (c0 (eqb-true (typeCode w) 0 t))) λ n0.
+    by-test (eqb (typeCode w) 1) (λ t. rw (n0, t) (c1 (eqb-true (typeCode w) 1 t))) λ n1.
+    by-test (eqb (typeCode w) 2) (λ t. rw (n0, n1, t) (c2 (eqb-true (typeCode w) 2 t))) λ n2.
+    by-test (eqb (typeCode w) 3) (λ t. rw (n0, n1, n2, t) (c3 (eqb-true (typeCode w) 3 t))) λ n3.
+    by-test (eqb (typeCode w) 4) (λ t. rw (n0, n1, n2, n3, t) (c4 (eqb-true (typeCode w) 4 t))) λ n4.
+    by-test (eqb (typeCode w) 5) (λ t. rw (n0, n1, n2, n3, n4, t) (c5 (eqb-true (typeCode w) 5 t))) λ n5.
+    let below : 3 ≤ typeCode w = past-two (typeCode w) (eqb-false (typeCode w) 0 n0) (eqb-false (typeCode w) 1 n1) (eqb-false (typeCode w) 2 n2) in
+    rw (n0, n1, n2, n3, n4, n5)
+    (c6 (past-five (typeCode w) below (eqb-false (typeCode w) 3 n3) (eqb-false (typeCode w) 4 n4) (eqb-false (typeCode w) 5 n5)))
 
 -- a well filed type by its code
 pub type-cases : {P : Type 0} (w : ℕ) → resourceTypeFiled w ≡ true

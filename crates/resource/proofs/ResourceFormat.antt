@@ -24,8 +24,8 @@ use Rattle.resource.specs.declared.types.ResourceType.the-variants as Re
 use Rattle.resource.specs.declared.types.Resource.{Resource}
 use Rattle.word.proofs.Truth.{first, second, by-test, codes-back}
 use Rattle.resource.proofs.CodeLaws.{flag-most}
-use Rattle.resource.proofs.ReadLaws.{read-cases, type-cases, storage-parts}
-use Rattle.resource.proofs.EntryFormat.{field, flag-read, flag-back, place-filed, place-read, place-back}
+use Rattle.resource.proofs.ReadLaws.{read-cases, by-resource, type-cases, storage-parts}
+use Rattle.resource.proofs.EntryFormat.{field, code-sum, flag-read, flag-back, place-filed, place-read, place-back}
 
 -- ---- codes
 
@@ -45,10 +45,6 @@ space-back c a l h =
 texture-back : (w : ℕ) → dimensionCode (dimensionAt (bits 1 0 w)) + 4 * flag (bitSet 2 w) ≡ bits 2 0 w
 texture-back w = rw (dimension-back (bits 1 0 w) (omega arith), flag-back (bit 2 w) (omega arith)) (omega (arith, field w 4 2))
 
-stored-sum : (w a f : ℕ) → typeCode w ≡ 4 → w / 2 ^ 16 ≡ 2 ^ 7 * (w / 2 ^ 23) + a → w / 8 ≡ 2 ^ 13 * (w / 2 ^ 16) + 2 ^ 5 * f
-    → 2 ^ 23 * 4 + (2 ^ 16 * a + 2 ^ 8 * f) + bits 2 0 w ≡ contentOf w
-stored-sum w a f e p q = omega (arith, field w (2 ^ 23) 16)
-
 -- ---- a well filed type's word is written again
 
 code-back : (w size : ℕ) → resourceTypeFiled w ≡ true → resourceCode (resourceTypeOf w size) ≡ contentOf w
@@ -65,21 +61,16 @@ code-back w size h =
     (let z : bits 22 4 w ≡ 0 = eqb-true (bits 22 4 w) 0 f in omega (arith, field w 8 2, field w 16 (2 ^ 19), high)))
     (λ e f. rw (e, texture-back w)
     (let s = storage-parts w f in
-    stored-sum w (bits 18 16 w) (bits 14 8 w) e (omega (arith, field w (2 ^ 16) 8, field w (2 ^ 19) 16))
-    (omega (arith, field w 8 32, field w 256 128, field w (2 ^ 15) 2))))
+    let above : w / 2 ^ 16 ≡ 2 ^ 7 * (w / 2 ^ 23) + bits 18 16 w = omega (arith, field w (2 ^ 16) 8, field w (2 ^ 19) 16) in
+    let below : w / 8 ≡ 2 ^ 13 * (w / 2 ^ 16) + 2 ^ 5 * bits 14 8 w = omega (arith, field w 8 32, field w 256 128, field w (2 ^ 15) 2) in
+    omega (arith, code-sum w (bits 18 16 w) (bits 14 8 w) e above below)))
     (λ e f. rw (e, texture-back w) (let z : bits 22 3 w ≡ 0 = eqb-true (bits 22 3 w) 0 f in omega (arith, field w 8 (2 ^ 20), high)))
     (λ e f. rw (e, flag-back (bit 0 w) (omega arith)) (let z : bits 22 1 w ≡ 0 = eqb-true (bits 22 1 w) 0 f in omega (arith, field w 2 (2 ^ 22), high)))
 
 sizes-back : (w size : ℕ) → sizeWords (resourceTypeOf w size) ≡ pick (isBuffer w) (ofKind 6 size ∷ []) []
-unfolding resourceTypeOf
 sizes-back w size =
-    by-test (eqb (typeCode w) 0) (λ t. rw t) λ n0.
-    by-test (eqb (typeCode w) 1) (λ t. rw (n0, t)) λ n1.
-    by-test (eqb (typeCode w) 2) (λ t. rw (n0, n1, t)) λ n2.
-    by-test (eqb (typeCode w) 3) (λ t. rw (n0, n1, n2, t)) λ n3.
-    by-test (eqb (typeCode w) 4) (λ t. rw (n0, n1, n2, n3, t)) λ n4.
-    by-test (eqb (typeCode w) 5) (λ t. rw (n0, n1, n2, n3, n4, t)) λ n5.
-    rw (n0, n1, n2, n3, n4, n5)
+    by-resource (λ r. sizeWords r ≡ pick (isBuffer w) (ofKind 6 size ∷ []) []) w size
+    (λ e. rw e) (λ e. rw e) (λ e. rw e) (λ e. rw e) (λ e. rw e) (λ e. rw e) (λ l. rw (ne-eqb (typeCode w) 0 (λ e. omega arith)))
 
 type-word : (t size : ℕ) → resourceWordFiled t ≡ true → ofKind 16 (resourceCode (resourceTypeOf t size)) ≡ t
 type-word t size h =

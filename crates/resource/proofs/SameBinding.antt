@@ -3,7 +3,7 @@ use Prim.Native.Nat.{ℕ}
 use mathlib.Core.Path.{_≡_, refl}
 use mathlib.Core.Bool.{true}
 use mathlib.Core.List.{List, [], _∷_, List·Memᴰ, List·Memᴰ·head, List·Memᴰ·tail}
-use borrow.Author.Tests.{eqb-true, eq-eqb}
+use borrow.Author.Tests.{eqb-true}
 use Rattle.resource.specs.Rules.{useNumber}
 use Rattle.resource.specs.Format.{bindingCode, leastSize, sameBinding, formatHeld}
 use Rattle.resource.specs.declared.types.BindingType.{BindingType}
@@ -12,10 +12,7 @@ use Rattle.resource.specs.declared.types.BindingUse.the-variants as Use
 use Rattle.word.proofs.Truth.{first, second}
 use Rattle.resource.proofs.EntryFormat.{type-read}
 
--- the same where and, for held types, only where they are equal
-pub same-binding : (a b : BindingType) → a ≡ b → sameBinding a b ≡ true
-same-binding a b e = rw (e, eq-eqb (bindingCode b) (bindingCode b) refl, eq-eqb (leastSize b) (leastSize b) refl)
-
+-- held types that are the same are equal
 pub same-binding-eq : (a b : BindingType) → formatHeld a ≡ true → formatHeld b ≡ true → sameBinding a b ≡ true → a ≡ b
 same-binding-eq a b p q h =
     let c : bindingCode a ≡ bindingCode b = search (eqb-true, first) in

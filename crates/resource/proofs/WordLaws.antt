@@ -18,6 +18,7 @@ use Rattle.resource.specs.declared.types.BindingType.{BindingType}
 use Rattle.resource.specs.declared.types.Derived.{Derived}
 use Rattle.resource.specs.declared.types.Derived.the-variants as Der
 use Rattle.word.proofs.Truth.{by-test, allBelow, below-all}
+use Rattle.resource.proofs.ReadLaws.{by-resource}
 use Rattle.resource.proofs.EntryFormat.{flag-back, type-back, least-back}
 
 -- ---- the numbers of a derived type
@@ -99,14 +100,11 @@ buffer-least size w =
     by-test (eqb (bits 4 3 w) 1) (λ t. rw (n0, t) refl) (λ n1. rw (n0, n1) tt)
 
 least-derived : (w size : ℕ) (named : Bool) → Least (deriveBindingType (resourceTypeOf w size) named) (pick (isBuffer w) size 0)
-unfolding resourceTypeOf deriveBindingType derivedTexture
+unfolding deriveBindingType derivedTexture
 least-derived w size named =
-    by-test (eqb (typeCode w) 0) (λ t. rw t (buffer-least size w)) λ n0.
-    by-test (eqb (typeCode w) 1) (λ t. rw (n0, t) refl) λ n1.
-    by-test (eqb (typeCode w) 2) (λ t. rw (n0, n1, t) refl) λ n2.
-    by-test (eqb (typeCode w) 3) (λ t. rw (n0, n1, n2, t) refl) λ n3.
-    by-test (eqb (typeCode w) 4) (λ t. rw (n0, n1, n2, n3, t) refl) λ n4.
-    by-test (eqb (typeCode w) 5) (λ t. rw (n0, n1, n2, n3, n4, t) refl) (λ n5. rw (n0, n1, n2, n3, n4, n5) refl)
+    by-resource (λ r. Least (deriveBindingType r named) (pick (isBuffer w) size 0)) w size
+    (λ e. rw e (buffer-least size w)) (λ e. rw e refl) (λ e. rw e refl) (λ e. rw e refl) (λ e. rw e refl) (λ e. rw e refl)
+    (λ l. rw (ne-eqb (typeCode w) 0 (λ e. omega arith)) refl)
 
 -- only a buffer derives a least size, and that is its own
 pub derived-least : (w size : ℕ) (named : Bool) (ty : BindingType) → deriveBindingType (resourceTypeOf w size) named ≡ Der.Binding ty

@@ -230,11 +230,6 @@ deriveBindingType (Res.Sampler comparison) named = Der.Binding (Bind.Sampler (pi
 deriveBindingType (Res.Texture dim arrayed class) named = Der.Binding (derivedTexture class (derivedView dim arrayed) named)
 deriveBindingType (Res.AccelerationStructure returns) named = Der.Binding (Bind.AccelerationStructure returns)
 
--- document 01's number of a derivation
-abbrev pub derivedNumber : Derived → ℕ
-derivedNumber (Der.Binding ty) = 0
-derivedNumber Der.WrongBufferAddressSpace = 24
-
 -- ---- demand 3's conditions on a resource
 
 -- 'storage buffers are load or load with store, its arrayed textures 2D or cube, its external textures 2D and not arrayed,

@@ -3,13 +3,14 @@ ghost use mathlib.Core.Path.{_≡_};
 ghost use mathlib.Core.Bool.{true};
 ghost use Prim.Native.Nat.{_≤_};
 ghost use Rattle.word.specs.Words.{ofKind};
+ghost use Rattle.resource.specs.Rules.{viewCode};
 ghost use Rattle.resource.specs.Format.{flag, bufferCode, samplerCode, sampleCode, accessCode, bindingCode, leastSize, formatHeld};
-use crate::texture_uses::view_code;
 use crate::types::BindingType;
 use crate::types::BufferBindingType;
 use crate::types::SamplerBindingType;
 use crate::types::StorageTextureAccess;
 use crate::types::TextureSampleType;
+use crate::types::TextureViewDimension;
 
 fn flag(b: bool) -> u64
     ensures { λ r. ⌜ r ≡ flag b ⌝ }
@@ -53,6 +54,21 @@ fn sample_code(sample_type: TextureSampleType) -> u64
         TextureSampleType::Depth => 2,
         TextureSampleType::Sint => 3,
         TextureSampleType::Uint => 4,
+    }
+}
+
+// The number of a view dimension.
+pub fn view_code(view: TextureViewDimension) -> u64
+    ensures { λ r. ⌜ r ≡ viewCode view ⌝ }
+    ensures { λ r. ⌜ r ≤ 5 ⌝ }
+{
+    match view {
+        TextureViewDimension::D1 => 0,
+        TextureViewDimension::D2 => 1,
+        TextureViewDimension::D2Array => 2,
+        TextureViewDimension::Cube => 3,
+        TextureViewDimension::CubeArray => 4,
+        TextureViewDimension::D3 => 5,
     }
 }
 

@@ -5,29 +5,21 @@ ghost use Rattle.word.specs.Choice.{pick};
 ghost use Rattle.word.specs.Answers.{refused};
 ghost use Rattle.word.specs.declared.answer.Answer.{Answer};
 ghost use Rattle.resource.specs.Format.{readResource, resourceAt, resourceHeld, entryAt};
-ghost use Rattle.resource.specs.Answers.{bindingAnswer, onlyResource, onlyEntry, checkWords, deriveWords};
+ghost use Rattle.resource.specs.Answers.{onlyResource, onlyEntry, checkWords, deriveWords};
 ghost use Rattle.resource.specs.declared.types.Resource.{Resource};
 ghost use Rattle.resource.specs.declared.types.BindGroupLayoutEntry.{BindGroupLayoutEntry};
+use crate::answers::binding_answer;
 use crate::binding_codes::binding_word;
 use crate::binding_codes::least_word;
+use crate::derives::derive_binding_type;
 use crate::entry_words::entry_at;
 use crate::entry_words::entry_filed;
 use crate::resource_words::resource_at;
 use crate::resource_words::resource_next;
 use crate::types::Derived;
-use crate::types::ResourceBinding;
+use crate::uses::check_binding_use;
 use crate::uses::use_number;
 use word::answer::Answer;
-
-// The answer of a number that names a place.
-pub fn binding_answer(number: u32, bind: ResourceBinding) -> Answer
-    ensures { λ r. ⌜ r ≡ bindingAnswer number bind ⌝ }
-{
-    if number == 0 {
-        return Answer::accepted();
-    }
-    Answer::new(number, bind.group, bind.binding, 0)
-}
 
 // Whether the words are a resource and nothing more.
 fn resource_alone(ws: &[u32]) -> bool
@@ -68,7 +60,7 @@ pub fn check_words(resource: &[u32], entry: &[u32]) -> Answer
     let ty = r.ty;
     let bind = r.bind;
     let provided = e.ty;
-    binding_answer(use_number(ty.check_binding_use(provided)), bind)
+    binding_answer(use_number(check_binding_use(ty, provided)), bind)
 }
 
 // The type word and the least-size word of the entry that a resource asks for.
@@ -81,7 +73,7 @@ pub fn derive_words(resource: &[u32], named: bool) -> Answer
     let r = resource_at(resource, 0);
     let ty = r.ty;
     let bind = r.bind;
-    match ty.derive_binding_type(named) {
+    match derive_binding_type(ty, named) {
         Derived::Binding { ty: derived } => {
             Answer::new(0, binding_word(derived), least_word(derived), 0)
         }

@@ -1,6 +1,6 @@
 // The binding type that a shader's resource asks for.
 ghost use mathlib.Core.Path.{_≡_};
-ghost use Rattle.resource.specs.Rules.{derivedView, derivedSample, derivedAccess, derivedTexture, derivedBuffer, deriveBindingType, derivedNumber};
+ghost use Rattle.resource.specs.Rules.{derivedView, derivedSample, derivedAccess, derivedTexture, derivedBuffer, deriveBindingType};
 ghost use Rattle.word.specs.Choice.{pick, yes};
 ghost use Rattle.resource.specs.declared.types.SamplerBindingType.the-variants as Samp;
 use crate::types::AddressSpace;
@@ -120,38 +120,26 @@ fn sampler_type(comparison: bool) -> SamplerBindingType
     SamplerBindingType::Filtering
 }
 
-impl ResourceType {
-    // The binding type, or that there is none for the address space.
-    pub fn derive_binding_type(self, named: bool) -> Derived
-        ensures { λ r. ⌜ r ≡ deriveBindingType self named ⌝ }
-    {
-        match self {
-            ResourceType::Buffer { size, space } => buffer_type(size, space),
-            ResourceType::Sampler { comparison } => Derived::Binding {
-                ty: BindingType::Sampler {
-                    ty: sampler_type(comparison),
-                },
-            },
-            ResourceType::Texture {
-                dim,
-                arrayed,
-                class,
-            } => Derived::Binding {
-                ty: texture_type(class, view_dimension(dim, arrayed), named),
-            },
-            ResourceType::AccelerationStructure { vertex_return } => Derived::Binding {
-                ty: BindingType::AccelerationStructure { vertex_return },
-            },
-        }
-    }
-}
-
-// The number of a derivation.
-pub fn derived_number(derived: Derived) -> u32
-    ensures { λ r. ⌜ r ≡ derivedNumber derived ⌝ }
+// The binding type, or that there is none for the address space.
+pub fn derive_binding_type(ty: ResourceType, named: bool) -> Derived
+    ensures { λ r. ⌜ r ≡ deriveBindingType ty named ⌝ }
 {
-    match derived {
-        Derived::Binding { .. } => 0,
-        Derived::WrongBufferAddressSpace => 24,
+    match ty {
+        ResourceType::Buffer { size, space } => buffer_type(size, space),
+        ResourceType::Sampler { comparison } => Derived::Binding {
+            ty: BindingType::Sampler {
+                ty: sampler_type(comparison),
+            },
+        },
+        ResourceType::Texture {
+            dim,
+            arrayed,
+            class,
+        } => Derived::Binding {
+            ty: texture_type(class, view_dimension(dim, arrayed), named),
+        },
+        ResourceType::AccelerationStructure { vertex_return } => Derived::Binding {
+            ty: BindingType::AccelerationStructure { vertex_return },
+        },
     }
 }

@@ -119,7 +119,7 @@ fn fields_filed(code: u32, w: u32) -> bool
 }
 
 // What a type word and a least size mean.
-pub fn binding_type_of(w: u32, least: u64) -> BindingType
+fn binding_type_of(w: u32, least: u64) -> BindingType
     ensures { λ r. ⌜ r ≡ bindingTypeOf w least ⌝ }
 {
     let code = w / 0x80_0000 % 16;

@@ -1,4 +1,5 @@
 // Shader resources and layout entries: what they are, when a layout entry serves a resource, and the entry a resource asks for.
+pub mod answers;
 pub mod binding_codes;
 pub mod check_words;
 pub mod derives;
@@ -7,4 +8,6 @@ pub mod resource_words;
 pub mod texture_uses;
 pub mod types;
 pub mod uses;
-pub mod word_rules;
+pub mod word_derives;
+pub mod word_textures;
+pub mod word_uses;

@@ -6,9 +6,9 @@ ghost use lib.ListN.{length, drop};
 ghost use Rattle.word.specs.Words.{contentOf};
 ghost use Rattle.word.specs.Choice.{pick};
 ghost use Rattle.word.specs.Parse.{one, from, behind, restAt};
+ghost use Rattle.resource.specs.Rules.{storable};
 ghost use Rattle.resource.specs.Format.{placeFiled, placeOf, placeWord, placeHeld, dimensionAt, sampleKindAt, spaceAt, bufferFiled, storageFiled};
 ghost use Rattle.resource.specs.Format.{resourceTypeFiled, resourceWordFiled, sizeFiled, isBuffer, texture, resourceTypeOf, resource, readResource, resourceAt};
-use crate::texture_uses::storable;
 use crate::types::AddressSpace;
 use crate::types::ImageClass;
 use crate::types::ImageDimension;
@@ -19,7 +19,7 @@ use crate::types::SampleKind;
 use word::word;
 
 // Whether a word is a place.
-pub fn place_filed(w: u32) -> bool
+fn place_filed(w: u32) -> bool
     ensures { λ r. ⌜ r ≡ placeFiled w ⌝ }
 {
     w / 0x800_0000 == 4
@@ -91,6 +91,16 @@ fn buffer_filed(w: u32) -> bool
     w / 32 % 0x4_0000 == 0 && (w / 8 % 4 < 3 && (w / 8 % 4 == 1 || w % 8 == 0))
 }
 
+// Whether textures of a format can be stored to.
+pub fn storable(format: u32) -> bool
+    ensures { λ r. ⌜ r ≡ storable format ⌝ }
+{
+    if format < 43 {
+        return format != 28 && format != 31;
+    }
+    false
+}
+
 // A shader's format is storable, and its access is not 0.
 fn storage_filed(w: u32) -> bool
     ensures { λ r. ⌜ r ≡ storageFiled w ⌝ }
@@ -111,7 +121,7 @@ fn storage_filed(w: u32) -> bool
 }
 
 // Whether a word's type is known and its unnamed bits are zero.
-pub fn resource_type_filed(w: u32) -> bool
+fn resource_type_filed(w: u32) -> bool
     ensures { λ r. ⌜ r ≡ resourceTypeFiled w ⌝ }
 {
     let code = w / 0x80_0000 % 16;
@@ -150,7 +160,7 @@ fn texture(w: u32, class: ImageClass) -> ResourceType
 }
 
 // What a type word and a buffer's size mean.
-pub fn resource_type_of(w: u32, size: u64) -> ResourceType
+fn resource_type_of(w: u32, size: u64) -> ResourceType
     ensures { λ r. ⌜ r ≡ resourceTypeOf w size ⌝ }
 {
     let code = w / 0x80_0000 % 16;

@@ -1,9 +1,10 @@
 // Whether a layout entry serves a shader's texture.
 ghost use mathlib.Core.Path.{_≡_};
-ghost use Prim.Native.Nat.{_≤_};
 ghost use Rattle.word.specs.Choice.{pick};
-ghost use Rattle.resource.specs.Rules.{storable, viewCode, kindCode, viewFits, classOf, sampledFits, storageFits, accessOf, isExternal, classUse, textureUse};
+ghost use Rattle.resource.specs.Rules.{storable, kindCode, viewFits, classOf, sampledFits, storageFits, accessOf, isExternal, classUse, textureUse};
 ghost use Rattle.resource.specs.declared.types.BindingUse.the-variants as Use;
+use crate::binding_codes::view_code;
+use crate::resource_words::storable;
 use crate::types::BindingType;
 use crate::types::BindingUse;
 use crate::types::ImageClass;
@@ -12,32 +13,7 @@ use crate::types::SampleKind;
 use crate::types::StorageTextureAccess;
 use crate::types::TextureSampleType;
 use crate::types::TextureViewDimension;
-use crate::uses::same_bool;
-
-// Whether textures of a format can be stored to.
-pub fn storable(format: u32) -> bool
-    ensures { λ r. ⌜ r ≡ storable format ⌝ }
-{
-    if format < 43 {
-        return format != 28 && format != 31;
-    }
-    false
-}
-
-// The number of a view dimension.
-pub fn view_code(view: TextureViewDimension) -> u64
-    ensures { λ r. ⌜ r ≡ viewCode view ⌝ }
-    ensures { λ r. ⌜ r ≤ 5 ⌝ }
-{
-    match view {
-        TextureViewDimension::D1 => 0,
-        TextureViewDimension::D2 => 1,
-        TextureViewDimension::D2Array => 2,
-        TextureViewDimension::Cube => 3,
-        TextureViewDimension::CubeArray => 4,
-        TextureViewDimension::D3 => 5,
-    }
-}
+use crate::word_uses::same_bool;
 
 // Arrayed textures are 2D or cube.
 fn view_fits(dim: ImageDimension, arrayed: bool, view: TextureViewDimension) -> bool
@@ -186,7 +162,7 @@ fn storage_use(class: ImageClass, access: StorageTextureAccess, format: u32) -> 
 }
 
 // A texture on an entry that is none, or in another view, has the wrong view dimension.
-pub fn texture_use(
+pub(crate) fn texture_use(
     dim: ImageDimension,
     arrayed: bool,
     class: ImageClass,

@@ -1,6 +1,6 @@
 // Whether a layout entry serves a shader's resource.
 ghost use mathlib.Core.Path.{_≡_};
-ghost use Rattle.resource.specs.Rules.{sameBool, spaceOf, sameSpace, sizeUse, bufferUse, comparing, samplerUse, accelerationUse, checkBindingUse, useNumber};
+ghost use Rattle.resource.specs.Rules.{spaceOf, sameSpace, sizeUse, bufferUse, comparing, samplerUse, accelerationUse, checkBindingUse, useNumber};
 use crate::texture_uses::texture_use;
 use crate::types::AddressSpace;
 use crate::types::BindingType;
@@ -8,12 +8,7 @@ use crate::types::BindingUse;
 use crate::types::BufferBindingType;
 use crate::types::ResourceType;
 use crate::types::SamplerBindingType;
-
-pub fn same_bool(a: bool, b: bool) -> bool
-    ensures { λ r. ⌜ r ≡ sameBool a b ⌝ }
-{
-    if a { b } else { !b }
-}
+use crate::word_uses::same_bool;
 
 // The address space that a buffer entry stands for.
 fn space_of(ty: BufferBindingType) -> AddressSpace
@@ -134,28 +129,26 @@ fn acceleration_use(vertex_return: bool, entry: BindingType) -> BindingUse
     }
 }
 
-impl ResourceType {
-    // Whether a layout entry serves the resource, and if not, why.
-    pub fn check_binding_use(self, entry: BindingType) -> BindingUse
-        ensures { λ r. ⌜ r ≡ checkBindingUse self entry ⌝ }
-    {
-        match self {
-            ResourceType::Buffer { size, space } => buffer_use(size, space, entry),
-            ResourceType::Sampler { comparison } => sampler_use(comparison, entry),
-            ResourceType::Texture {
-                dim,
-                arrayed,
-                class,
-            } => texture_use(dim, arrayed, class, entry),
-            ResourceType::AccelerationStructure { vertex_return } => {
-                acceleration_use(vertex_return, entry)
-            }
+// Whether a layout entry serves a resource, and if not, why.
+pub fn check_binding_use(ty: ResourceType, entry: BindingType) -> BindingUse
+    ensures { λ r. ⌜ r ≡ checkBindingUse ty entry ⌝ }
+{
+    match ty {
+        ResourceType::Buffer { size, space } => buffer_use(size, space, entry),
+        ResourceType::Sampler { comparison } => sampler_use(comparison, entry),
+        ResourceType::Texture {
+            dim,
+            arrayed,
+            class,
+        } => texture_use(dim, arrayed, class, entry),
+        ResourceType::AccelerationStructure { vertex_return } => {
+            acceleration_use(vertex_return, entry)
         }
     }
 }
 
 // The number of an answer.
-pub fn use_number(binding_use: BindingUse) -> u32
+pub(crate) fn use_number(binding_use: BindingUse) -> u32
     ensures { λ r. ⌜ r ≡ useNumber «binding_use» ⌝ }
 {
     match binding_use {

@@ -1,8 +1,16 @@
 // Prints what resources of every sort meet on layout entries of every sort, a sign for each answer, and the entry types that they derive.
 // The stored output is from the original Rust, by oracle/ on the same words in the order printed here, its numbers turned into signs.
 // The Rust has no words: where they are no resource or no entry the oracle gives document 01's 2 or 3, and beside 24 the place.
+// Each answer is given by value and by the rules on words, and has a question mark where the two differ.
 ghost use Prim.Native.Nat.{_+_, _<_, _^_};
 use libc::STDOUT_FILENO;
+use resource::check_words::check_words;
+use resource::check_words::derive_words;
+use resource::word_derives::derived_least;
+use resource::word_derives::derived_word;
+use resource::word_uses::words_use;
+use word::answer::Answer;
+use word::word;
 
 // Group 1, binding 7; a size of 64; no least size; visible to the vertex stage.
 const PLACE: u32 = 0x2080_0007;
@@ -38,10 +46,24 @@ fn put(number: u32) {
     }
 }
 
+// Whether the words of a resource and of an entry give the number that was given by value; 2 and 3 are of words that are none.
+fn words_agree(number: u32, resource: &[u32], w: u32, least: u32) -> bool {
+    if number == 2 {
+        return true;
+    }
+    if number == 3 {
+        return true;
+    }
+    words_use(word(resource, 1), word(resource, 2), w, least) == number
+}
+
 fn check(resource: &[u32], place: u32, w: u32, least: u32, visibility: u32) {
     let entry = [place, w, least, visibility];
-    let answer = resource::check_words::check_words(resource, &entry);
+    let answer = check_words(resource, &entry);
     put(answer.number);
+    if !words_agree(answer.number, resource, w, least) {
+        write(b"?");
+    }
 }
 
 // Entries whose type words follow each other.
@@ -53,14 +75,26 @@ fn columns(resource: &[u32], first: u32, n: u32, least: u32)
     }
 }
 
+// Whether the words of a resource give the words that were derived by value; where none can be, 0 for the type.
+fn derived_agree(answer: Answer, resource: &[u32], named: bool) -> bool {
+    let w = word(resource, 1);
+    if answer.number != 0 {
+        return derived_word(w, named) == 0;
+    }
+    derived_word(w, named) == answer.first && derived_least(w, word(resource, 2)) == answer.second
+}
+
 fn derived(resource: &[u32], named: bool) {
-    let answer = resource::check_words::derive_words(resource, named);
+    let answer = derive_words(resource, named);
     write(b" ");
     io::print_decimal(STDOUT_FILENO, answer.number as u64);
     write(b" ");
     io::print_decimal(STDOUT_FILENO, answer.first as u64);
     write(b" ");
     io::print_decimal(STDOUT_FILENO, answer.second as u64);
+    if !derived_agree(answer, resource, named) {
+        write(b"?");
+    }
 }
 
 // A resource against buffers of no least size, one too small and one large enough, samplers, textures, storage textures by access,

@@ -27,11 +27,11 @@ use lists::sizes::record_words;
 use lists::types::Found;
 use lists::visibility::sees;
 use lists::visibility::stage_bit;
-use resource::check_words::binding_answer;
+use resource::answers::binding_answer;
 use resource::resource_words::place_of;
-use resource::word_rules::derived_least;
-use resource::word_rules::derived_word;
-use resource::word_rules::words_use;
+use resource::word_derives::derived_least;
+use resource::word_derives::derived_word;
+use resource::word_uses::words_use;
 use word::answer::Answer;
 use word::content;
 
