@@ -16,8 +16,9 @@ ghost use Rattle.stage.specs.Resources.{resourceSteps};
 ghost use Rattle.stage.specs.Given.{Given};
 ghost use Rattle.stage.specs.Judging.{requestWith, handedOut};
 ghost use Rattle.stage.specs.Stage.{inputWalk, judgement, outWords, runBody, onEntryPoint, onChosen, callGood, checkStage, call};
+use crate::derive::derive_steps;
 use crate::judge::judge;
-use crate::resources::resource_steps;
+use crate::provide::provide_steps;
 use interface::check_pack::index_pack;
 use interface::choose::find_entry_point;
 use interface::parts::pairs_counted;
@@ -57,21 +58,33 @@ fn check_resources(
 {
     let at = parts.counts;
     let counts = pack[at];
-    let n = resources_counted(counts);
-    let pairs = pairs_counted(counts);
-    resource_steps(
+    let n = resources_counted(counts) as u32;
+    let stage = stage_at(stage);
+    if mode == 1 {
+        let pairs = pairs_counted(counts);
+        let derived = derive_steps(
+            pack,
+            offsets,
+            parts.resources,
+            n,
+            parts.pairs,
+            pairs,
+            stage,
+            layout,
+        );
+        return derived.answer;
+    }
+    let provided = provide_steps(
         pack,
         offsets,
         parts.resources,
         n,
-        parts.pairs,
-        pairs,
-        stage_at(stage),
-        mode == 1,
+        stage,
         entries,
         layout,
         sizes,
-    )
+    );
+    provided.answer
 }
 
 // The steps behind the resources, and the list out where all of them passed.
