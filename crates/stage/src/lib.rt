@@ -3,3 +3,4 @@ pub mod check;
 pub mod judge;
 pub mod pairs;
 pub mod resources;
+pub mod types;

@@ -1,0 +1,8 @@
+// The numbers of a call.
+pub struct Codes {
+    pub stage: u32,
+    pub topology: u32,
+    pub mode: u32,
+    pub dual_source: u32,
+    pub depth: u32,
+}
