@@ -2,7 +2,7 @@
 use Prim.Native.Nat.{ℕ, _+_, _*_, _^_}
 use native.Mathlib.Omega.{arith}
 use mathlib.Core.Path.{_≡_, refl, sym, _∙_}
-use mathlib.Core.Bool.{true, false, _&&_}
+use mathlib.Core.Bool.{true, _&&_}
 use mathlib.Core.List.{List, [], _∷_}
 use lib.Dec.{eqb, ltb}
 use lib.ListN.{length, take}
@@ -22,17 +22,17 @@ use Rattle.interface.specs.Format.{stageAt, member}
 use Rattle.interface.specs.declared.types.ShaderStage.{ShaderStage}
 use Rattle.stage_steps.specs.Interfaces.{stageOut}
 use Rattle.stage_steps.specs.declared.types.InputWalk.{InputWalk}
-use Rattle.stage.specs.Meaning.{Call, State}
-use Rattle.stage.specs.Resources.{resourceNth, namedTexture, providedUse, resourceSteps, pairUses}
+use Rattle.stage.specs.Meaning.{Call}
+use Rattle.stage.specs.Resources.{resourceNth, namedTexture, providedUse, provideSteps, pairUses}
 use Rattle.stage.specs.Stage.{callGood, requestOf, inputWalk, judgement, runBody, checkStage}
 use Rattle.stage.proofs.GivenLaws.{resource-held, entry-pairs}
 use Rattle.handback.specs.HandBack.{derivedOver, putAgain, packKept, interfaceOfCall, entryOfCall, lacking, RoomEnough, used, Again}
 use Rattle.handback.proofs.Growth.{Grows}
 use Rattle.handback.proofs.Derives.{Placed, placed-grows}
 use Rattle.handback.proofs.Packs.{resource-kept, pairs-kept}
-use Rattle.handback.proofs.Provides.{placed-serves, Accepts, provide-steps}
+use Rattle.handback.proofs.Provides.{placed-serves, provide-steps}
 use Rattle.handback.proofs.Pairs.{pairs-accepted}
-use Rattle.handback.proofs.Bodies.{body-accepts, provided-judged, others-mode}
+use Rattle.handback.proofs.Bodies.{provided-accepts, provided-judged, others-mode}
 use Rattle.handback.proofs.Calls.{Runs, runs-on}
 use Rattle.handback.proofs.Runs.{Leaves, entryOf, run-answer, run-out}
 
@@ -104,29 +104,25 @@ module _ (l final sizes out : List ℕ) (c : Call) (x : Leaves l c) (f : layoutF
       (second (placeHeld (s .bind)) (typeHeld (s .ty)) (resource-held (c .pack) i (x .runs .decoded) j))
       (resource-kept i (rw interface-is at k) j)
 
-  abbrev steps-again : State
-  steps-again = resourceSteps (stageAt (c .stage)) false (i .resources) (e .pairs) (e .resources) (decodeLayout final) (decodeSizes sizes)
-
-  accepts-again : Accepts (decodeLayout final) steps-again
-  accepts-again =
-      provide-steps (stageAt (c .stage)) (i .resources) (e .pairs) (e .resources) (decodeLayout final) (decodeSizes sizes) served-again
+  steps-again : provideSteps (stageAt (c .stage)) (decodeLayout final) (i .resources) (e .resources) (decodeSizes sizes) .answer ≡ accepted
+  steps-again =
+      provide-steps (stageAt (c .stage)) (decodeLayout final) (i .resources) (e .resources) (decodeSizes sizes) served-again
       (leb-true (2 * lacking (i .resources) (e .resources) (decodeSizes sizes .records)) (length (decodeSizes sizes .room)) (rw (entry-is, interface-is) at (r .free)))
 
-  pairs-again : pairUses (steps-again .layout) (i .resources) (e .pairs) ≡ accepted
+  pairs-again : pairUses (decodeLayout final) (i .resources) (e .pairs) ≡ accepted
   pairs-again =
-      rw (accepts-again .layout)
-      (pairs-accepted (stageAt (c .stage)) (i .resources) (e .pairs) (decodeLayout final) (good (decodeLayout final) (good-decode final f) .distinct) (e .resources) placed-again
-      (entry-pairs (c .pack) i (x .runs .decoded) (x .runs .position)) (pairs-kept i (rw interface-is at k) (x .runs .position)))
+      pairs-accepted (stageAt (c .stage)) (i .resources) (e .pairs) (decodeLayout final) (good (decodeLayout final) (good-decode final f) .distinct) (e .resources) placed-again
+      (entry-pairs (c .pack) i (x .runs .decoded) (x .runs .position)) (pairs-kept i (rw interface-is at k) (x .runs .position))
 
-  judged-again : judgement (requestOf again) i e (decodeStage (c .inputs)) (steps-again .layout) ≡ accepted
+  judged-again : judgement (requestOf again) i e (decodeStage (c .inputs)) (decodeLayout final) ≡ accepted
   judged-again =
-      provided-judged (requestOf again) i e (decodeStage (c .inputs)) (steps-again .layout) refl pairs-again
+      provided-judged (requestOf again) i e (decodeStage (c .inputs)) (decodeLayout final) refl pairs-again
       ∙ (sym (others-mode (stageAt (c .stage)) (c .topology) (eqb (c .dual) 1) (eqb (c .depth) 1) i e (decodeStage (c .inputs))) ∙ x .passed)
 
   answered-again : runBody again i e .answer ≡ accepted
   answered-again =
       run-answer again i e
-      ∙ body-accepts (requestOf again) i e (decodeStage (c .inputs)) (decodeLayout final) (decodeSizes sizes) steps-again refl (accepts-again .answer) judged-again
+      ∙ provided-accepts (requestOf again) i e (decodeStage (c .inputs)) (decodeLayout final) (decodeSizes sizes) refl steps-again judged-again
 
   pub put-again : Again (checkStage (derivedOver l c)) (checkStage again)
   unfolding runs-again

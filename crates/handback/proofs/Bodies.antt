@@ -14,7 +14,7 @@ use Rattle.interface.specs.declared.types.ShaderStage.the-variants as Stage
 use Rattle.stage_steps.specs.Meaning.{Request, both}
 use Rattle.stage_steps.specs.Interfaces.{workgroupStep, placesStep, fragmentOutputs, lastStep}
 use Rattle.stage.specs.Meaning.{State, state, andThen}
-use Rattle.stage.specs.Resources.{resourceSteps, pairUses}
+use Rattle.stage.specs.Resources.{provideSteps, providedOver, DeriveResult, deriveSteps, derivedBeside, resourceSteps, pairUses}
 use Rattle.stage.specs.Stage.{afterInputs, inputWalk, judgement, stageBody}
 
 -- ---- a step, and a judgement of what it left
@@ -35,19 +35,31 @@ module _ (x : State) (k : Layout → Answer) where
 -- ---- the body
 
 module _ (q : Request) (i : Interface) (e : EntryPoint) (inputs : StageIo) (L : Layout) (S : Sizes) where
-  pub body-layout : stageBody q i e inputs L S .layout ≡ resourceSteps (q .stage) (q .derived) (i .resources) (e .pairs) (e .resources) L S .layout
-  unfolding stageBody
-  body-layout = then-layout (resourceSteps (q .stage) (q .derived) (i .resources) (e .pairs) (e .resources) L S) (judgement q i e inputs)
+  -- the resources in derived mode leave the sizes, in provided mode the layout
+  derived-steps : q .derived ≡ true
+      → resourceSteps (q .stage) (q .derived) (i .resources) (e .pairs) (e .resources) L S ≡ derivedBeside S (deriveSteps (q .stage) (i .resources) (e .pairs) (e .resources) L)
+  unfolding resourceSteps
+  derived-steps d = rw (yes-true (q .derived) d)
 
-  pub body-parts : (x : State) → resourceSteps (q .stage) (q .derived) (i .resources) (e .pairs) (e .resources) L S ≡ x
+  provided-steps : q .derived ≡ false
+      → resourceSteps (q .stage) (q .derived) (i .resources) (e .pairs) (e .resources) L S ≡ providedOver L (provideSteps (q .stage) L (i .resources) (e .resources) S)
+  unfolding resourceSteps
+  provided-steps d = rw (yes-false (q .derived) d)
+
+  pub derived-layout : q .derived ≡ true → stageBody q i e inputs L S .layout ≡ deriveSteps (q .stage) (i .resources) (e .pairs) (e .resources) L .layout
+  unfolding stageBody
+  derived-layout d = rw (derived-steps d) (then-layout (derivedBeside S (deriveSteps (q .stage) (i .resources) (e .pairs) (e .resources) L)) (judgement q i e inputs))
+
+  pub derived-parts : (x : DeriveResult) → q .derived ≡ true → deriveSteps (q .stage) (i .resources) (e .pairs) (e .resources) L ≡ x
       → stageBody q i e inputs L S .answer ≡ accepted → (eqb (x .answer .number) 0 ≡ true) × (judgement q i e inputs (x .layout) ≡ accepted)
   unfolding stageBody
-  body-parts x r h = then-parts x (judgement q i e inputs) (rw r at h)
+  derived-parts x d r h = then-parts (derivedBeside S x) (judgement q i e inputs) (rw (derived-steps d, r) at h)
 
-  pub body-accepts : (x : State) → resourceSteps (q .stage) (q .derived) (i .resources) (e .pairs) (e .resources) L S ≡ x
-      → x .answer ≡ accepted → judgement q i e inputs (x .layout) ≡ accepted → stageBody q i e inputs L S .answer ≡ accepted
+  pub provided-accepts : q .derived ≡ false → provideSteps (q .stage) L (i .resources) (e .resources) S .answer ≡ accepted
+      → judgement q i e inputs L ≡ accepted → stageBody q i e inputs L S .answer ≡ accepted
   unfolding stageBody
-  body-accepts x r a h = rw r (then-accepts x (judgement q i e inputs) a h)
+  provided-accepts d a h =
+      rw (provided-steps d) (then-accepts (providedOver L (provideSteps (q .stage) L (i .resources) (e .resources) S)) (judgement q i e inputs) a h)
 
 -- ---- what is judged behind resources and pairs
 

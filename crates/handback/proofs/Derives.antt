@@ -8,7 +8,6 @@ use mathlib.Core.List.{List, [], _∷_}
 use lib.Dec.{eqb, ltb}
 use lib.ListN.{length, length-append}
 use borrow.Author.Tests.{eqb-true, leb-true, lt-ltb}
-use Rattle.word.specs.Choice.{pick, yes}
 use Rattle.word.specs.Answers.{accepted}
 use Rattle.word.specs.declared.answer.Answer.{Answer}
 use Rattle.resource.specs.Rules.{deriveBindingType}
@@ -21,7 +20,7 @@ use Rattle.resource.specs.declared.types.Derived.the-variants as Der
 use Rattle.resource.proofs.SameBinding.{same-binding-eq}
 use Rattle.resource.proofs.HandBack.{derived-held}
 use Rattle.word.proofs.Truth.{first, second, by-test, never}
-use Rattle.lists.specs.Meaning.{Layout, Sizes, samePlace, findEntry, entryPlaces, entryHas, entryNth, fits, pushed, seesBit, joined}
+use Rattle.lists.specs.Meaning.{Layout, samePlace, findEntry, entryPlaces, entryHas, entryNth, fits, pushed, seesBit, joined}
 use Rattle.lists.specs.Format.{entryFits, layoutGood}
 use Rattle.lists.specs.declared.types.Found.{Found}
 use Rattle.lists.specs.declared.types.Found.the-variants.{At, Nothing}
@@ -32,9 +31,9 @@ use Rattle.interface.specs.Format.{stageCode, member}
 use Rattle.interface.specs.declared.types.ShaderStage.{ShaderStage}
 use Rattle.interface.specs.declared.types.ShaderStage.the-variants as Stage
 use Rattle.interface.specs.declared.types.SamplingPair.{SamplingPair}
-use Rattle.stage.specs.Meaning.{State, state}
 use Rattle.interface.proofs.EncodeEntry.{stage-below}
-use Rattle.stage.specs.Resources.{resourceNth, occupied, vacant, newEntry, placeStep, derivedStep, deriveStep, namedTexture, resourceStep, resourceSteps}
+use Rattle.stage.specs.Resources.{resourceNth, LayoutAfter, layoutAfter, occupied, vacant, newEntry, placeStep, derivedStep, deriveStep, namedTexture}
+use Rattle.stage.specs.Resources.{DeriveResult, deriveResult, deriveOn, deriveSteps}
 use Rattle.handback.proofs.Entries.{find-sound}
 use Rattle.handback.proofs.Growth.{join-sets, good-nth, Grows, grows-refl, grows-trans, grows-pushed, grows-joined}
 
@@ -81,13 +80,13 @@ placed-grows stage named r L M g p =
 -- ---- one resource
 
 -- what a step over a layout comes to
-pub record Stepped (stage : ShaderStage) (named : Bool) (r : Resource) (L : Layout) (x : State) : Type 0 where
+pub record Stepped (stage : ShaderStage) (named : Bool) (r : Resource) (L : Layout) (x : LayoutAfter) : Type 0 where
   pub good : layoutGood (x .layout) ≡ true
   pub grows : Grows L (x .layout)
   pub placed : eqb (x .answer .number) 0 ≡ true → Placed stage named r (x .layout)
 
-module _ (stage : ShaderStage) (named : Bool) (r : Resource) (L : Layout) (S : Sizes) (g : layoutGood L ≡ true) where
-  refuses : (a : Answer) → eqb (a .number) 0 ≡ false → Stepped stage named r L (state a L S)
+module _ (stage : ShaderStage) (named : Bool) (r : Resource) (L : Layout) (g : layoutGood L ≡ true) where
+  refuses : (a : Answer) → eqb (a .number) 0 ≡ false → Stepped stage named r L (layoutAfter a L)
   refuses a f = record { good = g; grows = grows-refl L; placed = λ t. never (eqb (a .number) 0) t f }
 
   module _ (ty : BindingType) (e : deriveBindingType (r .ty) named ≡ Der.Binding ty) (h : resourceHeld r ≡ true) where
@@ -116,26 +115,26 @@ module _ (stage : ShaderStage) (named : Bool) (r : Resource) (L : Layout) (S : S
           seen = rw same (join-sets (stageCode stage) (entryNth (L .entries) i .visibility) (stage-below stage) (fit .visibility));
         }
 
-    pushes : Placed stage named r (pushed L (newEntry stage r ty))
+    pushes : Placed stage named r (pushed L (newEntry stage (r .bind) ty))
     unfolding pushed
     pushes =
-        let last = nth-last (L .entries) (newEntry stage r ty) in
+        let last = nth-last (L .entries) (newEntry stage (r .bind) ty) in
         record {
           type = ty;
           derived = e;
           at = length (L .entries);
-          there = omega (arith, length-append (L .entries) (newEntry stage r ty ∷ []));
+          there = omega (arith, length-append (L .entries) (newEntry stage (r .bind) ty ∷ []));
           place = rw last (same-place-refl (r .bind));
           holds = rw last;
           seen = rw last (bit-seen stage);
         }
 
-    new-fits : ltb (r .bind .group) (L .groups) ≡ true → entryFits (L .groups) (newEntry stage r ty) ≡ true
+    new-fits : ltb (r .bind .group) (L .groups) ≡ true → entryFits (L .groups) (newEntry stage (r .bind) ty) ≡ true
     new-fits t =
         let p : placeHeld (r .bind) ≡ true = search first in
         rw (p, derived-held (r .ty) named ty (second (placeHeld (r .bind)) (typeHeld (r .ty)) h) e, lt-ltb (2 ^ stageCode stage) 32 (bit-short stage), t)
 
-    place-step : ltb (r .bind .group) (L .groups) ≡ true → (f : Found) → findEntry (r .bind) L ≡ f → Stepped stage named r L (placeStep stage r ty f L S)
+    place-step : ltb (r .bind .group) (L .groups) ≡ true → (f : Found) → findEntry (r .bind) L ≡ f → Stepped stage named r L (placeStep stage (r .bind) ty f L)
     unfolding occupied vacant
     place-step l (At i) q =
         by-test (sameBinding ty (entryNth (L .entries) i .ty))
@@ -152,18 +151,18 @@ module _ (stage : ShaderStage) (named : Bool) (r : Resource) (L : Layout) (S : S
         (λ t.
         rw t
         (record {
-          good = good-pushed L g (newEntry stage r ty) (new-fits l) (lacks q) (leb-true 4 (length (L .room)) t);
-          grows = grows-pushed L (newEntry stage r ty);
+          good = good-pushed L g (newEntry stage (r .bind) ty) (new-fits l) (lacks q) (leb-true 4 (length (L .room)) t);
+          grows = grows-pushed L (newEntry stage (r .bind) ty);
           placed = λ z. pushes;
         }))
         (λ n. rw n (refuses (bindingAnswer 5 (r .bind)) refl))
 
   derived-step : resourceHeld r ≡ true → ltb (r .bind .group) (L .groups) ≡ true → (d : Derived) → deriveBindingType (r .ty) named ≡ d
-      → Stepped stage named r L (derivedStep stage r d L S)
+      → Stepped stage named r L (derivedStep stage (r .bind) d L)
   derived-step h l (Der.Binding ty) e = place-step ty e h l (findEntry (r .bind) L) refl
   derived-step h l Der.WrongBufferAddressSpace e = refuses (bindingAnswer 24 (r .bind)) refl
 
-  pub derive-step : resourceHeld r ≡ true → Stepped stage named r L (deriveStep stage named r L S)
+  pub derive-step : resourceHeld r ≡ true → Stepped stage named r L (deriveStep stage named r L)
   unfolding deriveStep
   derive-step h =
       by-test (ltb (r .bind .group) (L .groups))
@@ -173,21 +172,22 @@ module _ (stage : ShaderStage) (named : Bool) (r : Resource) (L : Layout) (S : S
 -- ---- each resource in list order
 
 -- what the steps over a list of resources come to
-pub record Folded (stage : ShaderStage) (resources : List Resource) (pairs : List SamplingPair) (is : List ℕ) (L : Layout) (x : State) : Type 0 where
+pub record Folded (stage : ShaderStage) (resources : List Resource) (pairs : List SamplingPair) (is : List ℕ) (L : Layout) (x : DeriveResult) : Type 0 where
   pub good : layoutGood (x .layout) ≡ true
   pub grows : Grows L (x .layout)
   pub placed : eqb (x .answer .number) 0 ≡ true → (i : ℕ) → member i is ≡ true → Placed stage (namedTexture i pairs) (resourceNth resources i) (x .layout)
 
 module _ (stage : ShaderStage) (resources : List Resource) (pairs : List SamplingPair) where
-  fold-none : (L : Layout) (S : Sizes) (a : Answer) → layoutGood L ≡ true → Folded stage resources pairs [] L (state a L S)
+  fold-none : (L : Layout) (a : Answer) → layoutGood L ≡ true → Folded stage resources pairs [] L (deriveResult a 0 L)
   unfolding member
-  fold-none L S a g = record { good = g; grows = grows-refl L; placed = λ z i m. never false m refl }
+  fold-none L a g = record { good = g; grows = grows-refl L; placed = λ z i m. never false m refl }
 
   -- a step, and the others where it was accepted
-  fold-cons : (i : ℕ) (is : List ℕ) (L : Layout) (x y : State) → Stepped stage (namedTexture i pairs) (resourceNth resources i) L x
-      → Folded stage resources pairs is (x .layout) y → Folded stage resources pairs (i ∷ is) L (pick (eqb (x .answer .number) 0) y x)
+  fold-cons : (i : ℕ) (is : List ℕ) (L : Layout) (x : LayoutAfter) (k : Layout → DeriveResult) → Stepped stage (namedTexture i pairs) (resourceNth resources i) L x
+      → Folded stage resources pairs is (x .layout) (k (x .layout)) → Folded stage resources pairs (i ∷ is) L (deriveOn x k)
   unfolding member
-  fold-cons i is L x y s rest =
+  fold-cons i is L x k s rest =
+      let y = k (x .layout) in
       by-test (eqb (x .answer .number) 0)
       (λ t.
       rw t
@@ -203,11 +203,11 @@ module _ (stage : ShaderStage) (resources : List Resource) (pairs : List Samplin
       }))
       (λ n. rw n (record { good = s .good; grows = s .grows; placed = λ z. never (eqb (x .answer .number) 0) z n }))
 
-  pub derive-steps : ((i : ℕ) → resourceHeld (resourceNth resources i) ≡ true) → (is : List ℕ) (L : Layout) (S : Sizes) → layoutGood L ≡ true
-      → Folded stage resources pairs is L (resourceSteps stage true resources pairs is L S)
-  unfolding resourceSteps resourceStep yes
-  derive-steps held [] L S g = fold-none L S accepted g
-  derive-steps held (i ∷ is) L S g =
-      let x = deriveStep stage (namedTexture i pairs) (resourceNth resources i) L S in
-      let s = derive-step stage (namedTexture i pairs) (resourceNth resources i) L S g (held i) in
-      fold-cons i is L x (resourceSteps stage true resources pairs is (x .layout) (x .sizes)) s (derive-steps held is (x .layout) (x .sizes) (s .good))
+  pub derive-steps : ((i : ℕ) → resourceHeld (resourceNth resources i) ≡ true) → (is : List ℕ) (L : Layout) → layoutGood L ≡ true
+      → Folded stage resources pairs is L (deriveSteps stage resources pairs is L)
+  unfolding deriveSteps
+  derive-steps held [] L g = fold-none L accepted g
+  derive-steps held (i ∷ is) L g =
+      let x = deriveStep stage (namedTexture i pairs) (resourceNth resources i) L in
+      let s = derive-step stage (namedTexture i pairs) (resourceNth resources i) L g (held i) in
+      fold-cons i is L x (λ L. deriveSteps stage resources pairs is L) s (derive-steps held is (x .layout) (s .good))

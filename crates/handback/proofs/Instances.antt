@@ -50,7 +50,7 @@ use Rattle.interface.specs.Format.{readEntryPoint, sameBytes, hasName, distinct
 use Rattle.interface.specs.Format.{encode}
 use Rattle.interface.specs.Reads.{entryNth as interface-entryNth}
 use Rattle.interface.specs.Rules.{findFrom}
-use Rattle.stage.specs.Resources.{resourceNth, recordSize, providedUse, provideStep, occupied, vacant, deriveStep, namedTexture, resourceStep, resourceSteps}
+use Rattle.stage.specs.Resources.{resourceNth, recordSize, providedUse, provideStep, provideSteps, occupied, vacant, deriveStep, namedTexture, deriveSteps, resourceSteps}
 use Rattle.stage.specs.Resources.{pairNumber, pairUse, pairUses}
 use Rattle.stage.specs.Stage.{judgement, stageBody, callGood, finish, runBody, checkStage}
 use Rattle.handback.specs.HandBack.{runOver, pairsKept, entriesKept, resourcesKept, lacking}
@@ -181,7 +181,7 @@ unfolding yes sumOf closingSum several typeFiled typeOf typeWord sameSpace buffe
     readWorkgroup readMesh contents member ofType pairsOf readEntryPoint sameBytes hasName distinctNames readPack torn decode concat packName
     entryPointWords recordWords encode interface-entryNth findFrom workgroupUse workgroupStep inputStep inputSteps clipPlaces builtInPlaces localCount
     locationUses vertexOutputs anyOf attachmentUse fragmentPlaces fragmentOutputs placesStep meshUse payloadMatch primitiveUse drawUse perVertexUse
-    lastStep localsOf stageOut resourceNth recordSize providedUse provideStep occupied vacant deriveStep namedTexture resourceStep resourceSteps
+    lastStep localsOf stageOut resourceNth recordSize providedUse provideStep provideSteps occupied vacant deriveStep namedTexture deriveSteps resourceSteps
     pairNumber pairUse pairUses judgement stageBody callGood finish runBody checkStage runOver pairsKept entriesKept resourcesKept lacking
 met =
     record {
@@ -272,6 +272,6 @@ unfolding allRight cases yes sumOf closingSum several typeFiled typeOf typeWord 
     readWorkgroup readMesh contents member ofType pairsOf readEntryPoint sameBytes hasName distinctNames readPack torn decode concat packName
     entryPointWords recordWords encode interface-entryNth findFrom workgroupUse workgroupStep inputStep inputSteps clipPlaces builtInPlaces localCount
     locationUses vertexOutputs anyOf attachmentUse fragmentPlaces fragmentOutputs placesStep meshUse payloadMatch primitiveUse drawUse perVertexUse
-    lastStep localsOf stageOut resourceNth recordSize providedUse provideStep occupied vacant deriveStep namedTexture resourceStep resourceSteps
+    lastStep localsOf stageOut resourceNth recordSize providedUse provideStep provideSteps occupied vacant deriveStep namedTexture deriveSteps resourceSteps
     pairNumber pairUse pairUses judgement stageBody callGood finish runBody checkStage runOver pairsKept entriesKept resourcesKept lacking
 cases-right = refl

@@ -7,7 +7,7 @@ use mathlib.Core.List.{List, [], _∷_, _++_}
 use lib.Dec.{eqb}
 use lib.ListN.{length, drop, length-drop}
 use borrow.Author.Tests.{eq-eqb, le-leb}
-use Rattle.word.specs.Choice.{pick, yes}
+use Rattle.word.specs.Choice.{pick}
 use Rattle.word.specs.Answers.{accepted}
 use Rattle.resource.specs.Rules.{handBack}
 use Rattle.resource.specs.Format.{typeHeld}
@@ -23,9 +23,7 @@ use Rattle.lists.specs.declared.types.SizeRecord.{SizeRecord}
 use Rattle.lists.specs.declared.types.Found.the-variants.{At}
 use Rattle.interface.specs.Format.{member}
 use Rattle.interface.specs.declared.types.ShaderStage.{ShaderStage}
-use Rattle.interface.specs.declared.types.SamplingPair.{SamplingPair}
-use Rattle.stage.specs.Meaning.{State, state}
-use Rattle.stage.specs.Resources.{resourceNth, recordSize, providedUse, provideStep, resourceStep, resourceSteps}
+use Rattle.stage.specs.Resources.{resourceNth, SizesAfter, sizesAfter, recordSize, providedUse, provideStep, provideSteps}
 use Rattle.handback.specs.HandBack.{isBuffer, lacking}
 use Rattle.handback.proofs.Entries.{find-unique}
 use Rattle.handback.proofs.Derives.{Placed}
@@ -65,9 +63,9 @@ lacking-places resources (i ∷ is) a b e =
     )
 
 -- a size recorded, with room left for the others
-pub record Sized (resources : List Resource) (is : List ℕ) (L : Layout) (x : State) : Type 0 where
+pub record Sized (resources : List Resource) (is : List ℕ) (x : SizesAfter) : Type 0 where
   pub sizes : Sizes
-  pub step : x ≡ state accepted L sizes
+  pub step : x ≡ sizesAfter accepted sizes
   pub room : 2 * lacking resources is (sizes .records) ≤ length (sizes .room)
 
 -- a list with a record raised, and one with a new record
@@ -77,18 +75,18 @@ raised bind size S = record { records = raiseAt bind size (S .records); room = S
 abbrev added : ResourceBinding → ℕ → Sizes → Sizes
 added bind size S = record { records = S .records ++ (sizeRecord bind size ∷ []); room = drop 2 (S .room) }
 
-module _ (resources : List Resource) (is : List ℕ) (bind : ResourceBinding) (L : Layout) (S : Sizes) where
-  raises : (size : ℕ) (space : AddressSpace) → sizeHas bind (S .records) ≡ true → recordSize bind (Res.Buffer size space) L S ≡ state accepted L (raised bind size S)
+module _ (resources : List Resource) (is : List ℕ) (bind : ResourceBinding) (S : Sizes) where
+  raises : (size : ℕ) (space : AddressSpace) → sizeHas bind (S .records) ≡ true → recordSize bind (Res.Buffer size space) S ≡ sizesAfter accepted (raised bind size S)
   unfolding recordSize recorded
   raises size space t = rw t
 
   adds : (size : ℕ) (space : AddressSpace) → sizeHas bind (S .records) ≡ false → fits 2 (S .room) ≡ true
-      → recordSize bind (Res.Buffer size space) L S ≡ state accepted L (added bind size S)
+      → recordSize bind (Res.Buffer size space) S ≡ sizesAfter accepted (added bind size S)
   unfolding recordSize recorded
   adds size space n f = rw (n, f)
 
   old-sized : (size : ℕ) (space : AddressSpace) → sizeHas bind (S .records) ≡ true → 2 * lacking resources is (S .records) ≤ length (S .room)
-      → Sized resources is L (recordSize bind (Res.Buffer size space) L S)
+      → Sized resources is (recordSize bind (Res.Buffer size space) S)
   old-sized size space t h =
       record {
         sizes = raised bind size S;
@@ -97,7 +95,7 @@ module _ (resources : List Resource) (is : List ℕ) (bind : ResourceBinding) (L
       }
 
   new-sized : (size : ℕ) (space : AddressSpace) → sizeHas bind (S .records) ≡ false
-      → 2 * suc (lacking resources is (S .records ++ (sizeRecord bind 1 ∷ []))) ≤ length (S .room) → Sized resources is L (recordSize bind (Res.Buffer size space) L S)
+      → 2 * suc (lacking resources is (S .records ++ (sizeRecord bind 1 ∷ []))) ≤ length (S .room) → Sized resources is (recordSize bind (Res.Buffer size space) S)
   new-sized size space n h =
       let one = sizeRecord bind 1 in
       let new = sizeRecord bind size in
@@ -111,7 +109,7 @@ module _ (resources : List Resource) (is : List ℕ) (bind : ResourceBinding) (L
   size-step : (ty : ResourceType)
       → 2 * pick (isBuffer ty && not (sizeHas bind (S .records))) (suc (lacking resources is (S .records ++ (sizeRecord bind 1 ∷ [])))) (lacking resources is (S .records))
       ≤ length (S .room)
-      → Sized resources is L (recordSize bind ty L S)
+      → Sized resources is (recordSize bind ty S)
   unfolding recordSize
   size-step (Res.Buffer size space) h =
       by-test (sizeHas bind (S .records)) (λ t. old-sized size space t (rw t at h)) (λ n. new-sized size space n (rw n at h))
@@ -121,28 +119,24 @@ module _ (resources : List Resource) (is : List ℕ) (bind : ResourceBinding) (L
 
 -- ---- each resource in list order
 
-pub record Accepts (L : Layout) (x : State) : Type 0 where
-  pub answer : x .answer ≡ accepted
-  pub layout : x .layout ≡ L
-
-module _ (stage : ShaderStage) (resources : List Resource) (pairs : List SamplingPair) where
+module _ (stage : ShaderStage) (L : Layout) (resources : List Resource) where
   -- one resource that is served
-  provide-step : (r : Resource) (L : Layout) (S T : Sizes) → recordSize (r .bind) (r .ty) L S ≡ state accepted L T → providedUse stage L r ≡ accepted
-      → provideStep stage r L S ≡ state accepted L T
+  provide-step : (r : Resource) (S T : Sizes) → recordSize (r .bind) (r .ty) S ≡ sizesAfter accepted T → providedUse stage L r ≡ accepted
+      → provideStep stage L r S ≡ sizesAfter accepted T
   unfolding provideStep
-  provide-step r L S T e u = rw (e, u)
+  provide-step r S T e u = rw (e, u)
 
-  steps-on : (i : ℕ) (is : List ℕ) (L : Layout) (S T : Sizes) → provideStep stage (resourceNth resources i) L S ≡ state accepted L T
-      → resourceSteps stage false resources pairs (i ∷ is) L S ≡ resourceSteps stage false resources pairs is L T
-  unfolding resourceSteps resourceStep yes
-  steps-on i is L S T e = rw e
+  steps-on : (i : ℕ) (is : List ℕ) (S T : Sizes) → provideStep stage L (resourceNth resources i) S ≡ sizesAfter accepted T
+      → provideSteps stage L resources (i ∷ is) S .answer ≡ provideSteps stage L resources is T .answer
+  unfolding provideSteps
+  steps-on i is S T e = rw e
 
-  pub provide-steps : (is : List ℕ) (L : Layout) (S : Sizes) → ((i : ℕ) → member i is ≡ true → providedUse stage L (resourceNth resources i) ≡ accepted)
-      → 2 * lacking resources is (S .records) ≤ length (S .room) → Accepts L (resourceSteps stage false resources pairs is L S)
-  unfolding resourceSteps lacking member
-  provide-steps [] L S u h = record { answer = refl; layout = refl }
-  provide-steps (i ∷ is) L S u h =
+  pub provide-steps : (is : List ℕ) (S : Sizes) → ((i : ℕ) → member i is ≡ true → providedUse stage L (resourceNth resources i) ≡ accepted)
+      → 2 * lacking resources is (S .records) ≤ length (S .room) → provideSteps stage L resources is S .answer ≡ accepted
+  unfolding provideSteps lacking member
+  provide-steps [] S u h = refl
+  provide-steps (i ∷ is) S u h =
       let r = resourceNth resources i in
-      let s = size-step resources is (r .bind) L S (r .ty) h in
-      let e = provide-step r L S (s .sizes) (s .step) (u i (rw (eq-eqb i i refl))) in
-      rw (steps-on i is L S (s .sizes) e) (provide-steps is L (s .sizes) (λ j m. u j (by-test (eqb j i) (λ t. rw t) (λ n. rw n m))) (s .room))
+      let s = size-step resources is (r .bind) S (r .ty) h in
+      let e = provide-step r S (s .sizes) (s .step) (u i (rw (eq-eqb i i refl))) in
+      rw (steps-on i is S (s .sizes) e) (provide-steps is (s .sizes) (λ j m. u j (by-test (eqb j i) (λ t. rw t) (λ n. rw n m))) (s .room))

@@ -13,14 +13,14 @@ use Rattle.interface.specs.Meaning.{Interface, EntryPoint}
 use Rattle.interface.specs.Format.{stageAt, member}
 use Rattle.interface.specs.Reads.{entryNth}
 use Rattle.stage_steps.specs.Interfaces.{stageOut}
-use Rattle.stage.specs.Meaning.{Call, State}
-use Rattle.stage.specs.Resources.{resourceNth, namedTexture, resourceSteps}
+use Rattle.stage.specs.Meaning.{Call}
+use Rattle.stage.specs.Resources.{resourceNth, namedTexture, DeriveResult, deriveSteps}
 use Rattle.stage.specs.Stage.{requestOf, inputWalk, stageBody, finish, runBody, checkStage}
 use Rattle.stage.proofs.GivenLaws.{resource-held}
 use Rattle.handback.specs.HandBack.{derivedOver, runOver}
 use Rattle.handback.proofs.Growth.{Grows, grows-refl, grows-trans}
 use Rattle.handback.proofs.Derives.{Placed, Folded, derive-steps}
-use Rattle.handback.proofs.Bodies.{body-layout, body-parts, derived-judged, others}
+use Rattle.handback.proofs.Bodies.{derived-layout, derived-parts, derived-judged, others}
 use Rattle.handback.proofs.Calls.{Runs, runs-on, by-call}
 
 -- ---- one list after another
@@ -42,19 +42,19 @@ ran-encoded l X g h = record { filed = filed-encode X g; grows = rw (decode-enco
 
 module _ (l : List ℕ) (c : Call) where
   -- what its resources come to
-  abbrev pub stepsOf : Interface → EntryPoint → State
-  stepsOf i e = resourceSteps (stageAt (c .stage)) true (i .resources) (e .pairs) (e .resources) (decodeLayout l) (decodeSizes (c .sizes))
+  abbrev pub stepsOf : Interface → EntryPoint → DeriveResult
+  stepsOf i e = deriveSteps (stageAt (c .stage)) (i .resources) (e .pairs) (e .resources) (decodeLayout l)
 
   run-layout : (i : Interface) (e : EntryPoint) → runBody (derivedOver l c) i e .layout ≡ encodeLayout (stepsOf i e .layout)
   unfolding runBody finish
-  run-layout i e = ap encodeLayout (body-layout (requestOf (derivedOver l c)) i e (decodeStage (c .inputs)) (decodeLayout l) (decodeSizes (c .sizes)))
+  run-layout i e = ap encodeLayout (derived-layout (requestOf (derivedOver l c)) i e (decodeStage (c .inputs)) (decodeLayout l) (decodeSizes (c .sizes)) refl)
 
   module _ (f : layoutFiled l ≡ true) where
     folded : (b : Runs (derivedOver l c)) (e : EntryPoint)
         → Folded (stageAt (c .stage)) (b .interface .resources) (e .pairs) (e .resources) (decodeLayout l) (stepsOf (b .interface) e)
     folded b e =
         derive-steps (stageAt (c .stage)) (b .interface .resources) (e .pairs) (resource-held (c .pack) (b .interface) (b .decoded)) (e .resources) (decodeLayout l)
-        (decodeSizes (c .sizes)) (good-decode l f)
+        (good-decode l f)
 
     pub ran-call : Ran l (checkStage (derivedOver l c) .layout)
     ran-call =
@@ -105,7 +105,7 @@ module _ (l : List ℕ) (c : Call) (f : layoutFiled l ≡ true) (b : Runs (deriv
       let q = requestOf (derivedOver l c) in
       let inputs = decodeStage (c .inputs) in
       let x = stepsOf l c (b .interface) entry in
-      let p = body-parts q (b .interface) entry inputs (decodeLayout l) (decodeSizes (c .sizes)) x refl (sym (run-answer (derivedOver l c) (b .interface) entry) ∙ answered) in
+      let p = derived-parts q (b .interface) entry inputs (decodeLayout l) (decodeSizes (c .sizes)) x refl refl (sym (run-answer (derivedOver l c) (b .interface) entry) ∙ answered) in
       (p .0, sym (derived-judged q (b .interface) entry inputs (x .layout) refl) ∙ p .1)
 
   left-layout : decodeLayout (checkStage (derivedOver l c) .layout) ≡ stepsOf l c (b .interface) entry .layout

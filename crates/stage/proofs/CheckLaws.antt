@@ -10,6 +10,7 @@ use borrow.Author.Tests.{eq-eqb, ne-eqb, lt-ltb, le-ltb, ltb-true}
 use Rattle.word.specs.Words.{wordAt, bits}
 use Rattle.word.specs.Answers.{refused}
 use Rattle.word.specs.declared.answer.Answer.{Answer}
+use Rattle.word.proofs.Tests.{yes-true, yes-false}
 use Rattle.word.proofs.Truth.{first, second}
 use Rattle.lists.specs.Meaning.{Layout, Sizes, every}
 use Rattle.lists.specs.Format.{layoutFiled, sizesFiled, outFiled}
@@ -28,8 +29,8 @@ use Rattle.stage_steps.specs.ListOut.{outputHeld}
 use Rattle.stage_steps.specs.declared.types.Request.{Request}
 use Rattle.stage_steps.specs.declared.types.Summary.{Summary}
 use Rattle.stage.specs.declared.types.Codes.{Codes}
-use Rattle.stage.specs.Meaning.{Lent, Call, Outcome, outcome, State, state}
-use Rattle.stage.specs.Resources.{resourceSteps}
+use Rattle.stage.specs.Meaning.{Lent, Call, Outcome, outcome, state}
+use Rattle.stage.specs.Resources.{provideResult, provideSteps, deriveResult, deriveSteps, resourceSteps}
 use Rattle.stage.specs.Given.{resourceTable, eachHeld, eachBelow, Named, Given}
 use Rattle.stage.specs.Judging.{bindingSteps}
 use Rattle.stage.specs.Stage.{pairStep, listsGood, requestOf, derivedOf, outWords, runBody, onEntryPoint, onChosen, onNamed}
@@ -39,7 +40,7 @@ use Rattle.stage.proofs.GivenLaws.{given-held, given-below, given-pairs
 
 -- ---- the resources of an entry point that stands at positions
 
-module _ (ws : List ℕ) (p : EntryParts) (k n m : ℕ) (ek : k ≡ wordAt ws (p .counts)) (en : n ≡ bits 23 18 k) (em : m ≡ bits 17 12 k) where
+module _ (ws : List ℕ) (p : EntryParts) (k n : ℕ) (ek : k ≡ wordAt ws (p .counts)) (en : n ≡ bits 23 18 k) where
   pub resources-standing : contents (take n (drop (p .resources) ws)) ≡ standing ws p .resources
   unfolding standing
   resources-standing = rw (en, ek)
@@ -53,16 +54,28 @@ module _ (ws : List ℕ) (p : EntryParts) (k n m : ℕ) (ek : k ≡ wordAt ws (p
       let a : p .pairs ≡ p .resources + n = rw (en, ek) (w .resources) in
       omega (arith, a, w .pairs, w .inputs, w .outputs)
 
-  pub pairs-in : Placed ws p → p .pairs + m ≤ length ws
-  pairs-in w =
+  pub pairs-in : (m : ℕ) → m ≡ bits 17 12 k → Placed ws p → p .pairs + m ≤ length ws
+  pairs-in m em w =
       let b : p .inputs ≡ p .pairs + m = rw (em, ek) (w .pairs) in
       omega (arith, b, w .inputs, w .outputs)
 
-  pub resources-done : (offsets : List ℕ) (i : Interface) (stage : ℕ) (s : ShaderStage) (derived : Bool) (L : Layout) (S : Sizes) (x : State)
-      → Given ws offsets i (standing ws p) → s ≡ stageAt stage
-      → x ≡ resourceSteps s derived (resourceTable ws offsets) (pairsOf (take m (drop (p .pairs) ws))) (contents (take n (drop (p .resources) ws))) L S
-      → x ≡ resourceSteps (stageAt stage) derived (i .resources) (standing ws p .pairs) (standing ws p .resources) L S
-  resources-done offsets i stage s derived L S x g es h = h ∙ rw (es, g .table, pairs-standing ws p k m ek em, resources-standing)
+  module _ (offsets : List ℕ) (i : Interface) (stage mode : ℕ) (s : ShaderStage) (L : Layout) (S : Sizes) (a : Answer) (passed : ℕ)
+      (g : Given ws offsets i (standing ws p)) (es : s ≡ stageAt stage) where
+    pub resources-derived : (m : ℕ) (M : Layout) → m ≡ bits 17 12 k → mode ≡ 1
+        → deriveResult a passed M ≡ deriveSteps s (resourceTable ws offsets) (pairsOf (take m (drop (p .pairs) ws))) (contents (take n (drop (p .resources) ws))) L
+        → state a M S ≡ resourceSteps (stageAt stage) (eqb mode 1) (i .resources) (standing ws p .pairs) (standing ws p .resources) L S
+    unfolding resourceSteps
+    resources-derived m M em t h =
+        let e = rw (es, g .table, pairs-standing ws p k m ek em, resources-standing) at h in
+        rw (yes-true (eqb mode 1) (eq-eqb mode 1 t), ← e)
+
+    pub resources-provided : (T : Sizes) → (mode ≡ 1 → ⊥)
+        → provideResult a passed T ≡ provideSteps s L (resourceTable ws offsets) (contents (take n (drop (p .resources) ws))) S
+        → state a L T ≡ resourceSteps (stageAt stage) (eqb mode 1) (i .resources) (standing ws p .pairs) (standing ws p .resources) L S
+    unfolding resourceSteps
+    resources-provided T t h =
+        let e = rw (es, g .table, resources-standing) at h in
+        rw (yes-false (eqb mode 1) (ne-eqb mode 1 t), ← e)
 
 -- ---- the judgement, and the list out
 

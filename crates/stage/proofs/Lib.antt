@@ -1,7 +1,8 @@
-pub mod StateLaws
 pub mod ResourceParts
 pub mod ResourceLaws
 pub mod ResourceWalk
+pub mod ProvideLaws
+pub mod DeriveLaws
 pub mod PairLaws
 pub mod GivenLaws
 pub mod JudgeLaws

@@ -1,5 +1,5 @@
 -- Which numbers the steps of a stage check answer.
-use Prim.Native.Nat.{ℕ, _+_, _-_, _*_}
+use Prim.Native.Nat.{ℕ, suc, _+_, _-_, _*_}
 use mathlib.Core.Path.{_≡_, refl}
 use mathlib.Core.Bool.{Bool, true, false, not, _||_, _&&_}
 use mathlib.Core.List.{List, [], _∷_}
@@ -28,7 +28,7 @@ use Rattle.varying.specs.declared.InterfaceVar.{InterfaceVar}
 use Rattle.varying.specs.declared.Located.{Located}
 use Rattle.varying.specs.declared.Payload.{Payload}
 use Rattle.varying.specs.declared.Payload.the-variants as Pay
-use Rattle.lists.specs.Meaning.{Layout, Sizes, StageIo, findEntry, sizeFits, fits, varyingAt, entryNth}
+use Rattle.lists.specs.Meaning.{Layout, Sizes, StageIo, findEntry, sizeFits, fits, varyingAt, entryNth, seesBit}
 use Rattle.lists.specs.declared.types.Found.{Found}
 use Rattle.lists.specs.declared.types.Found.the-variants.{At, Nothing}
 use Rattle.lists.specs.declared.types.Provided.{Provided}
@@ -36,7 +36,7 @@ use Rattle.lists.specs.declared.types.Provided.the-variants as Pro
 use Rattle.lists.specs.declared.types.PrimitiveIndex.{PrimitiveIndex}
 use Rattle.lists.specs.declared.types.PrimitiveIndex.the-variants as Index
 use Rattle.interface.specs.Meaning.{EntryPoint, Interface}
-use Rattle.interface.specs.Format.{topologyCode}
+use Rattle.interface.specs.Format.{stageCode, topologyCode}
 use Rattle.interface.specs.declared.types.ShaderStage.{ShaderStage}
 use Rattle.interface.specs.declared.types.ShaderStage.the-variants as Stage
 use Rattle.interface.specs.declared.types.MeshRecord.{MeshRecord}
@@ -52,7 +52,8 @@ use Rattle.stage_steps.specs.Interfaces.{workgroupUse, workgroupStep, vertexInp
 use Rattle.stage_steps.specs.declared.types.InputWalk.{InputWalk}
 use Rattle.stage_steps.specs.declared.types.Walked.{Walked}
 use Rattle.stage.specs.Meaning.{State, state, andThen}
-use Rattle.stage.specs.Resources.{recordSize, foundUse, providedUse, provideStep, occupied, vacant, placeStep, derivedStep, deriveStep, resourceStep, resourceSteps, resourceNth, namedTexture, visibleTo, sampleNumber, filtering, pairNumber, pairUse, pairUses, typeAt}
+use Rattle.stage.specs.Resources.{resourceNth, namedTexture, SizesAfter, sizesAfter, recordSize, foundUse, providedUse, provideStep, ProvideResult, provideResult, provideSteps, providedOver}
+use Rattle.stage.specs.Resources.{LayoutAfter, occupied, vacant, placeStep, derivedStep, deriveStep, DeriveResult, deriveResult, deriveSteps, derivedBeside, resourceSteps, sampleNumber, filtering, pairNumber, pairUse, pairUses, typeAt}
 use Rattle.stage.specs.Stage.{pairStep, inputWalk, behindInputs, judgement, stageBody}
 use Rattle.stage.specs.Table.{among, stepNumbers}
 
@@ -105,57 +106,80 @@ binding-known n bind k = either Step (eqb n 0) accepted (answer n (bind .group) 
 found-known : (stage : ShaderStage) (ty : ResourceType) (L : Layout) (f : Found) → Known (foundUse stage ty L f)
 unfolding among
 found-known stage ty L (At i) =
-    either Known (visibleTo stage (entryNth (L .entries) i)) (useNumber (checkBindingUse ty (entryNth (L .entries) i .ty))) 21
+    either Known (seesBit (stageCode stage) (entryNth (L .entries) i .visibility)) (useNumber (checkBindingUse ty (entryNth (L .entries) i .ty))) 21
     (use-known (checkBindingUse ty (entryNth (L .entries) i .ty))) (lit 21 refl)
 found-known stage ty L Nothing = lit 20 refl
 
+-- a resource against a provided layout
+abbrev Provides : SizesAfter → Type 0
+Provides x = Step (x .answer)
+
+record-known : (bind : ResourceBinding) (ty : ResourceType) (S : Sizes) → Provides (recordSize bind ty S)
+unfolding recordSize among
+record-known bind (Res.Buffer size space) S = either Provides (sizeFits bind S) _ _ none (binding-known 5 bind (lit 5 refl))
+record-known bind (Res.Sampler c) S = none
+record-known bind (Res.Texture d a c) S = none
+record-known bind (Res.AccelerationStructure r) S = none
+
+provide-known : (stage : ShaderStage) (L : Layout) (r : Resource) (S : Sizes) → Provides (provideStep stage L r S)
+unfolding provideStep providedUse
+provide-known stage L r S =
+    let x = recordSize (r .bind) (r .ty) S in
+    either Provides (eqb (x .answer .number) 0) (sizesAfter (providedUse stage L r) (x .sizes)) x
+    (binding-known (foundUse stage (r .ty) L (findEntry (r .bind) L)) (r .bind) (found-known stage (r .ty) L (findEntry (r .bind) L)))
+    (record-known (r .bind) (r .ty) S)
+
+provides-known : (stage : ShaderStage) (L : Layout) (rs : List Resource) (is : List ℕ) (S : Sizes) → Step (provideSteps stage L rs is S .answer)
+unfolding provideSteps
+provides-known stage L rs [] S = none
+provides-known stage L rs (i ∷ is) S =
+    let x = provideStep stage L (resourceNth rs i) S in
+    let y = provideSteps stage L rs is (x .sizes) in
+    either (λ (p : ProvideResult). Step (p .answer)) (eqb (x .answer .number) 0) (provideResult (y .answer) (suc (y .passed)) (y .sizes))
+    (provideResult (x .answer) 0 (x .sizes)) (provides-known stage L rs is (x .sizes)) (provide-known stage L (resourceNth rs i) S)
+
+-- a resource that derives
+abbrev Derives : LayoutAfter → Type 0
+Derives x = Step (x .answer)
+
+place-known : (stage : ShaderStage) (bind : ResourceBinding) (ty : BindingType) (f : Found) (L : Layout) → Derives (placeStep stage bind ty f L)
+unfolding occupied vacant among
+place-known stage bind ty (At i) L = either Derives (sameBinding ty (entryNth (L .entries) i .ty)) _ _ none (binding-known 29 bind (lit 29 refl))
+place-known stage bind ty Nothing L = either Derives (fits 4 (L .room)) _ _ none (binding-known 5 bind (lit 5 refl))
+
+derived-known : (stage : ShaderStage) (bind : ResourceBinding) (d : Derived) (L : Layout) → Derives (derivedStep stage bind d L)
+unfolding among
+derived-known stage bind (Der.Binding ty) L = place-known stage bind ty (findEntry bind L) L
+derived-known stage bind Der.WrongBufferAddressSpace L = binding-known 24 bind (lit 24 refl)
+
+derive-known : (stage : ShaderStage) (named : Bool) (r : Resource) (L : Layout) → Derives (deriveStep stage named r L)
+unfolding deriveStep among
+derive-known stage named r L =
+    either Derives (ltb (r .bind .group) (L .groups)) _ _ (derived-known stage (r .bind) (deriveBindingType (r .ty) named) L)
+    (binding-known 20 (r .bind) (lit 20 refl))
+
+derives-known : (stage : ShaderStage) (rs : List Resource) (ps : List SamplingPair) (is : List ℕ) (L : Layout) → Step (deriveSteps stage rs ps is L .answer)
+unfolding deriveSteps
+derives-known stage rs ps [] L = none
+derives-known stage rs ps (i ∷ is) L =
+    let x = deriveStep stage (namedTexture i ps) (resourceNth rs i) L in
+    let y = deriveSteps stage rs ps is (x .layout) in
+    either (λ (p : DeriveResult). Step (p .answer)) (eqb (x .answer .number) 0) (deriveResult (y .answer) (suc (y .passed)) (y .layout))
+    (deriveResult (x .answer) 0 (x .layout)) (derives-known stage rs ps is (x .layout)) (derive-known stage (namedTexture i ps) (resourceNth rs i) L)
+
+-- in either mode
 abbrev Sound : State → Type 0
 Sound x = Step (x .answer)
-
-record-known : (bind : ResourceBinding) (ty : ResourceType) (L : Layout) (S : Sizes) → Sound (recordSize bind ty L S)
-unfolding recordSize among
-record-known bind (Res.Buffer size space) L S = either Sound (sizeFits bind S) _ _ none (binding-known 5 bind (lit 5 refl))
-record-known bind (Res.Sampler c) L S = none
-record-known bind (Res.Texture d a c) L S = none
-record-known bind (Res.AccelerationStructure r) L S = none
-
-then-known : (x : State) (k : Layout → Sizes → State) → Sound x → ((L : Layout) (S : Sizes) → Sound (k L S)) → Sound (andThen x k)
-then-known x k p q = either Sound (eqb (x .answer .number) 0) (k (x .layout) (x .sizes)) x (q (x .layout) (x .sizes)) p
-
-provide-known : (stage : ShaderStage) (r : Resource) (L : Layout) (S : Sizes) → Sound (provideStep stage r L S)
-unfolding provideStep providedUse
-provide-known stage r L S =
-    then-known (recordSize (r .bind) (r .ty) L S) (λ L S. state (providedUse stage L r) L S) (record-known (r .bind) (r .ty) L S)
-    (λ L S. binding-known (foundUse stage (r .ty) L (findEntry (r .bind) L)) (r .bind) (found-known stage (r .ty) L (findEntry (r .bind) L)))
-
-place-known : (stage : ShaderStage) (r : Resource) (ty : BindingType) (f : Found) (L : Layout) (S : Sizes) → Sound (placeStep stage r ty f L S)
-unfolding occupied vacant among
-place-known stage r ty (At i) L S =
-    either Sound (sameBinding ty (entryNth (L .entries) i .ty)) _ _ none (binding-known 29 (r .bind) (lit 29 refl))
-place-known stage r ty Nothing L S = either Sound (fits 4 (L .room)) _ _ none (binding-known 5 (r .bind) (lit 5 refl))
-
-derived-known : (stage : ShaderStage) (r : Resource) (d : Derived) (L : Layout) (S : Sizes) → Sound (derivedStep stage r d L S)
-unfolding among
-derived-known stage r (Der.Binding ty) L S = place-known stage r ty (findEntry (r .bind) L) L S
-derived-known stage r Der.WrongBufferAddressSpace L S = binding-known 24 (r .bind) (lit 24 refl)
-
-resource-known : (stage : ShaderStage) (derived : Bool) (rs : List Resource) (ps : List SamplingPair) (i : ℕ) (L : Layout) (S : Sizes)
-    → Sound (resourceStep stage derived rs ps i L S)
-unfolding resourceStep deriveStep among
-resource-known stage derived rs ps i L S =
-    let r = resourceNth rs i in
-    either Sound (yes derived) _ _
-    (either Sound (ltb (r .bind .group) (L .groups)) _ _ (derived-known stage r (deriveBindingType (r .ty) (namedTexture i ps)) L S)
-    (binding-known 20 (r .bind) (lit 20 refl)))
-    (provide-known stage r L S)
 
 resources-known : (stage : ShaderStage) (derived : Bool) (rs : List Resource) (ps : List SamplingPair) (is : List ℕ) (L : Layout) (S : Sizes)
     → Sound (resourceSteps stage derived rs ps is L S)
 unfolding resourceSteps
-resources-known stage derived rs ps [] L S = none
-resources-known stage derived rs ps (i ∷ is) L S =
-    then-known (resourceStep stage derived rs ps i L S) (λ L S. resourceSteps stage derived rs ps is L S) (resource-known stage derived rs ps i L S)
-    (λ L S. resources-known stage derived rs ps is L S)
+resources-known stage derived rs ps is L S =
+    either Sound (yes derived) (derivedBeside S (deriveSteps stage rs ps is L)) (providedOver L (provideSteps stage L rs is S))
+    (derives-known stage rs ps is L) (provides-known stage L rs is S)
+
+then-known : (x : State) (k : Layout → Sizes → State) → Sound x → ((L : Layout) (S : Sizes) → Sound (k L S)) → Sound (andThen x k)
+then-known x k p q = either Sound (eqb (x .answer .number) 0) (k (x .layout) (x .sizes)) x (q (x .layout) (x .sizes)) p
 
 -- ---- pairs
 

@@ -1,6 +1,6 @@
 -- The resources of an entry point against a layout, provided or derived, and its pairs of textures and samplers
 -- (document 01, 'Each resource in list order' and 'Provided only: each pair in pack order'; WebGPU, 'validating GPUProgrammableStage').
-use Prim.Native.Nat.{ℕ, zero, suc, _/_, _%_, _^_}
+use Prim.Native.Nat.{ℕ, zero, suc, _^_}
 use mathlib.Core.Bool.{Bool, true, false}
 use mathlib.Core.List.{List, [], _∷_}
 use lib.Dec.{eqb, ltb}
@@ -22,14 +22,14 @@ use Rattle.resource.specs.declared.types.TextureSampleType.the-variants as Samp
 use Rattle.resource.specs.declared.types.BindGroupLayoutEntry.{BindGroupLayoutEntry}
 use Rattle.resource.specs.declared.types.Derived.{Derived}
 use Rattle.resource.specs.declared.types.Derived.the-variants as Der
-use Rattle.lists.specs.Meaning.{Layout, Sizes, findEntry, entryNth, fits, pushed, joined, sizeFits, recorded}
+use Rattle.lists.specs.Meaning.{Layout, Sizes, findEntry, entryNth, seesBit, fits, pushed, joined, sizeFits, recorded}
 use Rattle.lists.specs.declared.types.Found.{Found}
 use Rattle.lists.specs.declared.types.Found.the-variants.{At, Nothing}
 use Rattle.interface.specs.Format.{stageCode}
 use Rattle.interface.specs.declared.types.ShaderStage.{ShaderStage}
 use Rattle.interface.specs.declared.types.SamplingPair.{SamplingPair}
 use Rattle.stage_steps.specs.Meaning.{both}
-use Rattle.stage.specs.Meaning.{State, state, andThen}
+use Rattle.stage.specs.Meaning.{State, state}
 
 -- the resource of an index; past the end an acceleration structure at the first place
 abbrev pub noResource : Resource
@@ -42,20 +42,24 @@ resourceNth (r ∷ rs) (suc i) = resourceNth rs i
 
 -- ---- provided
 
+-- a step against a provided layout: its answer, and the sizes after it
+pub record SizesAfter : Type 0 where
+  pub answer : Answer
+  pub sizes : Sizes
+
+abbrev pub sizesAfter : Answer → Sizes → SizesAfter
+sizesAfter a S = record { answer = a; sizes = S }
+
 -- 'record a buffer's larger size (5)'; other resources record nothing
-unfoldable pub recordSize : ResourceBinding → ResourceType → Layout → Sizes → State
-recordSize bind (Res.Buffer size space) L S =
-    pick (sizeFits bind S) (state accepted L (recorded bind size S)) (state (bindingAnswer 5 bind) L S)
-recordSize bind (Res.Sampler comparison) L S = state accepted L S
-recordSize bind (Res.Texture dim arrayed class) L S = state accepted L S
-recordSize bind (Res.AccelerationStructure returns) L S = state accepted L S
+unfoldable pub recordSize : ResourceBinding → ResourceType → Sizes → SizesAfter
+recordSize bind (Res.Buffer size space) S = pick (sizeFits bind S) (sizesAfter accepted (recorded bind size S)) (sizesAfter (bindingAnswer 5 bind) S)
+recordSize bind (Res.Sampler comparison) S = sizesAfter accepted S
+recordSize bind (Res.Texture dim arrayed class) S = sizesAfter accepted S
+recordSize bind (Res.AccelerationStructure returns) S = sizesAfter accepted S
 
 -- 'visibility (kind 19, bit s for stage s)'
-abbrev pub visibleTo : ShaderStage → BindGroupLayoutEntry → Bool
-visibleTo stage e = eqb (e .visibility / 2 ^ stageCode stage % 2) 1
-
 abbrev pub entryUse : ShaderStage → ResourceType → BindGroupLayoutEntry → ℕ
-entryUse stage ty e = pick (visibleTo stage e) (useNumber (checkBindingUse ty (e .ty))) 21
+entryUse stage ty e = pick (seesBit (stageCode stage) (e .visibility)) (useNumber (checkBindingUse ty (e .ty))) 21
 
 abbrev pub foundUse : ShaderStage → ResourceType → Layout → Found → ℕ
 foundUse stage ty L (At i) = entryUse stage ty (entryNth (L .entries) i)
@@ -65,53 +69,107 @@ foundUse stage ty L Nothing = 20
 unfoldable pub providedUse : ShaderStage → Layout → Resource → Answer
 providedUse stage L r = bindingAnswer (foundUse stage (r .ty) L (findEntry (r .bind) L)) (r .bind)
 
-unfoldable pub provideStep : ShaderStage → Resource → Layout → Sizes → State
-provideStep stage r L S = andThen (recordSize (r .bind) (r .ty) L S) λ L S. state (providedUse stage L r) L S
+-- an answer behind a step that was accepted
+abbrev pub answerAfter : SizesAfter → Answer → SizesAfter
+answerAfter x a = pick (eqb (x .answer .number) 0) (sizesAfter a (x .sizes)) x
+
+-- the size, 'then' the use
+unfoldable pub provideStep : ShaderStage → Layout → Resource → Sizes → SizesAfter
+provideStep stage L r S = answerAfter (recordSize (r .bind) (r .ty) S) (providedUse stage L r)
 
 -- ---- derived
 
--- 'then a present entry of other type (least size included) is 29, of equal type gains the stage's bit'
-unfoldable pub occupied : ShaderStage → Resource → BindingType → ℕ → Layout → Sizes → State
-occupied stage r ty i L S =
-    pick (sameBinding ty (entryNth (L .entries) i .ty)) (state accepted (joined (stageCode stage) L i) S) (state (bindingAnswer 29 (r .bind)) L S)
+-- a step that derives: its answer, and the layout after it
+pub record LayoutAfter : Type 0 where
+  pub answer : Answer
+  pub layout : Layout
 
-abbrev pub newEntry : ShaderStage → Resource → BindingType → BindGroupLayoutEntry
-newEntry stage r ty = record { bind = r .bind; ty = ty; visibility = 2 ^ stageCode stage }
+abbrev pub layoutAfter : Answer → Layout → LayoutAfter
+layoutAfter a L = record { answer = a; layout = L }
+
+-- 'then a present entry of other type (least size included) is 29, of equal type gains the stage's bit'
+unfoldable pub occupied : ShaderStage → ResourceBinding → BindingType → ℕ → Layout → LayoutAfter
+occupied stage bind ty i L =
+    pick (sameBinding ty (entryNth (L .entries) i .ty)) (layoutAfter accepted (joined (stageCode stage) L i)) (layoutAfter (bindingAnswer 29 bind) L)
+
+-- an entry that one stage sees
+abbrev pub newEntry : ShaderStage → ResourceBinding → BindingType → BindGroupLayoutEntry
+newEntry stage bind ty = record { bind = bind; ty = ty; visibility = 2 ^ stageCode stage }
 
 -- 'else 5 or a new entry'
-unfoldable pub vacant : ShaderStage → Resource → BindingType → Layout → Sizes → State
-vacant stage r ty L S =
-    pick (fits 4 (L .room)) (state accepted (pushed L (newEntry stage r ty)) S) (state (bindingAnswer 5 (r .bind)) L S)
+unfoldable pub vacant : ShaderStage → ResourceBinding → BindingType → Layout → LayoutAfter
+vacant stage bind ty L =
+    pick (fits 4 (L .room)) (layoutAfter accepted (pushed L (newEntry stage bind ty))) (layoutAfter (bindingAnswer 5 bind) L)
 
-abbrev pub placeStep : ShaderStage → Resource → BindingType → Found → Layout → Sizes → State
-placeStep stage r ty (At i) L S = occupied stage r ty i L S
-placeStep stage r ty Nothing L S = vacant stage r ty L S
+abbrev pub placeStep : ShaderStage → ResourceBinding → BindingType → Found → Layout → LayoutAfter
+placeStep stage bind ty (At i) L = occupied stage bind ty i L
+placeStep stage bind ty Nothing L = vacant stage bind ty L
 
-abbrev pub derivedStep : ShaderStage → Resource → Derived → Layout → Sizes → State
-derivedStep stage r (Der.Binding ty) L S = placeStep stage r ty (findEntry (r .bind) L) L S
-derivedStep stage r Der.WrongBufferAddressSpace L S = state (bindingAnswer 24 (r .bind)) L S
+abbrev pub derivedStep : ShaderStage → ResourceBinding → Derived → Layout → LayoutAfter
+derivedStep stage bind (Der.Binding ty) L = placeStep stage bind ty (findEntry bind L) L
+derivedStep stage bind Der.WrongBufferAddressSpace L = layoutAfter (bindingAnswer 24 bind) L
 
 -- 'Derived: 20, deriving (24)'; a group that the layout has not is 20
-unfoldable pub deriveStep : ShaderStage → Bool → Resource → Layout → Sizes → State
-deriveStep stage named r L S =
-    pick (ltb (r .bind .group) (L .groups)) (derivedStep stage r (deriveBindingType (r .ty) named) L S) (state (bindingAnswer 20 (r .bind)) L S)
+unfoldable pub deriveStep : ShaderStage → Bool → Resource → Layout → LayoutAfter
+deriveStep stage named r L =
+    pick (ltb (r .bind .group) (L .groups)) (derivedStep stage (r .bind) (deriveBindingType (r .ty) named) L) (layoutAfter (bindingAnswer 20 (r .bind)) L)
 
 -- ---- each resource in list order
+
+-- resources in list order against a provided layout: the answer, how many passed, and the sizes recorded
+pub record ProvideResult : Type 0 where
+  pub answer : Answer
+  pub passed : ℕ
+  pub sizes : Sizes
+
+abbrev pub provideResult : Answer → ℕ → Sizes → ProvideResult
+provideResult a n S = record { answer = a; passed = n; sizes = S }
+
+-- 'first failure ending it': a step, and where it was accepted the others, with one more that passed
+abbrev pub provideOn : SizesAfter → (Sizes → ProvideResult) → ProvideResult
+provideOn x k =
+    let rest = k (x .sizes) in
+    pick (eqb (x .answer .number) 0) (provideResult (rest .answer) (suc (rest .passed)) (rest .sizes)) (provideResult (x .answer) 0 (x .sizes))
+
+unfoldable pub provideSteps : ShaderStage → Layout → List Resource → List ℕ → Sizes → ProvideResult
+provideSteps stage L resources [] S = provideResult accepted 0 S
+provideSteps stage L resources (i ∷ is) S = provideOn (provideStep stage L (resourceNth resources i) S) λ S. provideSteps stage L resources is S
+
+-- the same where the layout is derived
+pub record DeriveResult : Type 0 where
+  pub answer : Answer
+  pub passed : ℕ
+  pub layout : Layout
+
+abbrev pub deriveResult : Answer → ℕ → Layout → DeriveResult
+deriveResult a n L = record { answer = a; passed = n; layout = L }
+
+abbrev pub deriveOn : LayoutAfter → (Layout → DeriveResult) → DeriveResult
+deriveOn x k =
+    let rest = k (x .layout) in
+    pick (eqb (x .answer .number) 0) (deriveResult (rest .answer) (suc (rest .passed)) (rest .layout)) (deriveResult (x .answer) 0 (x .layout))
 
 -- whether some pair names the index as its texture
 unfoldable pub namedTexture : ℕ → List SamplingPair → Bool
 namedTexture i [] = false
 namedTexture i (p ∷ ps) = let rest = namedTexture i ps in pick (eqb (p .texture) i) true rest
 
--- one resource, by its index, in the mode of the call
-unfoldable pub resourceStep : ShaderStage → Bool → List Resource → List SamplingPair → ℕ → Layout → Sizes → State
-resourceStep stage derived resources pairs i L S =
-    pick (yes derived) (deriveStep stage (namedTexture i pairs) (resourceNth resources i) L S) (provideStep stage (resourceNth resources i) L S)
+unfoldable pub deriveSteps : ShaderStage → List Resource → List SamplingPair → List ℕ → Layout → DeriveResult
+deriveSteps stage resources pairs [] L = deriveResult accepted 0 L
+deriveSteps stage resources pairs (i ∷ is) L =
+    deriveOn (deriveStep stage (namedTexture i pairs) (resourceNth resources i) L) λ L. deriveSteps stage resources pairs is L
 
+-- the list that a mode does not touch stays as it is
+abbrev pub providedOver : Layout → ProvideResult → State
+providedOver L x = state (x .answer) L (x .sizes)
+
+abbrev pub derivedBeside : Sizes → DeriveResult → State
+derivedBeside S x = state (x .answer) (x .layout) S
+
+-- each resource in the mode of the call
 unfoldable pub resourceSteps : ShaderStage → Bool → List Resource → List SamplingPair → List ℕ → Layout → Sizes → State
-resourceSteps stage derived resources pairs [] L S = state accepted L S
-resourceSteps stage derived resources pairs (i ∷ is) L S =
-    andThen (resourceStep stage derived resources pairs i L S) λ L S. resourceSteps stage derived resources pairs is L S
+resourceSteps stage derived resources pairs is L S =
+    pick (yes derived) (derivedBeside S (deriveSteps stage resources pairs is L)) (providedOver L (provideSteps stage L resources is S))
 
 -- ---- each pair in pack order
 

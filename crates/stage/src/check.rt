@@ -15,9 +15,10 @@ ghost use Rattle.stage.specs.Resources.{resourceSteps};
 ghost use Rattle.stage.specs.Given.{Given};
 ghost use Rattle.stage.specs.Judging.{bindingSteps};
 ghost use Rattle.stage.specs.Stage.{inputWalk, behindPairs, requestOf, derivedOf, listsGood, codesGood, outWords, handedOut, runBody, onEntryPoint, onNamed, checkStage};
+use crate::derive::derive_steps;
 use crate::judge::judge;
 use crate::judge::pair_step;
-use crate::resources::resource_steps;
+use crate::provide::provide_steps;
 use crate::types::Codes;
 use interface::check_pack::index_pack;
 use interface::choose::find_entry_point;
@@ -57,21 +58,33 @@ fn check_resources(
 {
     let at = parts.counts;
     let counts = pack[at];
-    let n = resources_counted(counts);
-    let pairs = pairs_counted(counts);
-    resource_steps(
+    let n = resources_counted(counts) as u32;
+    let stage = stage_at(codes.stage);
+    if codes.mode == 1 {
+        let pairs = pairs_counted(counts);
+        let derived = derive_steps(
+            pack,
+            offsets,
+            parts.resources,
+            n,
+            parts.pairs,
+            pairs,
+            stage,
+            layout,
+        );
+        return derived.answer;
+    }
+    let provided = provide_steps(
         pack,
         offsets,
         parts.resources,
         n,
-        parts.pairs,
-        pairs,
-        stage_at(codes.stage),
-        codes.mode == 1,
+        stage,
         entries,
         layout,
         sizes,
-    )
+    );
+    provided.answer
 }
 
 // The resources, and the pairs where the layout is provided.

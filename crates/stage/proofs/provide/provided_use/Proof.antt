@@ -1,0 +1,19 @@
+use Rattle.stage.proofs.ResourceLaws.{found-within, found-few}
+use Rattle.stage.proofs.ProvideLaws.{provided-none, provided-at}
+use borrow.Author.Needs.{needs}
+use Rattle.stage.proofs.provide.provided_use.Statement.{statement}
+use Rattle.stage.proofs.provide.provided_use.Tie as tie
+
+pub provided-use-spec : {M : Type 1} → statement M
+provided-use-spec =
+    tie.close
+    (tie.spec
+    (λ c κs. search needs)  -- find-entry-near-requires
+    (λ c κs. search found-few)  -- note-requires
+    (λ c. search needs)  -- enum-told
+    (λ c κs. search needs)  -- place-answer-requires
+    (λ c. search needs)  -- enum-known-found
+    (λ c κs. (search needs, search found-within))  -- entry-use-requires
+    (λ c κs. search needs)  -- place-answer-requires-2
+    (λ c. search provided-none)  -- returns
+    (λ c. search provided-at))  -- returns-2
