@@ -10,14 +10,15 @@ use borrow.Author.Tests.{eqb-true, ne-eqb, not-true}
 use Rattle.word.specs.Choice.{pick}
 use Rattle.lists.specs.Format.{decodeLayout, decodeSizes, decodeStage, encodeLayout, encodeSizes}
 use Rattle.interface.specs.Meaning.{EntryPoint, Interface}
-use Rattle.interface.specs.Format.{Decoded, Torn, Misfiled, Pack, decode, stageAt}
+use Rattle.interface.specs.Format.{Decoded, Torn, Misfiled, Pack, decode}
 use Rattle.interface.specs.Reads.{entryNth}
 use Rattle.interface.specs.Rules.{findEntryPoint}
 use Rattle.interface.specs.declared.types.Chosen.{Chosen}
 use Rattle.interface.specs.declared.types.Chosen.the-variants as Ch
-use Rattle.stage.specs.Meaning.{Call, Outcome, State}
+use Rattle.stage_steps.specs.declared.types.Request.{Request}
+use Rattle.stage.specs.Meaning.{Lent, Call, Outcome, State, state}
 use Rattle.stage.specs.Resources.{resourceSteps}
-use Rattle.stage.specs.Stage.{requestOf, judgement, stageBody, finish, runBody, unchanged, callGood, outWords, onChosen, onDecoded, checkStage}
+use Rattle.stage.specs.Stage.{judgement, stageBody, callGood, requestOf, derivedOf, unchanged, outWords, finish, runBody, onChosen, onNamed, onDecoded, checkStage}
 use Rattle.stage.specs.Table.{among, early, stepNumbers}
 use Rattle.stage.proofs.Numbers.{body-known}
 
@@ -51,38 +52,41 @@ late n h = each-among (λ m. not (among early m)) stepNumbers n steps-late h
 
 -- ---- a stage check is an early refusal that changes nothing, or the run of its steps
 
-pub data Case (c : Call) : Outcome → Type 0 where
-  stopped : (n : ℕ) → among early n ≡ true → Case c (unchanged c n)
-  ran : (i : Interface) (e : EntryPoint) → Case c (runBody c i e)
+pub data Case (derived : Bool) (q : Request) (t : Lent) : Outcome → Type 0 where
+  stopped : (n : ℕ) → among early n ≡ true → Case derived q t (unchanged t n)
+  ran : (i : Interface) (e : EntryPoint) → Case derived q t (runBody derived q t i e)
 
-pub cases : (c : Call) → Case c (checkStage c)
+abbrev pub CaseOf : Call → Outcome → Type 0
+CaseOf c o = Case (derivedOf (c .codes)) (requestOf (c .codes)) (c .lent) o
+
+pub cases : (c : Call) → CaseOf c (checkStage c)
 unfolding checkStage among
 cases c = on-decoded (decode (c .pack))
   where
-    on-entry : (i : Interface) (e : EntryPoint) (b : Bool) → Case c (pick b (unchanged c 4) (runBody c i e))
+    on-entry : (i : Interface) (e : EntryPoint) (b : Bool)
+        → CaseOf c (pick b (unchanged (c .lent) 4) (runBody (derivedOf (c .codes)) (requestOf (c .codes)) (c .lent) i e))
     on-entry i e true = stopped 4 refl
     on-entry i e false = ran i e
 
-    on-chosen : (i : Interface) (f : Chosen) → Case c (onChosen c i f)
-    on-chosen i (Ch.At k) = on-entry i (entryNth (i .entries) k) (ltb (length (c .out)) (outWords (entryNth (i .entries) k)))
+    on-chosen : (i : Interface) (f : Chosen) → CaseOf c (onChosen (derivedOf (c .codes)) (requestOf (c .codes)) (c .lent) i f)
+    on-chosen i (Ch.At k) = on-entry i (entryNth (i .entries) k) (ltb (length (c .lent .out)) (outWords (entryNth (i .entries) k)))
     on-chosen i Ch.Absent = stopped 10 refl
     on-chosen i Ch.Several = stopped 10 refl
 
-    on-good : (i : Interface) (b : Bool)
-        → Case c (pick b (onChosen c i (findEntryPoint (stageAt (c .stage)) (c .name) (i .entries))) (unchanged c 3))
-    on-good i true = on-chosen i (findEntryPoint (stageAt (c .stage)) (c .name) (i .entries))
+    on-good : (i : Interface) (b : Bool) → CaseOf c (pick b (onNamed c i) (unchanged (c .lent) 3))
+    on-good i true = on-chosen i (findEntryPoint (requestOf (c .codes) .stage) (c .name) (i .entries))
     on-good i false = stopped 3 refl
 
-    on-decoded : (d : Decoded) → Case c (onDecoded c d)
+    on-decoded : (d : Decoded) → CaseOf c (onDecoded c d)
     on-decoded Torn = stopped 1 refl
     on-decoded Misfiled = stopped 2 refl
-    on-decoded (Pack i) = on-good i (callGood c)
+    on-decoded (Pack i) = on-good i (callGood (c .lent) (c .codes))
 
 -- ---- the theorems
 
-body-number : (c : Call) (i : Interface) (e : EntryPoint) → among stepNumbers (runBody c i e .answer .number) ≡ true
+body-number : (derived : Bool) (q : Request) (t : Lent) (i : Interface) (e : EntryPoint) → among stepNumbers (runBody derived q t i e .answer .number) ≡ true
 unfolding runBody finish
-body-number c i e = body-known (requestOf c) i e (decodeStage (c .inputs)) (decodeLayout (c .layout)) (decodeSizes (c .sizes)) .known
+body-number derived q t i e = body-known derived q i e (decodeStage (t .inputs)) (decodeLayout (t .layout)) (decodeSizes (t .sizes)) .known
 
 in-table : (ms ns : List ℕ) (n : ℕ) → among ns n ≡ true → among (ms ++ ns) n ≡ true
 unfolding among
@@ -102,49 +106,47 @@ early-in-table n h = each-among (among (early ++ stepNumbers)) early n early-eac
 
 -- 'gets an acceptance or one of document 01's numbered refusals, always'
 pub demand1-answered : (c : Call) → among (early ++ stepNumbers) (checkStage c .answer .number) ≡ true
-demand1-answered c = go (checkStage c) (cases c)
+demand1-answered c = go (derivedOf (c .codes)) (requestOf (c .codes)) (c .lent) (checkStage c) (cases c)
   where
-    go : (o : Outcome) → Case c o → among (early ++ stepNumbers) (o .answer .number) ≡ true
-    go o (stopped n h) = early-in-table n h
-    go o (ran i e) = in-table early stepNumbers (runBody c i e .answer .number) (body-number c i e)
+    go : (derived : Bool) (q : Request) (t : Lent) (o : Outcome) → Case derived q t o → among (early ++ stepNumbers) (o .answer .number) ≡ true
+    go derived q t o (stopped n h) = early-in-table n h
+    go derived q t o (ran i e) = in-table early stepNumbers (runBody derived q t i e .answer .number) (body-number derived q t i e)
 
 -- 'Refusals 1 to 4 and 10 to 12 change no lent buffer'
-pub demand1-unchanged : (c : Call) → among early (checkStage c .answer .number) ≡ true → checkStage c ≡ unchanged c (checkStage c .answer .number)
-demand1-unchanged c = go (checkStage c) (cases c)
+pub demand1-unchanged : (c : Call) → among early (checkStage c .answer .number) ≡ true → checkStage c ≡ unchanged (c .lent) (checkStage c .answer .number)
+demand1-unchanged c = go (derivedOf (c .codes)) (requestOf (c .codes)) (c .lent) (checkStage c) (cases c)
   where
-    go : (o : Outcome) → Case c o → among early (o .answer .number) ≡ true → o ≡ unchanged c (o .answer .number)
-    go o (stopped n h) a = refl
-    go o (ran i e) a = absurd (both-ways (late (runBody c i e .answer .number) (body-number c i e)) a)
+    go : (derived : Bool) (q : Request) (t : Lent) (o : Outcome) → Case derived q t o → among early (o .answer .number) ≡ true → o ≡ unchanged t (o .answer .number)
+    go derived q t o (stopped n h) a = refl
+    go derived q t o (ran i e) a = absurd (both-ways (late (runBody derived q t i e .answer .number) (body-number derived q t i e)) a)
       where
-        both-ways : not (among early (runBody c i e .answer .number)) ≡ true → among early (runBody c i e .answer .number) ≡ true → ⊥
-        both-ways p q = let z : _≡_ {A = ℕ} 0 1 = cc (not-true (among early (runBody c i e .answer .number)) p) in omega arith
+        both-ways : not (among early (runBody derived q t i e .answer .number)) ≡ true → among early (runBody derived q t i e .answer .number) ≡ true → ⊥
+        both-ways p k = let z : _≡_ {A = ℕ} 0 1 = cc (not-true (among early (runBody derived q t i e .answer .number)) p) in omega arith
 
 -- 'and the list handed out is untouched', on every refusal
-pub demand1-out : (c : Call) → (checkStage c .answer .number ≡ 0 → ⊥) → checkStage c .out ≡ c .out
+pub demand1-out : (c : Call) → (checkStage c .answer .number ≡ 0 → ⊥) → checkStage c .out ≡ c .lent .out
 unfolding runBody finish
-demand1-out c = go (checkStage c) (cases c)
+demand1-out c = go (derivedOf (c .codes)) (requestOf (c .codes)) (c .lent) (checkStage c) (cases c)
   where
-    go : (o : Outcome) → Case c o → (o .answer .number ≡ 0 → ⊥) → o .out ≡ c .out
-    go o (stopped n h) z = refl
-    go o (ran i e) z =
-        rw (ne-eqb (stageBody (requestOf c) i e (decodeStage (c .inputs)) (decodeLayout (c .layout)) (decodeSizes (c .sizes)) .answer .number) 0 z)
+    go : (derived : Bool) (q : Request) (t : Lent) (o : Outcome) → Case derived q t o → (o .answer .number ≡ 0 → ⊥) → o .out ≡ t .out
+    go derived q t o (stopped n h) z = refl
+    go derived q t o (ran i e) z =
+        rw (ne-eqb (stageBody derived q i e (decodeStage (t .inputs)) (decodeLayout (t .layout)) (decodeSizes (t .sizes)) .answer .number) 0 z)
 
 -- what the resources of an entry point recorded
-abbrev pub recordedBy : Call → Interface → EntryPoint → State
-recordedBy c i e =
-    resourceSteps (requestOf c .stage) (requestOf c .derived) (i .resources) (e .pairs) (e .resources) (decodeLayout (c .layout)) (decodeSizes (c .sizes))
+abbrev pub recordedBy : Bool → Request → Lent → Interface → EntryPoint → State
+recordedBy derived q t i e =
+    resourceSteps (q .stage) derived (i .resources) (e .pairs) (e .resources) (decodeLayout (t .layout)) (decodeSizes (t .sizes))
 
 -- 'Any other keeps exactly the layout and size records made by the steps before it': whichever step ends a run, the lists are those that the
 -- resources left, and a resource that is refused is the last that recorded anything
-pub demand1-kept : (c : Call) (i : Interface) (e : EntryPoint)
-    → (runBody c i e .layout ≡ encodeLayout (recordedBy c i e .layout)) × (runBody c i e .sizes ≡ encodeSizes (recordedBy c i e .sizes))
+pub demand1-kept : (derived : Bool) (q : Request) (t : Lent) (i : Interface) (e : EntryPoint)
+    → (runBody derived q t i e .layout ≡ encodeLayout (recordedBy derived q t i e .layout)) × (runBody derived q t i e .sizes ≡ encodeSizes (recordedBy derived q t i e .sizes))
 unfolding runBody finish stageBody
-demand1-kept c i e = go (eqb (recordedBy c i e .answer .number) 0)
+demand1-kept derived q t i e = go (recordedBy derived q t i e) (eqb (recordedBy derived q t i e .answer .number) 0)
   where
-    go : (b : Bool)
-        → (encodeLayout (pick b (record { answer = judgement (requestOf c) i e (decodeStage (c .inputs)) (recordedBy c i e .layout); layout = recordedBy c i e .layout; sizes = recordedBy c i e .sizes }) (recordedBy c i e) .layout)
-        ≡ encodeLayout (recordedBy c i e .layout))
-        × (encodeSizes (pick b (record { answer = judgement (requestOf c) i e (decodeStage (c .inputs)) (recordedBy c i e .layout); layout = recordedBy c i e .layout; sizes = recordedBy c i e .sizes }) (recordedBy c i e) .sizes)
-        ≡ encodeSizes (recordedBy c i e .sizes))
-    go true = (refl, refl)
-    go false = (refl, refl)
+    go : (x : State) (b : Bool)
+        → (encodeLayout (pick b (state (judgement derived q i e (decodeStage (t .inputs)) (x .layout)) (x .layout) (x .sizes)) x .layout) ≡ encodeLayout (x .layout))
+        × (encodeSizes (pick b (state (judgement derived q i e (decodeStage (t .inputs)) (x .layout)) (x .layout) (x .sizes)) x .sizes) ≡ encodeSizes (x .sizes))
+    go x true = (refl, refl)
+    go x false = (refl, refl)

@@ -6,7 +6,7 @@ use mathlib.Core.List.{List}
 use lib.Dec.{eqb}
 use borrow.Author.Tests.{eq-eqb, ne-eqb, eqb-false}
 use lib.ListN.{drop, take, length}
-use Rattle.word.specs.Choice.{pick, yes}
+use Rattle.word.specs.Choice.{pick}
 use Rattle.word.proofs.Tests.{yes-true, yes-false}
 use Rattle.word.specs.Words.{wordAt, contentOf, bits}
 use Rattle.word.specs.Answers.{accepted}
@@ -16,36 +16,27 @@ use Rattle.varying.specs.Format.{payloadOf}
 use Rattle.varying.specs.declared.Payload.{Payload}
 use Rattle.lists.specs.Meaning.{Layout, StageIo}
 use Rattle.lists.specs.declared.types.PrimitiveIndex.{PrimitiveIndex}
+use Rattle.lists.specs.Format.{encodeStage}
 use Rattle.interface.specs.Meaning.{EntryPoint, Interface}
 use Rattle.interface.specs.Format.{topologyAt, pairsOf}
-use Rattle.interface.specs.declared.types.SamplingPair.{SamplingPair}
 use Rattle.interface.specs.Reads.{standing, varyings}
 use Rattle.interface.specs.Parts.{Placed, varyingsEnd}
 use Rattle.interface.specs.declared.types.ShaderStage.{ShaderStage}
-use Rattle.interface.specs.declared.types.ShaderStage.the-variants as Stage
 use Rattle.interface.specs.declared.types.MeshRecord.{MeshRecord}
 use Rattle.interface.specs.declared.types.MeshRecord.the-variants as Mesh
 use Rattle.interface.specs.declared.types.PrimitiveTopology.{PrimitiveTopology}
 use Rattle.interface.specs.declared.types.WorkgroupSize.{WorkgroupSize}
 use Rattle.interface.specs.declared.types.EntryParts.{EntryParts}
 use Rattle.interface.specs.declared.types.Limits.{Limits}
-use Rattle.stage_steps.specs.Meaning.{Request, both}
-use Rattle.stage_steps.specs.Interfaces.{workgroupStep, placesStep, lastStep, meshUse, payloadUse, payloadMatch, primitiveUse, drawUse, perVertexUse, inputSteps, startWalk, walked, fragmentOutputs}
+use Rattle.stage_steps.specs.Meaning.{both}
+use Rattle.stage_steps.specs.declared.types.Request.{Request}
+use Rattle.stage_steps.specs.Interfaces.{workgroupStep, placesStep, lastUses, lastStep, inputSteps, startWalk, walked, stageOut}
 use Rattle.stage_steps.specs.declared.types.InputWalk.{InputWalk}
 use Rattle.stage_steps.specs.declared.types.Walked.{Walked}
 use Rattle.stage.specs.Resources.{pairUses}
-use Rattle.stage.specs.Given.{pairsBelow}
-use Rattle.stage.specs.Judging.{behindInputs, judgedInputs, stopAt, judged}
-use Rattle.stage.specs.Stage.{inputWalk, afterInputs, judgement}
-
--- the last steps in the form in which the code calls them
-abbrev lastOf : Request → Limits → MeshRecord → Payload → Payload → PrimitiveIndex → InputWalk → Answer
-lastOf q l mesh payload input written w =
-    both (meshUse (q .topology) l mesh)
-    (both (payloadUse (l .«max_task_payload_size») payload)
-    (both (payloadMatch (q .stage) payload input)
-    (both (primitiveUse (q .stage) (w .«primitive_index») written)
-    (both (drawUse (q .stage) (w .«draw_index») input) (perVertexUse (w .«per_vertex») (q .topology))))))
+use Rattle.stage.specs.Given.{resourceTable, pairsBelow, Given}
+use Rattle.stage.specs.Judging.{judgedInputs, stopAt, judged}
+use Rattle.stage.specs.Stage.{pairStep, inputWalk, behindInputs, behindPairs, handedOut}
 
 module _ (q : Request) (l : Limits) (e : EntryPoint) (inputs : StageIo) (w : InputWalk) (a : Answer) (k : Limits) (ek : k ≡ l) (ea : a ≡ placesStep (q .stage) q k e (w .locals)) where
   pub behind-refused : (a .number ≡ 0 → ⊥) → a ≡ behindInputs q l e inputs w
@@ -54,7 +45,7 @@ module _ (q : Request) (l : Limits) (e : EntryPoint) (inputs : StageIo) (w : Inp
 
   pub behind-went : (mesh : MeshRecord) (payload input : Payload) (written : PrimitiveIndex) (m : Limits) (r : Answer) → a .number ≡ 0 → m ≡ l
       → mesh ≡ e .mesh → payload ≡ e .payload → input ≡ inputs .payload → written ≡ inputs .primitive
-      → r ≡ lastOf q m mesh payload input written w → r ≡ behindInputs q l e inputs w
+      → r ≡ lastUses q m mesh payload input written w → r ≡ behindInputs q l e inputs w
   unfolding behindInputs lastStep
   behind-went mesh payload input written m r z el em ep ei ew h =
       let b : a ≡ placesStep (q .stage) q l e (w .locals) = rw (← ek) ea in
@@ -87,40 +78,17 @@ module _ (q : Request) (l : Limits) (ws : List ℕ) (p : EntryParts) (k n : ℕ)
 pub size-read : (stage : ShaderStage) (g h : WorkgroupSize) (k l : Limits) (r : Answer) → g ≡ h → k ≡ l → r ≡ workgroupStep stage g k → r ≡ workgroupStep stage h l
 size-read stage g h k l r eg ek er = rw (← eg, ← ek) er
 
--- the whole judgement: pairs, workgroup size, the rest
-module _ (derived : Bool) (q : Request) (rs : List Resource) (l : Limits) (e : EntryPoint) (inputs : StageIo) (L : Layout) (a : Answer) (s : Walked)
-    (ea : a ≡ pick (yes derived) accepted (pairUses L rs (e .pairs))) where
-  pub judged-pair : s ≡ walked startWalk a → (a .number ≡ 0 → ⊥) → s ≡ judged derived q rs l e inputs L
+-- workgroup size, the rest
+module _ (q : Request) (l : Limits) (e : EntryPoint) (inputs : StageIo) (b : Answer) (s : Walked) (eb : b ≡ workgroupStep (q .stage) (e .workgroup) l) where
+  pub judged-size : s ≡ walked startWalk b → (b .number ≡ 0 → ⊥) → s ≡ judged q l e inputs
   unfolding judged
-  judged-pair es n = es ∙ rw (← ea, ne-eqb (a .number) 0 n)
+  judged-size es n = es ∙ rw (← eb, ne-eqb (b .number) 0 n)
 
-  module _ (b : Answer) (eb : b ≡ workgroupStep (q .stage) (e .workgroup) l) where
-    pub judged-size : s ≡ walked startWalk b → a .number ≡ 0 → (b .number ≡ 0 → ⊥) → s ≡ judged derived q rs l e inputs L
-    unfolding judged
-    judged-size es z n = es ∙ rw (← ea, eq-eqb (a .number) 0 z, ← eb, ne-eqb (b .number) 0 n)
-
-    pub judged-rest : a .number ≡ 0 → b .number ≡ 0 → s ≡ judgedInputs q l e inputs → s ≡ judged derived q rs l e inputs L
-    unfolding judged
-    judged-rest z y es = es ∙ rw (← ea, eq-eqb (a .number) 0 z, ← eb, eq-eqb (b .number) 0 y)
+  pub judged-rest : b .number ≡ 0 → s ≡ judgedInputs q l e inputs → s ≡ judged q l e inputs
+  unfolding judged
+  judged-rest y es = es ∙ rw (← eb, eq-eqb (b .number) 0 y)
 
 -- ---- the judgement of the definition
-
-abbrev pub withMode : Bool → Request → Request
-withMode derived q = record { stage = q .stage; topology = q .topology; derived = derived; dual = q .dual; depth = q .depth }
-
-places-mode : (derived : Bool) (stage : ShaderStage) (q : Request) (l : Limits) (e : EntryPoint) (n : ℕ)
-    → placesStep stage (withMode derived q) l e n ≡ placesStep stage q l e n
-unfolding placesStep fragmentOutputs
-places-mode derived Stage.Vertex q l e n = refl
-places-mode derived Stage.Fragment q l e n = refl
-places-mode derived Stage.Compute q l e n = refl
-places-mode derived Stage.Task q l e n = refl
-places-mode derived Stage.Mesh q l e n = refl
-
-last-mode : (derived : Bool) (q : Request) (l : Limits) (e : EntryPoint) (inputs : StageIo) (w : InputWalk)
-    → lastStep (withMode derived q) l e inputs w ≡ lastStep q l e inputs w
-unfolding lastStep
-last-mode derived q l e inputs w = refl
 
 stop-answer : (a : Answer) (w : Walked) → stopAt a w .answer ≡ both a (w .answer)
 stop-answer a w = go (eqb (a .number) 0)
@@ -129,28 +97,20 @@ stop-answer a w = go (eqb (a .number) 0)
     go true = refl
     go false = refl
 
-inputs-answer : (derived : Bool) (q : Request) (i : Interface) (e : EntryPoint) (inputs : StageIo)
-    → judgedInputs q (i .limits) e inputs .answer ≡ afterInputs (withMode derived q) i e inputs (inputWalk (withMode derived q) e inputs)
-unfolding judgedInputs behindInputs
-inputs-answer derived q i e inputs =
-    rw (places-mode derived (q .stage) q (i .limits) e (inputWalk q e inputs .walk .locals), last-mode derived q (i .limits) e inputs (inputWalk q e inputs .walk))
-    (go (eqb (inputWalk q e inputs .answer .number) 0))
+inputs-answer : (q : Request) (l : Limits) (e : EntryPoint) (inputs : StageIo)
+    → judgedInputs q l e inputs .answer ≡ both (inputWalk q e inputs .answer) (behindInputs q l e inputs (inputWalk q e inputs .walk))
+unfolding judgedInputs
+inputs-answer q l e inputs = go (eqb (inputWalk q e inputs .answer .number) 0)
   where
-    go : (b : Bool)
-        → pick b (walked (inputWalk q e inputs .walk) (both (placesStep (q .stage) q (i .limits) e (inputWalk q e inputs .walk .locals)) (lastStep q (i .limits) e inputs (inputWalk q e inputs .walk)))) (inputWalk q e inputs) .answer
-        ≡ pick b (both (placesStep (q .stage) q (i .limits) e (inputWalk q e inputs .walk .locals)) (lastStep q (i .limits) e inputs (inputWalk q e inputs .walk))) (inputWalk q e inputs .answer)
+    go : (b : Bool) → pick b (walked (inputWalk q e inputs .walk) (behindInputs q l e inputs (inputWalk q e inputs .walk))) (inputWalk q e inputs) .answer
+        ≡ pick b (behindInputs q l e inputs (inputWalk q e inputs .walk)) (inputWalk q e inputs .answer)
     go true = refl
     go false = refl
 
-pub judged-answer : (derived : Bool) (q : Request) (i : Interface) (e : EntryPoint) (inputs : StageIo) (L : Layout)
-    → judged derived q (i .resources) (i .limits) e inputs L .answer ≡ judgement (withMode derived q) i e inputs L
-unfolding judged judgement
-judged-answer derived q i e inputs L =
-    rw (
-      stop-answer (pick (yes derived) accepted (pairUses L (i .resources) (e .pairs))) (stopAt (workgroupStep (q .stage) (e .workgroup) (i .limits)) (judgedInputs q (i .limits) e inputs)),
-      stop-answer (workgroupStep (q .stage) (e .workgroup) (i .limits)) (judgedInputs q (i .limits) e inputs),
-      inputs-answer derived q i e inputs,
-    )
+judged-answer : (q : Request) (i : Interface) (e : EntryPoint) (inputs : StageIo) → judged q (i .limits) e inputs .answer ≡ behindPairs q i e inputs
+unfolding judged
+judged-answer q i e inputs =
+    rw (stop-answer (workgroupStep (q .stage) (e .workgroup) (i .limits)) (judgedInputs q (i .limits) e inputs), inputs-answer q (i .limits) e inputs)
 
 -- where the whole judgement accepts, its walk is the walk over all inputs
 stop-walk : (a : Answer) (w : Walked) → stopAt a w .answer .number ≡ 0 → stopAt a w ≡ w
@@ -169,15 +129,26 @@ inputs-walk q l e inputs = go (eqb (inputWalk q e inputs .answer .number) 0)
     go true = refl
     go false = refl
 
-pub judged-walk : (derived : Bool) (q : Request) (rs : List Resource) (l : Limits) (e : EntryPoint) (inputs : StageIo) (L : Layout)
-    → judged derived q rs l e inputs L .answer .number ≡ 0 → judged derived q rs l e inputs L .walk ≡ inputWalk q e inputs .walk
+judged-walk : (q : Request) (l : Limits) (e : EntryPoint) (inputs : StageIo) → judged q l e inputs .answer .number ≡ 0
+    → judged q l e inputs .walk ≡ inputWalk q e inputs .walk
 unfolding judged
-judged-walk derived q rs l e inputs L z =
-    let first = pick (yes derived) accepted (pairUses L rs (e .pairs)) in
-    let size = workgroupStep (q .stage) (e .workgroup) l in
-    let one = stop-walk first (stopAt size (judgedInputs q l e inputs)) z in
-    let two = stop-walk size (judgedInputs q l e inputs) (rw one at z) in
-    ap (λ (w : Walked). w .walk) (one ∙ two) ∙ inputs-walk q l e inputs
+judged-walk q l e inputs z =
+    ap (λ (w : Walked). w .walk) (stop-walk (workgroupStep (q .stage) (e .workgroup) l) (judgedInputs q l e inputs) z) ∙ inputs-walk q l e inputs
+
+-- the judgement, and the list out
+module _ (q : Request) (i : Interface) (e : EntryPoint) (inputs : StageIo) (w : Walked) (ew : w ≡ judged q (i .limits) e inputs) where
+  pub judged-is : w .answer ≡ behindPairs q i e inputs
+  judged-is = ap (λ (x : Walked). x .answer) ew ∙ judged-answer q i e inputs
+
+  pub judged-out : (out o : List ℕ) → w .answer .number ≡ 0 → o ≡ encodeStage (stageOut (q .stage) e (w .walk) out)
+      → o ≡ handedOut (w .answer) (q .stage) e (inputWalk q e inputs .walk) out
+  judged-out out o z eo =
+      let k : w .walk ≡ inputWalk q e inputs .walk =
+      ap (λ (x : Walked). x .walk) ew ∙ judged-walk q (i .limits) e inputs (rw (← ew) z) in
+      rw (eq-eqb (w .answer .number) 0 z) (eo ∙ rw k)
+
+pub judged-none : (a : Answer) (s : ShaderStage) (e : EntryPoint) (w : InputWalk) (out : List ℕ) → (a .number ≡ 0 → ⊥) → out ≡ handedOut a s e w out
+judged-none a s e w out n = rw (ne-eqb (a .number) 0 n)
 
 -- ---- parts of an entry point that stands at positions
 
@@ -208,15 +179,13 @@ pub pairs-standing : (ws : List ℕ) (p : EntryParts) (k n : ℕ) → k ≡ word
 unfolding standing
 pairs-standing ws p k n ek en = rw (en, ek)
 
-pub pairs-given : (rs : List Resource) (ws : List ℕ) (p : EntryParts) (k n : ℕ) → k ≡ wordAt ws (p .counts) → n ≡ bits 17 12 k
-    → pairsBelow (length rs) (standing ws p .pairs) ≡ true → pairsBelow (length rs) (pairsOf (take n (drop (p .pairs) ws))) ≡ true
-pairs-given rs ws p k n ek en h = rw (pairs-standing ws p k n ek en) h
+module _ (ws offsets : List ℕ) (i : Interface) (p : EntryParts) (k n : ℕ) (g : Given ws offsets i (standing ws p)) (ek : k ≡ wordAt ws (p .counts)) (en : n ≡ bits 17 12 k) where
+  pub pairs-given : pairsBelow (length (resourceTable ws offsets)) (pairsOf (take n (drop (p .pairs) ws))) ≡ true
+  pairs-given = rw (pairs-standing ws p k n ek en, g .table) (g .named .pairs)
 
-pub pairs-provided : (L : Layout) (rs : List Resource) (ws : List ℕ) (p : EntryParts) (k n : ℕ) (derived : Bool) (r : Answer)
-    → k ≡ wordAt ws (p .counts) → n ≡ bits 17 12 k → derived ≡ false → r ≡ pairUses L rs (pairsOf (take n (drop (p .pairs) ws)))
-    → r ≡ pick (yes derived) accepted (pairUses L rs (standing ws p .pairs))
-pairs-provided L rs ws p k n derived r ek en d h = rw (yes-false derived d) (h ∙ rw (pairs-standing ws p k n ek en))
+  pub pairs-provided : (L : Layout) (derived : Bool) (r : Answer) → derived ≡ false → r ≡ pairUses L (resourceTable ws offsets) (pairsOf (take n (drop (p .pairs) ws)))
+      → r ≡ pairStep derived (i .resources) (standing ws p) L
+  pairs-provided L derived r d h = rw (yes-false derived d, ← g .table) (h ∙ rw (pairs-standing ws p k n ek en))
 
-pub pairs-derived : (L : Layout) (rs : List Resource) (ps : List SamplingPair) (derived : Bool) (r : Answer) → r ≡ accepted → derived ≡ true
-    → r ≡ pick (yes derived) accepted (pairUses L rs ps)
-pairs-derived L rs ps derived r e d = rw (yes-true derived d) e
+pub pairs-derived : (L : Layout) (rs : List Resource) (e : EntryPoint) (derived : Bool) (r : Answer) → r ≡ accepted → derived ≡ true → r ≡ pairStep derived rs e L
+pairs-derived L rs e derived r h d = rw (yes-true derived d) h

@@ -46,14 +46,15 @@ use Rattle.interface.specs.declared.types.Varying.{Varying}
 use Rattle.interface.specs.declared.types.Varying.the-variants as Var
 use Rattle.interface.specs.declared.types.WorkgroupSize.{WorkgroupSize}
 use Rattle.interface.specs.declared.types.Limits.{Limits}
-use Rattle.stage_steps.specs.Meaning.{Request, both}
+use Rattle.stage_steps.specs.Meaning.{both}
+use Rattle.stage_steps.specs.declared.types.Request.{Request}
 use Rattle.stage_steps.specs.Interfaces.{workgroupUse, workgroupStep, vertexInput, fragmentInput, inputNumber, localStep, inputStep, inputSteps, walked, metLocal, metBuiltIn, locationUse, locationUses, countUse, clipPlaces, pointPart, localCount, builtInPlaces, anyOf, isDepth, vertexOutputs, attachmentUse, fragmentPlaces, fragmentOutputs, placesStep, valueUse, meshUse, payloadUse, payloadMatch, primitiveUse, drawUse, perVertexUse, lastStep}
 use Rattle.stage_steps.specs.declared.types.InputWalk.{InputWalk}
 use Rattle.stage_steps.specs.declared.types.Walked.{Walked}
 use Rattle.stage.specs.Meaning.{State, state, andThen}
 use Rattle.stage.specs.Resources.{resourceNth, namedTexture, SizesAfter, sizesAfter, recordSize, foundUse, providedUse, provideStep, ProvideResult, provideResult, provideSteps, providedOver}
 use Rattle.stage.specs.Resources.{LayoutAfter, occupied, vacant, placeStep, derivedStep, deriveStep, DeriveResult, deriveResult, deriveSteps, derivedBeside, resourceSteps, sampleNumber, filtering, pairNumber, pairUse, pairUses, typeAt}
-use Rattle.stage.specs.Stage.{pairStep, inputWalk, judgement, stageBody}
+use Rattle.stage.specs.Stage.{pairStep, inputWalk, behindInputs, judgement, stageBody}
 use Rattle.stage.specs.Table.{among, stepNumbers}
 
 -- a number, and an answer, of a step
@@ -290,9 +291,9 @@ places-known Stage.Fragment q l e n =
     (either Step (ltb limit built) (refused 65) _ (ans 65 0 0 0 (lit 65 refl))
     (step-both (locationUses 62 limit limit (e .inputs)) (countUse 63 n (limit - built) limit) (locations-known 62 limit limit (e .inputs) (lit 62 refl))
     (count-known 63 n (limit - built) limit (lit 63 refl))))
-    (step-both (locationUses 64 most most (e .outputs)) (attachmentUse (q .dual) (q .depth) (e .dual) (e .outputs))
+    (step-both (locationUses 64 most most (e .outputs)) (attachmentUse (q .«dual_source») (q .depth) (e .dual) (e .outputs))
     (locations-known 64 most most (e .outputs) (lit 64 refl))
-    (either Step (yes (q .dual) && not (e .dual)) (refused 66) _ (ans 66 0 0 0 (lit 66 refl))
+    (either Step (yes (q .«dual_source») && not (e .dual)) (refused 66) _ (ans 66 0 0 0 (lit 66 refl))
     (either Step (anyOf isDepth (e .outputs) && not (q .depth)) (refused 67) accepted (ans 67 0 0 0 (lit 67 refl)) none)))
 places-known Stage.Compute q l e n = none
 places-known Stage.Task q l e n = none
@@ -355,20 +356,21 @@ last-known q l e inputs w =
 
 -- ---- the body
 
-judgement-known : (q : Request) (i : Interface) (e : EntryPoint) (inputs : StageIo) (L : Layout) → Step (judgement q i e inputs L)
-unfolding judgement
-judgement-known q i e inputs L =
+judgement-known : (derived : Bool) (q : Request) (i : Interface) (e : EntryPoint) (inputs : StageIo) (L : Layout) → Step (judgement derived q i e inputs L)
+unfolding judgement behindInputs
+judgement-known derived q i e inputs L =
     let w = inputWalk q e inputs in
-    step-both (pairStep q i e L) _ (either Step (yes (q .derived)) _ _ none (pairs-known L (i .resources) (e .pairs)))
+    step-both (pairStep derived (i .resources) e L) _ (either Step (yes derived) _ _ none (pairs-known L (i .resources) (e .pairs)))
     (step-both (workgroupStep (q .stage) (e .workgroup) (i .limits)) _ (workgroup-known (q .stage) (e .workgroup) (i .limits))
     (step-both (w .answer) _ (walk-known (q .stage) (inputs .varyings) (e .inputs) _)
     (step-both (placesStep (q .stage) q (i .limits) e (w .walk .locals)) _ (places-known (q .stage) q (i .limits) e (w .walk .locals))
     (last-known q (i .limits) e inputs (w .walk)))))
 
 -- every number that the steps of a stage check answer is one of theirs
-pub body-known : (q : Request) (i : Interface) (e : EntryPoint) (inputs : StageIo) (L : Layout) (S : Sizes) → Sound (stageBody q i e inputs L S)
+pub body-known : (derived : Bool) (q : Request) (i : Interface) (e : EntryPoint) (inputs : StageIo) (L : Layout) (S : Sizes)
+    → Sound (stageBody derived q i e inputs L S)
 unfolding stageBody
-body-known q i e inputs L S =
-    then-known (resourceSteps (q .stage) (q .derived) (i .resources) (e .pairs) (e .resources) L S) (λ L S. state (judgement q i e inputs L) L S)
-    (resources-known (q .stage) (q .derived) (i .resources) (e .pairs) (e .resources) L S)
-    (λ L S. judgement-known q i e inputs L)
+body-known derived q i e inputs L S =
+    then-known (resourceSteps (q .stage) derived (i .resources) (e .pairs) (e .resources) L S) (λ L S. state (judgement derived q i e inputs L) L S)
+    (resources-known (q .stage) derived (i .resources) (e .pairs) (e .resources) L S)
+    (λ L S. judgement-known derived q i e inputs L)

@@ -1,69 +1,103 @@
 -- The ways on through a stage check: its refusals in order, the resources, the judgement, the list out.
 use Prim.Native.Nat.{ℕ}
-use mathlib.Core.Path.{_≡_}
-use mathlib.Core.Bool.{true, false}
+use mathlib.Core.Path.{_≡_, sym, ap, _∙_}
+use mathlib.Core.Bool.{Bool, true, false, _&&_}
 use mathlib.Core.List.{List}
-use lib.Dec.{eqb}
 use native.Mathlib.Omega.{arith}
 use borrow.Author.Tests.{eq-eqb, ne-eqb}
-use Rattle.word.specs.Choice.{pick}
 use Rattle.word.specs.declared.answer.Answer.{Answer}
-use Rattle.lists.specs.Format.{decodeLayout, decodeSizes, decodeStage, encodeLayout, encodeSizes, encodeStage}
+use Rattle.word.specs.Answers.{refused}
+use Rattle.word.proofs.Truth.{by-test}
+use Rattle.lists.specs.Meaning.{Layout, Sizes, StageIo}
+use lib.Dec.{eqb}
+use Rattle.stage_steps.specs.Meaning.{both}
+use Rattle.lists.specs.Format.{layoutFiled, sizesFiled, decodeLayout, decodeSizes, decodeStage}
+use Rattle.lists.proofs.LayoutLists as layouts
+use Rattle.lists.proofs.SizeLists as sizes
 use Rattle.interface.specs.Meaning.{EntryPoint, Interface}
-use Rattle.interface.specs.Format.{Decoded, Torn, Misfiled, Pack, decode, decodedNumber, stageAt}
+use Rattle.interface.specs.Format.{Decoded, Torn, Misfiled, Pack, decode, decodedNumber}
 use Rattle.interface.specs.Reads.{interfaceOf}
-use Rattle.interface.specs.Rules.{findEntryPoint}
-use Rattle.stage_steps.specs.Interfaces.{stageOut}
-use Rattle.stage.specs.Meaning.{Call, Outcome, outcome, state}
+use Rattle.stage_steps.specs.declared.types.Request.{Request}
+use Rattle.stage.specs.declared.types.Codes.{Codes}
+use Rattle.stage.specs.Meaning.{Lent, lent, Call, call, Outcome, outcome, State, state, andThen}
 use Rattle.stage.specs.Resources.{resourceSteps}
-use Rattle.stage.specs.Stage.{requestOf, inputWalk, judgement, stageBody, finish, runBody, unchanged, callGood, onChosen, onDecoded, checkStage}
+use Rattle.stage.specs.Judging.{bindingSteps}
+use Rattle.stage.specs.Stage.{pairStep, inputWalk, behindPairs, judgement, stageBody, listsGood, codesGood, callGood, unchanged, handedOut, finish, runBody, onNamed, onDecoded, checkStage}
 
 -- ---- the body
 
-module _ (c : Call) (i : Interface) (e : EntryPoint) (a : Answer) (l s : List ℕ)
-    (steps : state a (decodeLayout l) (decodeSizes s)
-    ≡ resourceSteps (requestOf c .stage) (requestOf c .derived) (i .resources) (e .pairs) (e .resources) (decodeLayout (c .layout)) (decodeSizes (c .sizes)))
-    (el : encodeLayout (decodeLayout l) ≡ l) (es : encodeSizes (decodeSizes s) ≡ s) where
-  pub run-refused : (a .number ≡ 0 → ⊥) → outcome a l s (c .out) ≡ runBody c i e
-  unfolding runBody finish stageBody
-  run-refused n = rw (← steps, ne-eqb (a .number) 0 n, ne-eqb (a .number) 0 n, el, es)
+-- a step, a judgement of what it left and one that looks at nothing
+two-behind : (x : State) (p : Layout → Answer) (b : Answer)
+    → andThen x (λ L S. state (both (p L) b) L S) ≡ andThen (andThen x (λ L S. state (p L) L S)) (λ L S. state b L S)
+two-behind x p b =
+    by-test (eqb (x .answer .number) 0)
+    (λ t. rw t (by-test (eqb (p (x .layout) .number) 0) (λ u. rw u) (λ m. rw m)))
+    (λ n. rw (n, n))
 
-  pub run-went : (b : Answer) → a .number ≡ 0 → b ≡ judgement (requestOf c) i e (decodeStage (c .inputs)) (decodeLayout l) → (o : List ℕ)
-      → o ≡ pick (eqb (b .number) 0)
-      (encodeStage (stageOut (stageAt (c .stage)) e (inputWalk (requestOf c) e (decodeStage (c .inputs)) .walk) (c .out))) (c .out)
-      → outcome b l s o ≡ runBody c i e
-  unfolding runBody finish stageBody
-  run-went b z eb o eo = rw (← steps, eq-eqb (a .number) 0 z, ← eb, el, es, ← eo)
+body-is : (derived : Bool) (q : Request) (i : Interface) (e : EntryPoint) (inputs : StageIo) (L : Layout) (S : Sizes)
+    → stageBody derived q i e inputs L S ≡ andThen (bindingSteps derived (q .stage) i e L S) (λ L S. state (behindPairs q i e inputs) L S)
+unfolding stageBody judgement
+body-is derived q i e inputs L S =
+    two-behind (resourceSteps (q .stage) derived (i .resources) (e .pairs) (e .resources) L S) (λ L. pairStep derived (i .resources) e L) (behindPairs q i e inputs)
+
+module _ (derived : Bool) (q : Request) (t : Lent) (i : Interface) (e : EntryPoint) (a : Answer) (l s : List ℕ)
+    (steps : state a (decodeLayout l) (decodeSizes s) ≡ bindingSteps derived (q .stage) i e (decodeLayout (t .layout)) (decodeSizes (t .sizes)))
+    (fl : layoutFiled l ≡ true) (fs : sizesFiled s ≡ true) where
+  abbrev body : State
+  body = stageBody derived q i e (decodeStage (t .inputs)) (decodeLayout (t .layout)) (decodeSizes (t .sizes))
+
+  body-on : body ≡ andThen (state a (decodeLayout l) (decodeSizes s)) (λ L S. state (behindPairs q i e (decodeStage (t .inputs))) L S)
+  body-on =
+      body-is derived q i e (decodeStage (t .inputs)) (decodeLayout (t .layout)) (decodeSizes (t .sizes))
+      ∙ ap (λ (x : State). andThen x (λ L S. state (behindPairs q i e (decodeStage (t .inputs))) L S)) (sym steps)
+
+  pub body-refused : (o : List ℕ) → o ≡ t .out → (a .number ≡ 0 → ⊥) → outcome a l s o ≡ runBody derived q t i e
+  unfolding runBody finish
+  body-refused o eo n =
+      rw (eo, body-on, ne-eqb (a .number) 0 n, ne-eqb (a .number) 0 n, layouts.encode-decode l fl, sizes.encode-decode s fs)
+
+  -- by a request that was read from the codes
+  pub body-went : (r : Request) (b : Answer) (o : List ℕ) → a .number ≡ 0 → r ≡ q → b ≡ behindPairs r i e (decodeStage (t .inputs))
+      → o ≡ handedOut b (r .stage) e (inputWalk r e (decodeStage (t .inputs)) .walk) (t .out) → outcome b l s o ≡ runBody derived q t i e
+  unfolding runBody finish
+  body-went r b o z er eb eo =
+      let k : b ≡ behindPairs q i e (decodeStage (t .inputs)) = rw (← er) eb in
+      rw (body-on, eq-eqb (a .number) 0 z, ← k, layouts.encode-decode l fl, sizes.encode-decode s fs, ← er, ← eo)
 
 -- ---- the refusals in front of it
 
-pub pack-refused : (c : Call) (n : ℕ) → n ≡ decodedNumber (decode (c .pack)) → (n ≡ 0 → ⊥) → unchanged c n ≡ checkStage c
-unfolding checkStage
-pack-refused c n e z = go (decode (c .pack)) e
-  where
-    go : (d : Decoded) → n ≡ decodedNumber d → unchanged c n ≡ onDecoded c d
-    go Torn h = rw h
-    go Misfiled h = rw h
-    go (Pack i) h = absurd (z h)
+module _ (pack name : List ℕ) (codes : Codes) (layout sizes inputs out : List ℕ) where
+  abbrev whole : Call
+  whole = call pack name codes (lent layout sizes inputs out)
 
-module _ (c : Call) (z : decodedNumber (decode (c .pack)) ≡ 0) where
-  pub call-refused : callGood c ≡ false → unchanged c 3 ≡ checkStage c
+  pub stage-pack : (n : ℕ) (a : Answer) → n ≡ decodedNumber (decode pack) → (n ≡ 0 → ⊥) → a ≡ refused n → outcome a layout sizes out ≡ checkStage whole
   unfolding checkStage
-  call-refused g = go (decode (c .pack)) z
+  stage-pack n a e z ea = rw ea (go (decode pack) e)
     where
-      go : (d : Decoded) → decodedNumber d ≡ 0 → unchanged c 3 ≡ onDecoded c d
-      go Torn h = absurd (omega (arith, h))
-      go Misfiled h = absurd (omega (arith, h))
-      go (Pack i) h = rw g
+      go : (d : Decoded) → n ≡ decodedNumber d → unchanged (whole .lent) n ≡ onDecoded whole d
+      go Torn h = rw h
+      go Misfiled h = rw h
+      go (Pack i) h = absurd (z h)
 
-  pub call-went : (y : Outcome) → callGood c ≡ true
-      → y ≡ onChosen c (interfaceOf (decode (c .pack))) (findEntryPoint (stageAt (c .stage)) (c .name) (interfaceOf (decode (c .pack)) .entries))
-      → y ≡ checkStage c
-  unfolding checkStage
-  call-went y g e = go (decode (c .pack)) z e
-    where
-      go : (d : Decoded) → decodedNumber d ≡ 0
-          → y ≡ onChosen c (interfaceOf d) (findEntryPoint (stageAt (c .stage)) (c .name) (interfaceOf d .entries)) → y ≡ onDecoded c d
-      go Torn h k = absurd (omega (arith, h))
-      go Misfiled h k = absurd (omega (arith, h))
-      go (Pack i) h k = rw g k
+  module _ (z : decodedNumber (decode pack) ≡ 0) (r : Bool) (er : r ≡ (listsGood layout sizes inputs && codesGood codes)) where
+    good-at : r ≡ callGood (whole .lent) codes
+    unfolding callGood
+    good-at = er
+
+    pub stage-call : (a : Answer) → r ≡ false → a ≡ refused 3 → outcome a layout sizes out ≡ checkStage whole
+    unfolding checkStage
+    stage-call a f ea = rw ea (go (decode pack) z (sym good-at ∙ f))
+      where
+        go : (d : Decoded) → decodedNumber d ≡ 0 → callGood (whole .lent) codes ≡ false → unchanged (whole .lent) 3 ≡ onDecoded whole d
+        go Torn h g = absurd (omega (arith, h))
+        go Misfiled h g = absurd (omega (arith, h))
+        go (Pack i) h g = rw g
+
+    pub stage-went : (y : Outcome) → r ≡ true → y ≡ onNamed whole (interfaceOf (decode pack)) → y ≡ checkStage whole
+    unfolding checkStage
+    stage-went y t e = go (decode pack) z (sym good-at ∙ t) e
+      where
+        go : (d : Decoded) → decodedNumber d ≡ 0 → callGood (whole .lent) codes ≡ true → y ≡ onNamed whole (interfaceOf d) → y ≡ onDecoded whole d
+        go Torn h g k = absurd (omega (arith, h))
+        go Misfiled h g k = absurd (omega (arith, h))
+        go (Pack i) h g k = rw g k

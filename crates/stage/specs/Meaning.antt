@@ -5,21 +5,28 @@ use lib.Dec.{eqb}
 use Rattle.word.specs.Choice.{pick}
 use Rattle.word.specs.declared.answer.Answer.{Answer}
 use Rattle.lists.specs.Meaning.{Layout, Sizes}
+use Rattle.stage.specs.declared.types.Codes.{Codes}
+
+-- the lists that a call lends
+pub record Lent : Type 0 where
+  pub layout : List ℕ
+  pub sizes : List ℕ
+  pub inputs : List ℕ
+  pub out : List ℕ
+
+abbrev pub lent : List ℕ → List ℕ → List ℕ → List ℕ → Lent
+lent l s i o = record { layout = l; sizes = s; inputs = i; out = o }
 
 -- 'The call gives a stage, a name of any bytes, topology 0–4 or 5 for none, mode 0 provided or 1 derived, and two fragment flags
 -- (dual source, depth attached), 0 or 1', with the words of the pack and the lists that are lent
 pub record Call : Type 0 where
   pub pack : List ℕ
-  pub layout : List ℕ
-  pub sizes : List ℕ
-  pub inputs : List ℕ
-  pub out : List ℕ
-  pub stage : ℕ
   pub name : List ℕ
-  pub topology : ℕ
-  pub mode : ℕ
-  pub dual : ℕ
-  pub depth : ℕ
+  pub codes : Codes
+  pub lent : Lent
+
+abbrev pub call : List ℕ → List ℕ → Codes → Lent → Call
+call pack name codes t = record { pack = pack; name = name; codes = codes; lent = t }
 
 -- the answer, and the lent lists at exit
 pub record Outcome : Type 0 where

@@ -1,24 +1,25 @@
 // A stage check, whole: the pack, the lists and codes of the call, the entry point, and its steps.
 ghost use mathlib.Core.Path.{_≡_};
 ghost use mathlib.Core.Bool.{true, _&&_};
-ghost use mathlib.Core.List.{[]};
 ghost use Prim.Native.Nat.{_+_, _*_, _<_, _≤_};
-ghost use lib.Dec.{eqb, ltb};
 ghost use lib.ListN.{length};
 ghost use Rattle.lists.specs.Format.{layoutFiled, sizesFiled, outFiled, decodeLayout, decodeSizes, decodeStage};
-ghost use Rattle.interface.specs.Format.{decode, decodedNumber, stageAt};
+ghost use Rattle.interface.specs.Format.{decode, decodedNumber};
 ghost use Rattle.interface.specs.Reads.{interfaceOf, entryNth, standing};
 ghost use Rattle.interface.specs.Parts.{Placed, Offsets, Heads};
-ghost use Rattle.interface.specs.Rules.{findEntryPoint};
+ghost use Rattle.lists.specs.Meaning.{every};
 ghost use Rattle.stage_steps.specs.Given.{Summed};
-ghost use Rattle.stage.specs.Meaning.{outcome, state};
+ghost use Rattle.stage_steps.specs.ListOut.{outputHeld};
+ghost use Rattle.stage.specs.Meaning.{lent, call, outcome, state};
 ghost use Rattle.stage.specs.Resources.{resourceSteps};
 ghost use Rattle.stage.specs.Given.{Given};
-ghost use Rattle.stage.specs.Judging.{requestWith, handedOut};
-ghost use Rattle.stage.specs.Stage.{inputWalk, judgement, outWords, runBody, onEntryPoint, onChosen, callGood, checkStage, call};
+ghost use Rattle.stage.specs.Judging.{bindingSteps};
+ghost use Rattle.stage.specs.Stage.{inputWalk, behindPairs, requestOf, derivedOf, listsGood, codesGood, outWords, handedOut, runBody, onEntryPoint, onNamed, checkStage};
 use crate::derive::derive_steps;
 use crate::judge::judge;
+use crate::judge::pair_step;
 use crate::provide::provide_steps;
+use crate::types::Codes;
 use interface::check_pack::index_pack;
 use interface::choose::find_entry_point;
 use interface::parts::pairs_counted;
@@ -27,12 +28,12 @@ use interface::reads::entry_parts;
 use interface::reads::stage_at;
 use interface::types::Chosen;
 use interface::types::EntryParts;
-use interface::types::ShaderStage;
 use lists::layout::layout_filed;
 use lists::sizes::sizes_filed;
 use lists::stage_io::stage_filed;
 use stage_steps::list_out::list_out;
 use stage_steps::outputs::output_summary;
+use stage_steps::types::Request;
 use stage_steps::types::Summary;
 use word::answer::Answer;
 
@@ -44,14 +45,13 @@ fn check_resources(
     entries: &mut [u8; 128],
     layout: &mut [u32],
     sizes: &mut [u32],
-    stage: u32,
-    mode: u32,
+    codes: Codes,
 ) -> Answer
     requires { ⌜ Placed (now pack) parts ⌝ }
     requires { ⌜ (layoutFiled (now layout) ≡ true) × (sizesFiled (now sizes) ≡ true) ⌝ }
     requires { ⌜ Given (now pack) (now offsets) (interfaceOf (decode (now pack))) (standing (now pack) parts) ⌝ }
     ensures { λ a. ⌜ state a (decodeLayout (now (layout .exit))) (decodeSizes (now (sizes .exit)))
-        ≡ resourceSteps (stageAt stage) (eqb mode 1) (interfaceOf (decode (now (pack .entry))) .resources)
+        ≡ resourceSteps (requestOf codes .stage) (derivedOf codes) (interfaceOf (decode (now (pack .entry))) .resources)
         (standing (now (pack .entry)) parts .pairs) (standing (now (pack .entry)) parts .resources)
         (decodeLayout (now (layout .entry))) (decodeSizes (now (sizes .entry))) ⌝ }
     ensures { λ a. ⌜ (layoutFiled (now (layout .exit)) ≡ true) × (sizesFiled (now (sizes .exit)) ≡ true) ⌝ }
@@ -59,8 +59,8 @@ fn check_resources(
     let at = parts.counts;
     let counts = pack[at];
     let n = resources_counted(counts) as u32;
-    let stage = stage_at(stage);
-    if mode == 1 {
+    let stage = stage_at(codes.stage);
+    if codes.mode == 1 {
         let pairs = pairs_counted(counts);
         let derived = derive_steps(
             pack,
@@ -87,96 +87,67 @@ fn check_resources(
     provided.answer
 }
 
-// The steps behind the resources, and the list out where all of them passed.
+// The resources, and the pairs where the layout is provided.
+fn check_bindings(
+    pack: &[u32],
+    parts: EntryParts,
+    offsets: &[u16],
+    layout: &mut [u32],
+    sizes: &mut [u32],
+    codes: Codes,
+) -> Answer
+    requires { ⌜ Placed (now pack) parts ⌝ }
+    requires { ⌜ (layoutFiled (now layout) ≡ true) × (sizesFiled (now sizes) ≡ true) ⌝ }
+    requires { ⌜ Given (now pack) (now offsets) (interfaceOf (decode (now pack))) (standing (now pack) parts) ⌝ }
+    ensures { λ a. ⌜ state a (decodeLayout (now (layout .exit))) (decodeSizes (now (sizes .exit)))
+        ≡ bindingSteps (derivedOf codes) (requestOf codes .stage) (interfaceOf (decode (now (pack .entry)))) (standing (now (pack .entry)) parts)
+        (decodeLayout (now (layout .entry))) (decodeSizes (now (sizes .entry))) ⌝ }
+    ensures { λ a. ⌜ (layoutFiled (now (layout .exit)) ≡ true) × (sizesFiled (now (sizes .exit)) ≡ true) ⌝ }
+{
+    let mut entries: [u8; 128] = [0; 128];
+    let resources = check_resources(pack, parts, offsets, &mut entries, layout, sizes, codes);
+    if resources.number != 0 {
+        return resources;
+    }
+    pair_step(pack, parts, offsets, &entries, layout, codes.mode == 1)
+}
+
+// The steps behind the pairs, and the list out where all of them passed.
 fn judge_out(
     pack: &[u32],
     parts: EntryParts,
     outputs: Summary,
-    offsets: &[u16],
-    entries: &[u8; 128],
-    layout: &[u32],
     inputs: &[u32],
     out: &mut [u32],
-    stage: ShaderStage,
-    topology: u32,
-    derived: bool,
-    dual: bool,
-    depth: bool,
+    request: Request,
 ) -> Answer
-    requires { ⌜ (decodedNumber (decode (now pack)) ≡ 0) × Placed (now pack) parts ⌝ }
-    requires { ⌜ (layoutFiled (now layout) ≡ true) × (outFiled (now inputs) ≡ true) ⌝ }
+    requires { ⌜ (decodedNumber (decode (now pack)) ≡ 0) × Placed (now pack) parts × (outFiled (now inputs) ≡ true) ⌝ }
     requires { ⌜ Summed (now pack) parts outputs × (outWords (standing (now pack) parts) ≤ length (now out)) ⌝ }
-    requires { ⌜ Given (now pack) (now offsets) (interfaceOf (decode (now pack))) (standing (now pack) parts) ⌝ }
-    ensures { λ r. ⌜ r ≡ judgement (requestWith derived stage topology dual depth) (interfaceOf (decode (now (pack .entry))))
-        (standing (now (pack .entry)) parts) (decodeStage (now (inputs .entry))) (decodeLayout (now (layout .entry))) ⌝ }
-    ensures { λ r. ⌜ now (out .exit) ≡ handedOut r stage (standing (now (pack .entry)) parts)
-        (inputWalk (requestWith derived stage topology dual depth) (standing (now (pack .entry)) parts) (decodeStage (now (inputs .entry))) .walk)
-        (now (out .entry)) ⌝ }
+    requires { ⌜ every outputHeld (standing (now pack) parts .outputs) ≡ true ⌝ }
+    ensures { λ r. ⌜ r ≡ behindPairs request (interfaceOf (decode (now (pack .entry)))) (standing (now (pack .entry)) parts) (decodeStage (now (inputs .entry))) ⌝ }
+    ensures { λ r. ⌜ now (out .exit) ≡ handedOut r (request .stage) (standing (now (pack .entry)) parts)
+        (inputWalk request (standing (now (pack .entry)) parts) (decodeStage (now (inputs .entry))) .walk) (now (out .entry)) ⌝ }
 {
-    let judged = judge(
-        pack,
-        parts,
-        offsets,
-        entries,
-        outputs,
-        layout,
-        inputs,
-        stage,
-        topology,
-        derived,
-        dual,
-        depth,
-    );
+    let judged = judge(pack, parts, outputs, inputs, request);
     let answer = judged.answer;
     if answer.number != 0 {
         return answer;
     }
+    let stage = request.stage;
     list_out(pack, parts, stage, judged.walk, outputs, out);
     answer
 }
 
-// The same by the codes of a call.
-fn judge_call(
-    pack: &[u32],
-    parts: EntryParts,
-    outputs: Summary,
-    offsets: &[u16],
-    entries: &[u8; 128],
-    layout: &[u32],
-    inputs: &[u32],
-    out: &mut [u32],
-    stage: u32,
-    topology: u32,
-    mode: u32,
-    dual: u32,
-    depth: u32,
-) -> Answer
-    requires { ⌜ (decodedNumber (decode (now pack)) ≡ 0) × Placed (now pack) parts ⌝ }
-    requires { ⌜ (layoutFiled (now layout) ≡ true) × (outFiled (now inputs) ≡ true) ⌝ }
-    requires { ⌜ Given (now pack) (now offsets) (interfaceOf (decode (now pack))) (standing (now pack) parts) ⌝ }
-    requires { ⌜ Summed (now pack) parts outputs × (outWords (standing (now pack) parts) ≤ length (now out)) ⌝ }
-    ensures { λ r. ⌜ r ≡ judgement (requestWith (eqb mode 1) (stageAt stage) topology (eqb dual 1) (eqb depth 1)) (interfaceOf (decode (now (pack .entry))))
-        (standing (now (pack .entry)) parts) (decodeStage (now (inputs .entry))) (decodeLayout (now (layout .entry))) ⌝ }
-    ensures { λ r. ⌜ now (out .exit) ≡ handedOut r (stageAt stage) (standing (now (pack .entry)) parts)
-        (inputWalk (requestWith (eqb mode 1) (stageAt stage) topology (eqb dual 1) (eqb depth 1)) (standing (now (pack .entry)) parts)
-        (decodeStage (now (inputs .entry))) .walk) (now (out .entry)) ⌝ }
+// What the codes of a call ask for, but for the mode.
+fn request_of(codes: Codes) -> Request
+    ensures { λ r. ⌜ r ≡ requestOf codes ⌝ }
 {
-    let stage = stage_at(stage);
-    judge_out(
-        pack,
-        parts,
-        outputs,
-        offsets,
-        entries,
-        layout,
-        inputs,
-        out,
-        stage,
-        topology,
-        mode == 1,
-        dual == 1,
-        depth == 1,
-    )
+    Request {
+        stage: stage_at(codes.stage),
+        topology: codes.topology,
+        dual_source: codes.dual_source == 1,
+        depth: codes.depth == 1,
+    }
 }
 
 // All steps of an entry point, over a table of the resources.
@@ -189,49 +160,21 @@ fn run_body(
     sizes: &mut [u32],
     inputs: &[u32],
     out: &mut [u32],
-    stage: u32,
-    topology: u32,
-    mode: u32,
-    dual: u32,
-    depth: u32,
+    codes: Codes,
 ) -> Answer
     requires { ⌜ (decodedNumber (decode (now pack)) ≡ 0) × Placed (now pack) parts ⌝ }
     requires { ⌜ (layoutFiled (now layout) ≡ true) × (sizesFiled (now sizes) ≡ true) × (outFiled (now inputs) ≡ true) ⌝ }
     requires { ⌜ Given (now pack) (now offsets) (interfaceOf (decode (now pack))) (standing (now pack) parts) ⌝ }
     requires { ⌜ Summed (now pack) parts outputs × (outWords (standing (now pack) parts) ≤ length (now out)) ⌝ }
-    ensures { λ a. ⌜ outcome a (now (layout .exit)) (now (sizes .exit)) (now (out .exit)) ≡ runBody (call (now (pack .entry)) (now (layout .entry)) (now (sizes .entry))
-        (now (inputs .entry)) (now (out .entry)) stage [] topology mode dual depth)
+    ensures { λ a. ⌜ outcome a (now (layout .exit)) (now (sizes .exit)) (now (out .exit)) ≡ runBody (derivedOf codes) (requestOf codes)
+        (lent (now (layout .entry)) (now (sizes .entry)) (now (inputs .entry)) (now (out .entry)))
         (interfaceOf (decode (now (pack .entry)))) (standing (now (pack .entry)) parts) ⌝ }
 {
-    let mut entries: [u8; 128] = [0; 128];
-    let resources = check_resources(
-        pack,
-        parts,
-        offsets,
-        &mut entries,
-        layout,
-        sizes,
-        stage,
-        mode,
-    );
-    if resources.number != 0 {
-        return resources;
+    let bindings = check_bindings(pack, parts, offsets, layout, sizes, codes);
+    if bindings.number != 0 {
+        return bindings;
     }
-    judge_call(
-        pack,
-        parts,
-        outputs,
-        offsets,
-        &entries,
-        layout,
-        inputs,
-        out,
-        stage,
-        topology,
-        mode,
-        dual,
-        depth,
-    )
+    judge_out(pack, parts, outputs, inputs, out, request_of(codes))
 }
 
 // The room of the list out, then all steps of the entry point at a place among those of the pack.
@@ -244,17 +187,13 @@ fn on_entry_point(
     sizes: &mut [u32],
     inputs: &[u32],
     out: &mut [u32],
-    stage: u32,
-    topology: u32,
-    mode: u32,
-    dual: u32,
-    depth: u32,
+    codes: Codes,
 ) -> Answer
     requires { ⌜ (decodedNumber (decode (now pack)) ≡ 0) × Offsets (now pack) (now offsets) × Heads (now pack) (now heads) ⌝ }
     requires { ⌜ position < length (interfaceOf (decode (now pack)) .entries) ⌝ }
     requires { ⌜ (layoutFiled (now layout) ≡ true) × (sizesFiled (now sizes) ≡ true) × (outFiled (now inputs) ≡ true) ⌝ }
-    ensures { λ a. ⌜ outcome a (now (layout .exit)) (now (sizes .exit)) (now (out .exit)) ≡ onEntryPoint (call (now (pack .entry)) (now (layout .entry)) (now (sizes .entry))
-        (now (inputs .entry)) (now (out .entry)) stage [] topology mode dual depth)
+    ensures { λ a. ⌜ outcome a (now (layout .exit)) (now (sizes .exit)) (now (out .exit)) ≡ onEntryPoint (derivedOf codes) (requestOf codes)
+        (lent (now (layout .entry)) (now (sizes .entry)) (now (inputs .entry)) (now (out .entry)))
         (interfaceOf (decode (now (pack .entry)))) (entryNth (interfaceOf (decode (now (pack .entry))) .entries) position) ⌝ }
 {
     let parts = entry_parts(pack, heads, position);
@@ -271,11 +210,7 @@ fn on_entry_point(
         sizes,
         inputs,
         out,
-        stage,
-        topology,
-        mode,
-        dual,
-        depth,
+        codes,
     )
 }
 
@@ -288,20 +223,15 @@ fn on_named(
     sizes: &mut [u32],
     inputs: &[u32],
     out: &mut [u32],
-    stage: u32,
     name: &[u8],
-    topology: u32,
-    mode: u32,
-    dual: u32,
-    depth: u32,
+    codes: Codes,
 ) -> Answer
     requires { ⌜ (decodedNumber (decode (now pack)) ≡ 0) × Offsets (now pack) (now offsets) × Heads (now pack) (now heads) ⌝ }
     requires { ⌜ (layoutFiled (now layout) ≡ true) × (sizesFiled (now sizes) ≡ true) × (outFiled (now inputs) ≡ true) ⌝ }
-    ensures { λ a. ⌜ outcome a (now (layout .exit)) (now (sizes .exit)) (now (out .exit)) ≡ onChosen (call (now (pack .entry)) (now (layout .entry)) (now (sizes .entry))
-        (now (inputs .entry)) (now (out .entry)) stage [] topology mode dual depth) (interfaceOf (decode (now (pack .entry))))
-        (findEntryPoint (stageAt stage) (now (name .entry)) (interfaceOf (decode (now (pack .entry))) .entries)) ⌝ }
+    ensures { λ a. ⌜ outcome a (now (layout .exit)) (now (sizes .exit)) (now (out .exit)) ≡ onNamed (call (now (pack .entry)) (now (name .entry)) codes
+        (lent (now (layout .entry)) (now (sizes .entry)) (now (inputs .entry)) (now (out .entry)))) (interfaceOf (decode (now (pack .entry)))) ⌝ }
 {
-    match find_entry_point(pack, heads, stage_at(stage), name) {
+    match find_entry_point(pack, heads, stage_at(codes.stage), name) {
         Chosen::At { position } => on_entry_point(
             pack,
             offsets,
@@ -311,11 +241,7 @@ fn on_named(
             sizes,
             inputs,
             out,
-            stage,
-            topology,
-            mode,
-            dual,
-            depth,
+            codes,
         ),
         Chosen::Absent => Answer::refused(10),
         Chosen::Several => Answer::refused(10),
@@ -323,43 +249,42 @@ fn on_named(
 }
 
 // Whether the codes of a call are in their ranges.
-fn codes_good(stage: u32, topology: u32, mode: u32, dual: u32, depth: u32) -> bool
-    ensures { λ r. ⌜ r ≡ (ltb stage 5 && (ltb topology 6 && (ltb mode 2 && (ltb dual 2 && ltb depth 2)))) ⌝ }
+fn codes_good(codes: Codes) -> bool
+    ensures { λ r. ⌜ r ≡ codesGood codes ⌝ }
 {
-    if 5 <= stage {
+    if 5 <= codes.stage {
         return false;
     }
-    if 6 <= topology {
+    if 6 <= codes.topology {
         return false;
     }
-    if 2 <= mode {
+    if 2 <= codes.mode {
         return false;
     }
-    if 2 <= dual {
+    if 2 <= codes.dual_source {
         return false;
     }
-    depth < 2
+    codes.depth < 2
 }
 
-// Whether the lists of a call are well formed and its codes in their ranges.
-fn call_good(
-    layout: &[u32],
-    sizes: &[u32],
-    inputs: &[u32],
-    stage: u32,
-    topology: u32,
-    mode: u32,
-    dual: u32,
-    depth: u32,
-) -> bool
-    ensures { λ r. ⌜ r ≡ callGood (call [] (now (layout .entry)) (now (sizes .entry)) (now (inputs .entry)) [] stage [] topology mode dual depth) ⌝ }
+// Whether the lists of a call are well formed.
+fn lists_good(layout: &[u32], sizes: &[u32], inputs: &[u32]) -> bool
+    ensures { λ r. ⌜ r ≡ listsGood (now (layout .entry)) (now (sizes .entry)) (now (inputs .entry)) ⌝ }
 {
     if layout_filed(layout) {
         if sizes_filed(sizes) {
-            if stage_filed(inputs) {
-                return codes_good(stage, topology, mode, dual, depth);
-            }
+            return stage_filed(inputs);
         }
+    }
+    false
+}
+
+// Whether the lists of a call are well formed and its codes in their ranges.
+fn call_good(layout: &[u32], sizes: &[u32], inputs: &[u32], codes: Codes) -> bool
+    ensures { λ r. ⌜ r ≡ (listsGood (now (layout .entry)) (now (sizes .entry)) (now (inputs .entry)) && codesGood codes) ⌝ }
+{
+    if lists_good(layout, sizes, inputs) {
+        return codes_good(codes);
     }
     false
 }
@@ -373,18 +298,14 @@ fn check_call(
     sizes: &mut [u32],
     inputs: &[u32],
     out: &mut [u32],
-    stage: u32,
     name: &[u8],
-    topology: u32,
-    mode: u32,
-    dual: u32,
-    depth: u32,
+    codes: Codes,
 ) -> Answer
     requires { ⌜ (decodedNumber (decode (now pack)) ≡ 0) × Offsets (now pack) (now offsets) × Heads (now pack) (now heads) ⌝ }
-    ensures { λ a. ⌜ outcome a (now (layout .exit)) (now (sizes .exit)) (now (out .exit)) ≡ checkStage (call (now (pack .entry)) (now (layout .entry)) (now (sizes .entry))
-        (now (inputs .entry)) (now (out .entry)) stage (now (name .entry)) topology mode dual depth) ⌝ }
+    ensures { λ a. ⌜ outcome a (now (layout .exit)) (now (sizes .exit)) (now (out .exit)) ≡ checkStage (call (now (pack .entry)) (now (name .entry)) codes
+        (lent (now (layout .entry)) (now (sizes .entry)) (now (inputs .entry)) (now (out .entry)))) ⌝ }
 {
-    if call_good(layout, sizes, inputs, stage, topology, mode, dual, depth) {
+    if call_good(layout, sizes, inputs, codes) {
         return on_named(
             pack,
             offsets,
@@ -393,12 +314,8 @@ fn check_call(
             sizes,
             inputs,
             out,
-            stage,
             name,
-            topology,
-            mode,
-            dual,
-            depth,
+            codes,
         );
     }
     Answer::refused(3)
@@ -411,15 +328,11 @@ pub fn check_stage(
     sizes: &mut [u32],
     inputs: &[u32],
     out: &mut [u32],
-    stage: u32,
     name: &[u8],
-    topology: u32,
-    mode: u32,
-    dual: u32,
-    depth: u32,
+    codes: Codes,
 ) -> Answer
-    ensures { λ a. ⌜ outcome a (now (layout .exit)) (now (sizes .exit)) (now (out .exit)) ≡ checkStage (call (now (pack .entry)) (now (layout .entry)) (now (sizes .entry))
-        (now (inputs .entry)) (now (out .entry)) stage (now (name .entry)) topology mode dual depth) ⌝ }
+    ensures { λ a. ⌜ outcome a (now (layout .exit)) (now (sizes .exit)) (now (out .exit)) ≡ checkStage (call (now (pack .entry)) (now (name .entry)) codes
+        (lent (now (layout .entry)) (now (sizes .entry)) (now (inputs .entry)) (now (out .entry)))) ⌝ }
 {
     let mut offsets: [u16; 128] = [0; 128];
     let mut heads: [u16; 16] = [0; 16];
@@ -435,11 +348,7 @@ pub fn check_stage(
         sizes,
         inputs,
         out,
-        stage,
         name,
-        topology,
-        mode,
-        dual,
-        depth,
+        codes,
     )
 }

@@ -2,18 +2,15 @@
 ghost use mathlib.Core.Path.{_≡_};
 ghost use mathlib.Core.Bool.{true, false};
 ghost use Prim.Native.Nat.{_+_};
-ghost use lib.ListN.{length};
 ghost use Rattle.lists.specs.Format.{layoutFiled, outFiled, decodeLayout, decodeStage};
 ghost use Rattle.interface.specs.Format.{decode, decodedNumber};
 ghost use Rattle.interface.specs.Reads.{interfaceOf, standing};
 ghost use Rattle.interface.specs.Parts.{Placed};
-ghost use Rattle.word.specs.Choice.{pick, yes};
-ghost use Rattle.word.specs.Answers.{accepted};
 ghost use Rattle.stage_steps.specs.Given.{Summed};
 ghost use Rattle.stage_steps.specs.Interfaces.{workgroupStep, walked, startWalk};
-ghost use Rattle.stage.specs.Given.{resourceTable, Inside, pairsBelow};
-ghost use Rattle.stage.specs.Resources.{pairUses};
-ghost use Rattle.stage.specs.Judging.{request, behindInputs, judgedInputs, judged};
+ghost use Rattle.stage.specs.Given.{Given};
+ghost use Rattle.stage.specs.Judging.{judgedInputs, judged};
+ghost use Rattle.stage.specs.Stage.{pairStep, behindInputs};
 use crate::pairs::pair_uses;
 use interface::parts::inputs_counted;
 use interface::parts::pairs_counted;
@@ -28,6 +25,7 @@ use stage_steps::inputs::input_steps;
 use stage_steps::last::last_step;
 use stage_steps::outputs::places_step;
 use stage_steps::types::InputWalk;
+use stage_steps::types::Request;
 use stage_steps::types::Summary;
 use stage_steps::types::Walked;
 use stage_steps::workgroup::workgroup_step;
@@ -81,27 +79,14 @@ fn after_inputs(
     parts: EntryParts,
     outputs: Summary,
     inputs: &[u32],
-    stage: ShaderStage,
-    topology: u32,
-    dual: bool,
-    depth: bool,
+    request: Request,
     walk: InputWalk,
 ) -> Answer
     requires { ⌜ (decodedNumber (decode (now pack)) ≡ 0) × Placed (now pack) parts × Summed (now pack) parts outputs ⌝ }
-    ensures { λ r. ⌜ r ≡ behindInputs (request stage topology dual depth) (interfaceOf (decode (now (pack .entry))) .limits)
+    ensures { λ r. ⌜ r ≡ behindInputs request (interfaceOf (decode (now (pack .entry))) .limits)
         (standing (now (pack .entry)) parts) (decodeStage (now (inputs .entry))) walk ⌝ }
 {
-    let places = places_step(
-        pack,
-        parts,
-        limits(pack),
-        outputs,
-        stage,
-        topology,
-        dual,
-        depth,
-        walk.locals,
-    );
+    let places = places_step(pack, parts, limits(pack), outputs, request, walk.locals);
     if places.number != 0 {
         return places;
     }
@@ -109,16 +94,7 @@ fn after_inputs(
     let payload = payload_of(pack, parts);
     let input = lists::stage_io::payload(inputs);
     let written = lists::stage_io::primitive_index(inputs);
-    last_step(
-        topology,
-        limits(pack),
-        stage,
-        mesh,
-        payload,
-        input,
-        written,
-        walk,
-    )
+    last_step(request, limits(pack), mesh, payload, input, written, walk)
 }
 
 // The inputs, and what follows them.
@@ -127,40 +103,28 @@ fn judge_inputs(
     parts: EntryParts,
     outputs: Summary,
     inputs: &[u32],
-    stage: ShaderStage,
-    topology: u32,
-    dual: bool,
-    depth: bool,
+    request: Request,
 ) -> Walked
     requires { ⌜ (decodedNumber (decode (now pack)) ≡ 0) × Placed (now pack) parts × Summed (now pack) parts outputs ⌝ }
     requires { ⌜ outFiled (now inputs) ≡ true ⌝ }
-    ensures { λ r. ⌜ r ≡ judgedInputs (request stage topology dual depth) (interfaceOf (decode (now (pack .entry))) .limits)
+    ensures { λ r. ⌜ r ≡ judgedInputs request (interfaceOf (decode (now (pack .entry))) .limits)
         (standing (now (pack .entry)) parts) (decodeStage (now (inputs .entry))) ⌝ }
 {
     let counts = parts.counts;
     let n = inputs_counted(pack[counts]);
+    let stage = request.stage;
     let w = input_steps(pack, parts.inputs, n, inputs, stage);
     let answer = w.answer;
     if answer.number != 0 {
         return w;
     }
     let walk = w.walk;
-    let answer = after_inputs(
-        pack,
-        parts,
-        outputs,
-        inputs,
-        stage,
-        topology,
-        dual,
-        depth,
-        walk,
-    );
+    let answer = after_inputs(pack, parts, outputs, inputs, request, walk);
     Walked { walk, answer }
 }
 
 // Pairs, where the layout is provided.
-fn pair_step(
+pub(crate) fn pair_step(
     pack: &[u32],
     parts: EntryParts,
     offsets: &[u16],
@@ -168,10 +132,10 @@ fn pair_step(
     layout: &[u32],
     derived: bool,
 ) -> Answer
-    requires { ⌜ Placed (now pack) parts × Inside (now pack) (now offsets) × (layoutFiled (now layout) ≡ true) ⌝ }
-    requires { ⌜ pairsBelow (length (resourceTable (now pack) (now offsets))) (standing (now pack) parts .pairs) ≡ true ⌝ }
-    ensures { λ r. ⌜ r ≡ pick (yes derived) accepted (pairUses (decodeLayout (now (layout .entry)))
-        (resourceTable (now (pack .entry)) (now (offsets .entry))) (standing (now (pack .entry)) parts .pairs)) ⌝ }
+    requires { ⌜ Placed (now pack) parts × (layoutFiled (now layout) ≡ true) ⌝ }
+    requires { ⌜ Given (now pack) (now offsets) (interfaceOf (decode (now pack))) (standing (now pack) parts) ⌝ }
+    ensures { λ r. ⌜ r ≡ pairStep derived (interfaceOf (decode (now (pack .entry))) .resources)
+        (standing (now (pack .entry)) parts) (decodeLayout (now (layout .entry))) ⌝ }
 {
     if derived {
         return Answer::accepted();
@@ -190,36 +154,25 @@ fn size_step(pack: &[u32], parts: EntryParts, stage: ShaderStage) -> Answer
     workgroup_step(stage, size, limits(pack))
 }
 
-// All steps behind the resources: the walk over the inputs, and the answer.
+// All steps behind the pairs: the walk over the inputs, and the answer.
 pub(crate) fn judge(
     pack: &[u32],
     parts: EntryParts,
-    offsets: &[u16],
-    entries: &[u8; 128],
     outputs: Summary,
-    layout: &[u32],
     inputs: &[u32],
-    stage: ShaderStage,
-    topology: u32,
-    derived: bool,
-    dual: bool,
-    depth: bool,
+    request: Request,
 ) -> Walked
-    requires { ⌜ (decodedNumber (decode (now pack)) ≡ 0) × Placed (now pack) parts × Summed (now pack) parts outputs × Inside (now pack) (now offsets) ⌝ }
-    requires { ⌜ (layoutFiled (now layout) ≡ true) × (outFiled (now inputs) ≡ true) ⌝ }
-    requires { ⌜ pairsBelow (length (resourceTable (now pack) (now offsets))) (standing (now pack) parts .pairs) ≡ true ⌝ }
-    ensures { λ r. ⌜ r ≡ judged derived (request stage topology dual depth) (resourceTable (now (pack .entry)) (now (offsets .entry)))
-        (interfaceOf (decode (now (pack .entry))) .limits) (standing (now (pack .entry)) parts) (decodeStage (now (inputs .entry))) (decodeLayout (now (layout .entry))) ⌝ }
+    requires { ⌜ (decodedNumber (decode (now pack)) ≡ 0) × Placed (now pack) parts × Summed (now pack) parts outputs ⌝ }
+    requires { ⌜ outFiled (now inputs) ≡ true ⌝ }
+    ensures { λ r. ⌜ r ≡ judged request (interfaceOf (decode (now (pack .entry))) .limits)
+        (standing (now (pack .entry)) parts) (decodeStage (now (inputs .entry))) ⌝ }
 {
-    let pairs = pair_step(pack, parts, offsets, entries, layout, derived);
-    if pairs.number != 0 {
-        return stopped(pairs);
-    }
+    let stage = request.stage;
     let size = size_step(pack, parts, stage);
     if size.number != 0 {
         return stopped(size);
     }
-    judge_inputs(pack, parts, outputs, inputs, stage, topology, dual, depth)
+    judge_inputs(pack, parts, outputs, inputs, request)
 }
 
 // A walk that was not begun.

@@ -10,18 +10,14 @@ use Rattle.word.specs.declared.answer.Answer.{Answer}
 use Rattle.varying.specs.Rules.{samePayload}
 use Rattle.varying.specs.declared.Payload.{Payload}
 use Rattle.varying.specs.declared.Payload.the-variants as Pay
-use Rattle.lists.specs.Meaning.{StageIo}
 use Rattle.lists.specs.declared.types.PrimitiveIndex.{PrimitiveIndex}
-use Rattle.interface.specs.Meaning.{EntryPoint}
 use Rattle.interface.specs.Format.{topologyCode}
 use Rattle.interface.specs.declared.types.PrimitiveTopology.{PrimitiveTopology}
 use Rattle.interface.specs.declared.types.MeshRecord.{MeshRecord}
 use Rattle.interface.specs.declared.types.Limits.{Limits}
 use Rattle.interface.specs.declared.types.ShaderStage.{ShaderStage}
 use Rattle.interface.specs.declared.types.ShaderStage.the-variants as Stage
-use Rattle.stage_steps.specs.Meaning.{Request, both}
-use Rattle.stage_steps.specs.declared.types.InputWalk.{InputWalk}
-use Rattle.stage_steps.specs.Interfaces.{valueUse, meshUse, payloadUse, payloadMatch, primitiveUse, drawUse, perVertexUse, lastStep}
+use Rattle.stage_steps.specs.Interfaces.{valueUse, meshUse, payloadUse, payloadMatch, primitiveUse, drawUse}
 
 pub payload-sized : (limit bytes : ℕ) (p : Payload) (r : Answer) → p ≡ Pay.Size bytes → r ≡ valueUse 73 bytes limit → r ≡ payloadUse limit p
 payload-sized limit bytes p r e h = rw e h
@@ -65,12 +61,3 @@ module _ (topology code : ℕ) (t : PrimitiveTopology) (r : Answer) (e : code �
 
   pub topology-other : (topology ≡ code → ⊥) → r ≡ refused 72 → r ≡ pick (eqb topology (topologyCode t)) accepted (refused 72)
   topology-other s h = rw (← e, ne-eqb topology code s) h
-
--- the whole, by an entry point's parts and what the stage before hands on
-pub last-judged : (q : Request) (l : Limits) (e : EntryPoint) (inputs : StageIo) (w : InputWalk) (r : Answer)
-    → r ≡ both (meshUse (q .topology) l (e .mesh)) (both (payloadUse (l .«max_task_payload_size») (e .payload))
-    (both (payloadMatch (q .stage) (e .payload) (inputs .payload)) (both (primitiveUse (q .stage) (w .«primitive_index») (inputs .primitive))
-    (both (drawUse (q .stage) (w .«draw_index») (inputs .payload)) (perVertexUse (w .«per_vertex») (q .topology))))))
-    → r ≡ lastStep q l e inputs w
-unfolding lastStep
-last-judged q l e inputs w r h = h

@@ -20,16 +20,16 @@ use Rattle.interface.specs.Format.{local, builtInOf}
 use Rattle.interface.specs.Reads.{varying, varyingWidth, varyings, standing}
 use Rattle.interface.specs.Parts.{varyingsEnd, Placed}
 use Rattle.interface.specs.declared.types.ShaderStage.{ShaderStage}
-use Rattle.interface.specs.declared.types.ShaderStage.the-variants as Stage
 use Rattle.interface.specs.declared.types.Limits.{Limits}
 use Rattle.interface.specs.declared.types.EntryParts.{EntryParts}
 use Rattle.interface.specs.declared.types.BuiltIn.{BuiltIn}
 use Rattle.interface.specs.declared.types.BuiltIn.the-variants as In
 use Rattle.interface.specs.declared.types.Varying.{Varying}
 use Rattle.interface.specs.declared.types.Varying.the-variants as Var
-use Rattle.stage_steps.specs.Meaning.{Request, both}
+use Rattle.stage_steps.specs.Meaning.{both}
+use Rattle.stage_steps.specs.declared.types.Request.{Request}
 use Rattle.stage_steps.specs.Given.{Summed}
-use Rattle.stage_steps.specs.Interfaces.{isLocal, clipPart, builtInPart, isDepth, isPrimitive, reachPart, localCount, clipPlaces, builtInPlaces, reachOf, anyOf, summaryOf, plus, locationUse, locationUses, countUse, pointPart, vertexOutputs, fragmentPlaces, attachmentUse, fragmentOutputs, placesStep}
+use Rattle.stage_steps.specs.Interfaces.{isLocal, clipPart, builtInPart, isDepth, isPrimitive, reachPart, localCount, clipPlaces, builtInPlaces, reachOf, anyOf, summaryOf, plus, locationUse, locationUses, countUse, pointPart, vertexOutputs, fragmentPlaces, attachmentUse, placesStep}
 use Rattle.stage_steps.specs.declared.types.Summary.{Summary}
 use Rattle.interface.proofs.ReadsWays.{width-there}
 use Rattle.stage_steps.proofs.VaryingLaws.{varyings-left, varyings-none, Ahead, ahead-onward}
@@ -411,19 +411,3 @@ module _ (ws : List ℕ) (p : EntryParts) (counts n : ℕ) (s : Summary) (hc : c
 pub places-at : (stage s : ShaderStage) (q : Request) (l : Limits) (e : EntryPoint) (locals : ℕ) (r : Answer) → stage ≡ s
     → r ≡ placesStep s q l e locals → r ≡ placesStep stage q l e locals
 places-at stage s q l e locals r d h = rw d h
-
--- of a request the topology and the two flags matter
-abbrev pub judged : Request → Request
-judged q = record { stage = q .stage; topology = q .topology; derived = false; dual = q .dual; depth = q .depth }
-
-same-places : (s : ShaderStage) (q : Request) (l : Limits) (e : EntryPoint) (locals : ℕ) → placesStep s (judged q) l e locals ≡ placesStep s q l e locals
-unfolding placesStep fragmentOutputs
-same-places Stage.Vertex q l e locals = refl
-same-places Stage.Fragment q l e locals = refl
-same-places Stage.Compute q l e locals = refl
-same-places Stage.Task q l e locals = refl
-same-places Stage.Mesh q l e locals = refl
-
-pub places-judged : (q : Request) (l : Limits) (e : EntryPoint) (locals : ℕ) (r : Answer) → r ≡ placesStep (q .stage) (judged q) l e locals
-    → r ≡ placesStep (q .stage) q l e locals
-places-judged q l e locals r h = h ∙ same-places (q .stage) q l e locals

@@ -32,7 +32,8 @@ use Rattle.interface.specs.declared.types.Varying.{Varying}
 use Rattle.interface.specs.declared.types.Varying.the-variants as Var
 use Rattle.interface.specs.declared.types.WorkgroupSize.{WorkgroupSize}
 use Rattle.interface.specs.declared.types.Limits.{Limits}
-use Rattle.stage_steps.specs.Meaning.{Request, both}
+use Rattle.stage_steps.specs.Meaning.{both}
+use Rattle.stage_steps.specs.declared.types.Request.{Request}
 use Rattle.stage_steps.specs.declared.types.InputWalk.{InputWalk}
 use Rattle.stage_steps.specs.declared.types.Walked.{Walked}
 use Rattle.stage_steps.specs.declared.types.Summary.{Summary}
@@ -224,7 +225,7 @@ unfoldable pub fragmentOutputs : Request → Limits → EntryPoint → ℕ → A
 fragmentOutputs q l e locals =
     both (fragmentPlaces (l .«max_inter_stage_shader_variables») locals (e .inputs))
     (both (locationUses 64 (l .«max_color_attachments») (l .«max_color_attachments») (e .outputs))
-    (attachmentUse (q .dual) (q .depth) (e .dual) (e .outputs)))
+    (attachmentUse (q .«dual_source») (q .depth) (e .dual) (e .outputs)))
 
 -- what a stage puts out, or a fragment stage takes in, against the places that there are
 unfoldable pub placesStep : ShaderStage → Request → Limits → EntryPoint → ℕ → Answer
@@ -282,14 +283,20 @@ drawUse Stage.Task draw input = accepted
 unfoldable pub perVertexUse : Bool → ℕ → Answer
 perVertexUse per-vertex topology = pick (yes per-vertex && not (eqb topology 3 || eqb topology 4)) (refused 78) accepted
 
--- '70, 71, 72, 73, 74, 75, 76, 77, 78'
+-- '74, 75, 76, 77, 78': the payload, and that of the stage before with whether it writes a primitive index
+abbrev pub matchUses : Request → Payload → Payload → PrimitiveIndex → InputWalk → Answer
+matchUses q payload input written w =
+    both (payloadMatch (q .stage) payload input)
+    (both (primitiveUse (q .stage) (w .«primitive_index») written)
+    (both (drawUse (q .stage) (w .«draw_index») input) (perVertexUse (w .«per_vertex») (q .topology))))
+
+-- '70, 71, 72, 73', and these behind them
+abbrev pub lastUses : Request → Limits → MeshRecord → Payload → Payload → PrimitiveIndex → InputWalk → Answer
+lastUses q l mesh payload input written w =
+    both (meshUse (q .topology) l mesh) (both (payloadUse (l .«max_task_payload_size») payload) (matchUses q payload input written w))
+
 unfoldable pub lastStep : Request → Limits → EntryPoint → StageIo → InputWalk → Answer
-lastStep q l e inputs w =
-    both (meshUse (q .topology) l (e .mesh))
-    (both (payloadUse (l .«max_task_payload_size») (e .payload))
-    (both (payloadMatch (q .stage) (e .payload) (inputs .payload))
-    (both (primitiveUse (q .stage) (w .«primitive_index») (inputs .primitive))
-    (both (drawUse (q .stage) (w .«draw_index») (inputs .payload)) (perVertexUse (w .«per_vertex») (q .topology))))))
+lastStep q l e inputs w = lastUses q l (e .mesh) (e .payload) (inputs .payload) (inputs .primitive) w
 
 -- ---- what the stage hands on
 

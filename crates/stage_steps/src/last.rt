@@ -1,9 +1,9 @@
 // Mesh record, payload, primitive index, draw index and per-vertex inputs: what is judged last.
 ghost use mathlib.Core.Path.{_≡_};
 ghost use Rattle.interface.specs.Format.{topologyCode};
-ghost use Rattle.stage_steps.specs.Interfaces.{valueUse, meshUse, payloadUse, payloadMatch, primitiveUse, drawUse, perVertexUse};
-ghost use Rattle.stage_steps.specs.Meaning.{both};
+ghost use Rattle.stage_steps.specs.Interfaces.{valueUse, meshUse, payloadUse, payloadMatch, primitiveUse, drawUse, perVertexUse, matchUses, lastUses};
 use crate::types::InputWalk;
+use crate::types::Request;
 use interface::types::EntryPointMeshInfo;
 use interface::types::Limits;
 use interface::types::MeshRecord;
@@ -176,17 +176,15 @@ pub fn per_vertex_use(per_vertex: bool, topology: u32) -> Answer
 
 // Payload, primitive index, draw index and per-vertex inputs against the stage before and the topology.
 fn match_step(
-    topology: u32,
-    stage: ShaderStage,
+    request: Request,
     payload: Payload,
     input: Payload,
     written: PrimitiveIndex,
     walk: InputWalk,
 ) -> Answer
-    ensures { λ r. ⌜ r ≡ both (payloadMatch stage payload input)
-        (both (primitiveUse stage (walk .«primitive_index») written)
-        (both (drawUse stage (walk .«draw_index») input) (perVertexUse (walk .«per_vertex») topology))) ⌝ }
+    ensures { λ r. ⌜ r ≡ matchUses request payload input written walk ⌝ }
 {
+    let stage = request.stage;
     let payloads = payload_match(stage, payload, input);
     if payloads.number != 0 {
         return payloads;
@@ -199,27 +197,22 @@ fn match_step(
     if draws.number != 0 {
         return draws;
     }
-    per_vertex_use(walk.per_vertex, topology)
+    per_vertex_use(walk.per_vertex, request.topology)
 }
 
 // What is judged last, in order. The payload and the primitive index of the stage before are `input` and `written`.
 pub fn last_step(
-    topology: u32,
+    request: Request,
     limits: Limits,
-    stage: ShaderStage,
     mesh: MeshRecord,
     payload: Payload,
     input: Payload,
     written: PrimitiveIndex,
     walk: InputWalk,
 ) -> Answer
-    ensures { λ r. ⌜ r ≡ both (meshUse topology limits mesh)
-        (both (payloadUse (limits .«max_task_payload_size») payload)
-        (both (payloadMatch stage payload input)
-        (both (primitiveUse stage (walk .«primitive_index») written)
-        (both (drawUse stage (walk .«draw_index») input) (perVertexUse (walk .«per_vertex») topology))))) ⌝ }
+    ensures { λ r. ⌜ r ≡ lastUses request limits mesh payload input written walk ⌝ }
 {
-    let meshes = mesh_use(topology, limits, mesh);
+    let meshes = mesh_use(request.topology, limits, mesh);
     if meshes.number != 0 {
         return meshes;
     }
@@ -227,5 +220,5 @@ pub fn last_step(
     if sizes.number != 0 {
         return sizes;
     }
-    match_step(topology, stage, payload, input, written, walk)
+    match_step(request, payload, input, written, walk)
 }

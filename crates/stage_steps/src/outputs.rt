@@ -8,10 +8,10 @@ ghost use Rattle.interface.specs.Format.{builtInOf};
 ghost use Rattle.interface.specs.Reads.{varying, varyings, standing};
 ghost use Rattle.interface.specs.declared.types.Varying.the-variants as Var;
 ghost use Rattle.interface.specs.Parts.{Placed, varyingsEnd};
-ghost use Rattle.stage_steps.specs.Meaning.{both};
 ghost use Rattle.stage_steps.specs.Given.{Summed};
-ghost use Rattle.stage_steps.specs.Interfaces.{summaryOf, plus, locationUse, locationUses, countUse, pointPart, vertexOutputs, fragmentPlaces, attachmentUse, placesStep};
+ghost use Rattle.stage_steps.specs.Interfaces.{summaryOf, plus, locationUse, locationUses, countUse, pointPart, vertexOutputs, fragmentPlaces, attachmentUse, fragmentOutputs, placesStep};
 use crate::inputs::either;
+use crate::types::Request;
 use crate::types::Summary;
 use interface::parts::inputs_counted;
 use interface::parts::outputs_counted;
@@ -260,18 +260,17 @@ pub(crate) fn attachment_use(
     pack: &[u32],
     parts: EntryParts,
     outputs: Summary,
-    dual: bool,
-    depth: bool,
+    request: Request,
 ) -> Answer
     requires { ⌜ Placed (now pack) parts × Summed (now pack) parts outputs ⌝ }
-    ensures { λ r. ⌜ r ≡ attachmentUse dual depth (standing (now (pack .entry)) parts .dual) (standing (now (pack .entry)) parts .outputs) ⌝ }
+    ensures { λ r. ⌜ r ≡ attachmentUse (request .«dual_source») (request .depth) (standing (now (pack .entry)) parts .dual) (standing (now (pack .entry)) parts .outputs) ⌝ }
 {
     let head = parts.head;
     let shader = pack[head] % 2 == 1;
-    if lacks(dual, shader) {
+    if lacks(request.dual_source, shader) {
         return Answer::refused(66);
     }
-    if lacks(outputs.depth, depth) {
+    if lacks(outputs.depth, request.depth) {
         return Answer::refused(67);
     }
     Answer::accepted()
@@ -283,14 +282,11 @@ pub(crate) fn fragment_outputs(
     parts: EntryParts,
     limits: Limits,
     outputs: Summary,
-    dual: bool,
-    depth: bool,
+    request: Request,
     locals: u32,
 ) -> Answer
     requires { ⌜ Placed (now pack) parts × Summed (now pack) parts outputs ⌝ }
-    ensures { λ r. ⌜ r ≡ both (fragmentPlaces (limits .«max_inter_stage_shader_variables») locals (standing (now (pack .entry)) parts .inputs))
-        (both (locationUses 64 (limits .«max_color_attachments») (limits .«max_color_attachments») (standing (now (pack .entry)) parts .outputs))
-        (attachmentUse dual depth (standing (now (pack .entry)) parts .dual) (standing (now (pack .entry)) parts .outputs))) ⌝ }
+    ensures { λ r. ⌜ r ≡ fragmentOutputs request limits (standing (now (pack .entry)) parts) locals ⌝ }
 {
     let at = parts.counts;
     let counts = pack[at];
@@ -305,7 +301,7 @@ pub(crate) fn fragment_outputs(
         let n = outputs_counted(counts);
         return location_uses(pack, parts.outputs, n, 64, most, most);
     }
-    attachment_use(pack, parts, outputs, dual, depth)
+    attachment_use(pack, parts, outputs, request)
 }
 
 // What a stage puts out, or a fragment stage takes in, against the places that there are.
@@ -314,33 +310,21 @@ pub fn places_step(
     parts: EntryParts,
     limits: Limits,
     outputs: Summary,
-    stage: ShaderStage,
-    topology: u32,
-    dual: bool,
-    depth: bool,
+    request: Request,
     locals: u32,
 ) -> Answer
     requires { ⌜ Placed (now pack) parts × Summed (now pack) parts outputs ⌝ }
-    ensures { λ r. ⌜ r ≡ placesStep stage
-        (record { stage = stage; topology = topology; derived = false; dual = dual; depth = depth })
-        limits (standing (now (pack .entry)) parts) locals ⌝ }
+    ensures { λ r. ⌜ r ≡ placesStep (request .stage) request limits (standing (now (pack .entry)) parts) locals ⌝ }
 {
+    let stage = request.stage;
     match stage {
         ShaderStage::Vertex => {
             let counts = parts.counts;
             let n = outputs_counted(pack[counts]);
             let limit = limits.max_inter_stage_shader_variables;
-            vertex_outputs(pack, parts.outputs, n, outputs, topology, limit)
+            vertex_outputs(pack, parts.outputs, n, outputs, request.topology, limit)
         }
-        ShaderStage::Fragment => fragment_outputs(
-            pack,
-            parts,
-            limits,
-            outputs,
-            dual,
-            depth,
-            locals,
-        ),
+        ShaderStage::Fragment => { fragment_outputs(pack, parts, limits, outputs, request, locals) }
         ShaderStage::Compute => Answer::accepted(),
         ShaderStage::Task => Answer::accepted(),
         ShaderStage::Mesh => Answer::accepted(),

@@ -1,6 +1,16 @@
-// What the walk over an entry point's inputs has met.
+// What a stage check is asked for, and what its steps come to.
+use interface::types::ShaderStage;
 use word::answer::Answer;
 
+// The codes of a call, but for the mode, once they are known to be good. A topology of 5 is none.
+pub struct Request {
+    pub stage: ShaderStage,
+    pub topology: u32,
+    pub dual_source: bool,
+    pub depth: bool,
+}
+
+// What the walk over an entry point's inputs has met.
 pub struct InputWalk {
     pub primitive_index: bool,
     pub draw_index: bool,

@@ -1,4 +1,4 @@
-use Rattle.stage.proofs.CheckLaws.{stage-pack}
+use Rattle.stage.proofs.RunLaws.{stage-pack}
 use borrow.Author.Needs.{needs}
 use Rattle.stage.proofs.check.check_stage.Statement.{statement}
 use Rattle.stage.proofs.check.check_stage.Tie as tie

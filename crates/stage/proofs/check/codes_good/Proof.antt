@@ -1,4 +1,4 @@
-use Rattle.stage.proofs.CheckLaws.{stage-past, topology-past, mode-past, dual-past, codes-last}
+use Rattle.word.proofs.Tests.{tests}
 use Rattle.stage.proofs.check.codes_good.Statement.{statement}
 use Rattle.stage.proofs.check.codes_good.Tie as tie
 
@@ -6,8 +6,8 @@ pub codes-good-spec : {M : Type 1} → statement M
 codes-good-spec =
     tie.close
     (tie.spec
-    (λ c. search stage-past)  -- returns
-    (λ c. search topology-past)  -- returns-2
-    (λ c. search mode-past)  -- returns-3
-    (λ c. search dual-past)  -- returns-4
-    (λ c. search codes-last))  -- returns-5
+    (λ c. search tests)  -- returns
+    (λ c. search tests)  -- returns-2
+    (λ c. search tests)  -- returns-3
+    (λ c. search tests)  -- returns-4
+    (λ c. search tests))  -- returns-5

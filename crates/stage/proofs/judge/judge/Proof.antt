@@ -1,4 +1,4 @@
-use Rattle.stage.proofs.JudgeLaws.{judged-pair, judged-size, judged-rest}
+use Rattle.stage.proofs.JudgeLaws.{judged-size, judged-rest}
 use borrow.Author.Needs.{needs}
 use Rattle.stage.proofs.judge.judge.Statement.{statement}
 use Rattle.stage.proofs.judge.judge.Tie as tie
@@ -7,11 +7,8 @@ pub judge-spec : {M : Type 1} → statement M
 judge-spec =
     tie.close
     (tie.spec
-    (λ c κs. search needs)  -- pair-step-requires
-    (λ c κs. search needs)  -- stopped-requires
-    (λ c. search judged-pair)  -- returns
     (λ c κs. search needs)  -- size-step-requires
-    (λ c κs. search needs)  -- stopped-requires-2
-    (λ c. search judged-size)  -- returns-2
+    (λ c κs. search needs)  -- stopped-requires
+    (λ c. search judged-size)  -- returns
     (λ c κs. search needs)  -- judge-inputs-requires
-    (λ c. search judged-rest))  -- returns-3
+    (λ c. search judged-rest))  -- returns-2

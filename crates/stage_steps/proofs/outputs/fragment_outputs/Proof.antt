@@ -1,3 +1,4 @@
+use Rattle.stage_steps.specs.Interfaces.{fragmentOutputs}
 use Rattle.stage_steps.proofs.Both.{both-ended, both-went}
 use Rattle.stage_steps.proofs.OutputLaws.{inputs-end, outputs-end, inputs-stand, colours-past, colours-within}
 use borrow.Author.Needs.{needs}
@@ -5,6 +6,7 @@ use Rattle.stage_steps.proofs.outputs.fragment_outputs.Statement.{state
 use Rattle.stage_steps.proofs.outputs.fragment_outputs.Tie as tie
 
 pub fragment-outputs-spec : {M : Type 1} → statement M
+unfolding fragmentOutputs
 fragment-outputs-spec =
     tie.close
     (tie.spec

@@ -1,11 +1,11 @@
-use Rattle.stage_steps.specs.Interfaces.{placesStep, fragmentOutputs}
+use Rattle.stage_steps.specs.Interfaces.{placesStep}
 use Rattle.stage_steps.proofs.OutputLaws.{outputs-end, places-at, vertex-stands, summed-read}
 use borrow.Author.Needs.{needs}
 use Rattle.stage_steps.proofs.outputs.places_step.Statement.{statement}
 use Rattle.stage_steps.proofs.outputs.places_step.Tie as tie
 
 pub places-step-spec : {M : Type 1} → statement M
-unfolding placesStep fragmentOutputs
+unfolding placesStep
 places-step-spec =
     tie.close
     (tie.spec
