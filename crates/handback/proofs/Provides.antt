@@ -18,9 +18,12 @@ use Rattle.resource.specs.declared.types.ResourceType.{ResourceType}
 use Rattle.resource.specs.declared.types.ResourceType.the-variants as Res
 use Rattle.resource.proofs.HandBack.{derived-accepted}
 use Rattle.word.proofs.Truth.{by-test}
-use Rattle.lists.specs.Meaning.{Layout, Sizes, findEntry, distinctEntries, sizePlaces, sizeHas, raiseAt, samePlace, sizeRecord, fits, recorded}
-use Rattle.lists.specs.declared.types.SizeRecord.{SizeRecord}
-use Rattle.lists.specs.declared.types.Found.the-variants.{At}
+use Rattle.lists.specs.Layouts.{Layout, findEntry, distinctEntries}
+use Rattle.lists.specs.Sizes.{Sizes, sizePlaces, sizeHas, raiseAt, sizeRecord, recorded}
+use Rattle.lists.specs.Places.{samePlace}
+use Rattle.lists.specs.Records.{fits}
+use Rattle.lists.specs.declared.size_record.SizeRecord.{SizeRecord}
+use Rattle.lists.specs.declared.found.Found.the-variants.{At}
 use Rattle.interface.specs.Format.{member}
 use Rattle.interface.specs.declared.types.ShaderStage.{ShaderStage}
 use Rattle.interface.specs.declared.types.SamplingPair.{SamplingPair}

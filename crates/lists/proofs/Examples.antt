@@ -11,9 +11,13 @@ use Rattle.numeric.specs.Format.{typeFiled, typeOf, typeWord}
 use Rattle.resource.specs.Format.{bindingTypeFiled, bindingTypeOf, entryFiled, entryOf, entryWords, bindingCode, leastSize}
 use Rattle.resource.specs.declared.types.BindGroupLayoutEntry.{BindGroupLayoutEntry}
 use Rattle.varying.specs.Format.{varFiled, varOf, varWord, payloadFiled, payloadOf, payloadWord}
-use Rattle.lists.specs.Meaning.{placeIn, distinctPlaces, rising}
-use Rattle.lists.specs.Format.{groupsOf, countOf, past, records, each, flat, layoutHead, layoutFiled, decodeLayout, encodeLayout, sizesHead, sizesFiled, decodeSizes, encodeSizes}
-use Rattle.lists.specs.Format.{stageHead, outFiled, stageFiled, decodeStage, encodeStage}
+use Rattle.lists.specs.Places.{placeIn, distinctPlaces}
+use Rattle.lists.specs.StageLists.{rising}
+use Rattle.lists.specs.LayoutFormat.{groupsOf, layoutHead, layoutFiled, decodeLayout, encodeLayout}
+use Rattle.lists.specs.Records.{countOf, past, each, flat}
+use Rattle.lists.specs.Records.{records}
+use Rattle.lists.specs.SizeFormat.{sizesHead, sizesFiled, decodeSizes, encodeSizes}
+use Rattle.lists.specs.StageListFormat.{stageHead, outFiled, stageFiled, decodeStage, encodeStage}
 
 sameWords : List ℕ → List ℕ → Bool
 sameWords [] [] = true

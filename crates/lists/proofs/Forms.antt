@@ -16,8 +16,11 @@ use Rattle.resource.proofs.EntryFormat.{place-filed, place-read, place-back, en
 use Rattle.varying.specs.Format.{varFiled, varOf, varWord, varHeld, locationFiled, locatedWords, locatedHeld}
 use Rattle.word.proofs.Truth.{first, second, both}
 use Rattle.varying.proofs.Joined.{var-written, var-held, var-filed, var-read, location-written, location-filed, location-read}
-use Rattle.lists.specs.Format.{readPlace, readEntry, entryGood, entryFits, readSize, sizeGood, sizeWords, sizeHeld, readLocated, locatedGood}
-use Rattle.lists.specs.declared.types.SizeRecord.{SizeRecord}
+use Rattle.lists.specs.Places.{readPlace}
+use Rattle.lists.specs.LayoutFormat.{readEntry, entryGood, entryFits}
+use Rattle.lists.specs.SizeFormat.{readSize, sizeGood, sizeWords, sizeHeld}
+use Rattle.lists.specs.StageListFormat.{readLocated, locatedGood}
+use Rattle.lists.specs.declared.size_record.SizeRecord.{SizeRecord}
 use Rattle.lists.proofs.Records.{Joined}
 
 -- as many words as there are

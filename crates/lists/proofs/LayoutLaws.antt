@@ -13,10 +13,10 @@ use Rattle.resource.specs.Format.{placeHeld, formatHeld}
 use Rattle.resource.specs.declared.types.ResourceBinding.{ResourceBinding}
 use Rattle.resource.specs.declared.types.BindGroupLayoutEntry.{BindGroupLayoutEntry}
 use Rattle.word.proofs.Truth.{first, second, never, allBelow, below-all}
-use Rattle.lists.specs.Meaning.{Layout, samePlace, entryPlaces, entryHas, findEntry}
-use Rattle.lists.specs.Meaning.{entryNth, emptyEntry, pushed, seesBit, joinBit, seenBy, joinAt, joined}
-use Rattle.lists.specs.Format.{entryFits, layoutGood}
-use Rattle.lists.specs.declared.types.Found.the-variants.{At}
+use Rattle.lists.specs.Layouts.{Layout, entryPlaces, entryHas, findEntry, entryNth, emptyEntry, pushed, seesBit, joinBit, seenBy, joinAt, joined}
+use Rattle.lists.specs.Places.{samePlace}
+use Rattle.lists.specs.LayoutFormat.{entryFits, layoutGood}
+use Rattle.lists.specs.declared.found.Found.the-variants.{At}
 use Rattle.lists.proofs.Records.{every-more, every-set, every-nth}
 use Rattle.lists.proofs.PlaceLaws.{distinct-more, found-last, found-kept}
 use Rattle.lists.proofs.LayoutLists.{Good, good, is-good}

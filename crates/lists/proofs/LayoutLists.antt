@@ -9,9 +9,9 @@ use borrow.Author.Tests.{eqb-true, leb-true, le-leb}
 use Rattle.word.specs.Words.{wordAt, kindOf, bits, ofKind}
 use Rattle.resource.specs.Format.{entryWords}
 use Rattle.word.proofs.Truth.{first, second}
-use Rattle.lists.specs.Meaning.{Layout, every, distinctEntries}
-use Rattle.lists.specs.Format.{past, each, flat, groupsOf, countOf, readEntry, entryGood, entryFits, readEntries}
-use Rattle.lists.specs.Format.{layoutHead, layoutFiled, decodeLayout, encodeLayout, layoutGood}
+use Rattle.lists.specs.Layouts.{Layout, distinctEntries}
+use Rattle.lists.specs.Records.{every, past, each, flat, countOf}
+use Rattle.lists.specs.LayoutFormat.{groupsOf, readEntry, entryGood, entryFits, readEntries, layoutHead, layoutFiled, decodeLayout, encodeLayout, layoutGood}
 use Rattle.lists.proofs.Records.{read-length, room-length, flat-length, flat-read, every-read, read-flat, past-flat, each-flat}
 use Rattle.lists.proofs.Forms.{entry-form}
 

@@ -13,9 +13,9 @@ use Rattle.resource.specs.Format.{placeWord, bindingCode, leastSize, entryFiled
 use Rattle.resource.specs.declared.types.BindGroupLayoutEntry.{BindGroupLayoutEntry}
 use Rattle.resource.proofs.EntryFormat.{entry-filed, entry-read as entry-again, entry-back}
 use Rattle.word.proofs.Truth.{first, second}
-use Rattle.lists.specs.Meaning.{Layout, entryHas, entryNth, emptyEntry, fits, pushed, joinBit, seenBy, joinAt, joined}
-use Rattle.lists.specs.Format.{put, past, each, flat, countOf, groupsOf, readEntry, readEntries, entryGood, entryFits}
-use Rattle.lists.specs.Format.{layoutFiled, decodeLayout, encodeLayout, layoutGood}
+use Rattle.lists.specs.Layouts.{Layout, entryHas, entryNth, emptyEntry, pushed, joinBit, seenBy, joinAt, joined}
+use Rattle.lists.specs.Records.{fits, put, past, each, flat, countOf}
+use Rattle.lists.specs.LayoutFormat.{groupsOf, readEntry, readEntries, entryGood, entryFits, layoutFiled, decodeLayout, encodeLayout, layoutGood}
 use Rattle.lists.proofs.Words.{put-next, here, there}
 use Rattle.lists.proofs.Records.{read-length, room-length, each-nth, flat-read, put-last, set-flat}
 use Rattle.lists.proofs.Forms.{entry-form}

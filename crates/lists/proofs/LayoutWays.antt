@@ -13,10 +13,13 @@ use Rattle.resource.specs.Format.{placeOf, entryFiledAt, entryAt, entryOf}
 use Rattle.resource.specs.declared.types.ResourceBinding.{ResourceBinding}
 use Rattle.resource.specs.declared.types.BindGroupLayoutEntry.{BindGroupLayoutEntry}
 use Rattle.word.proofs.Truth.{second}
-use Rattle.lists.specs.Meaning.{placeFrom, distinctPlaces, distinctEntries, entryPlaces, findEntry, foundBelow, entryNth, emptyEntry}
-use Rattle.lists.specs.Format.{records, each, countOf, groupsOf, readPlace, places, readEntry, entryGood, readEntries, layoutHead, layoutFiled, decodeLayout}
-use Rattle.lists.specs.declared.types.Found.{Found}
-use Rattle.lists.specs.declared.types.Found.the-variants.{At}
+use Rattle.lists.specs.Places.{placeFrom, distinctPlaces, foundBelow, readPlace, places}
+use Rattle.lists.specs.Layouts.{distinctEntries, entryPlaces, findEntry, entryNth, emptyEntry}
+use Rattle.lists.specs.Records.{records}
+use Rattle.lists.specs.Records.{each, countOf}
+use Rattle.lists.specs.LayoutFormat.{groupsOf, readEntry, entryGood, readEntries, layoutHead, layoutFiled, decodeLayout}
+use Rattle.lists.specs.declared.found.Found.{Found}
+use Rattle.lists.specs.declared.found.Found.the-variants.{At}
 use Rattle.lists.proofs.Records.{read-length, read-mapped, nth-record}
 use Rattle.lists.proofs.PlaceLaws.{found-nth}
 use Rattle.lists.proofs.PlaceWays.{content-place}

@@ -14,10 +14,11 @@ use Rattle.varying.specs.declared.Located.{Located}
 use Rattle.varying.specs.declared.Payload.{Payload}
 use Rattle.word.proofs.Truth.{first, second}
 use Rattle.varying.proofs.Joined.{payload-written, location-written, var-written, var-filed, var-read}
-use Rattle.lists.specs.Meaning.{StageIo, every, rising, insert, inserted, varyingAt, isProvided}
-use Rattle.lists.specs.Format.{put, past, records, each, flat, countOf, primitiveCode, readLocated, locatedGood, readVaryings}
-use Rattle.lists.specs.Format.{outFiled, decodeStage, encodeStage, outGood}
-use Rattle.lists.specs.declared.types.PrimitiveIndex.{PrimitiveIndex}
+use Rattle.lists.specs.StageLists.{StageIo, rising, insert, inserted, varyingAt, isProvided}
+use Rattle.lists.specs.Records.{every, put, past, each, flat, countOf}
+use Rattle.lists.specs.Records.{records}
+use Rattle.lists.specs.StageListFormat.{primitiveCode, readLocated, locatedGood, readVaryings, outFiled, decodeStage, encodeStage, outGood}
+use Rattle.lists.specs.declared.stage_types.PrimitiveIndex.{PrimitiveIndex}
 use Rattle.lists.proofs.Words.{here, there, put-put}
 use Rattle.lists.proofs.Records.{read-length, room-length, left-cons, left-none, each-cons, each-nth, first-passes, rest-passes, past-drop, flat-append, flat-length, take-read}
 use Rattle.lists.proofs.Forms.{two, located-form}

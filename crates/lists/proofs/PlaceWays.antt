@@ -13,10 +13,9 @@ use Rattle.word.proofs.Truth.{by-test}
 use Rattle.resource.specs.Format.{placeOf, placeWord, placeHeld}
 use Rattle.resource.specs.declared.types.ResourceBinding.{ResourceBinding}
 use Rattle.resource.proofs.EntryFormat.{place-read}
-use Rattle.lists.specs.Meaning.{samePlace, placeFrom, placeIn}
-use Rattle.lists.specs.Format.{readPlace, places}
-use Rattle.lists.specs.declared.types.Found.{Found}
-use Rattle.lists.specs.declared.types.Found.the-variants.{At, Nothing}
+use Rattle.lists.specs.Places.{samePlace, placeFrom, placeIn, readPlace, places}
+use Rattle.lists.specs.declared.found.Found.{Found}
+use Rattle.lists.specs.declared.found.Found.the-variants.{At, Nothing}
 use Rattle.lists.proofs.Records.{one-less, left-cons, left-none}
 use Rattle.lists.proofs.Words.{here}
 use Rattle.lists.proofs.PlaceLaws.{same-place-eq}

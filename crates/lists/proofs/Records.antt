@@ -9,8 +9,8 @@ use mathlib.Core.List.{List, [], _∷_, _++_, append-assoc, append-nil, map}
 use lib.ListN.{length, take, drop, getD, set, length-drop, length-append}
 use lib.Seq.{drop-drop, take-at, drop-at, set-append-left}
 use Rattle.word.specs.Choice.{pick}
-use Rattle.lists.specs.Meaning.{every}
-use Rattle.lists.specs.Format.{past, records, each, flat, put}
+use Rattle.lists.specs.Records.{every, past, each, flat, put}
+use Rattle.lists.specs.Records.{records}
 use Rattle.lists.proofs.Words.{set-behind}
 
 -- ---- a test, and then the rest

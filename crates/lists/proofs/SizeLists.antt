@@ -8,9 +8,10 @@ use lib.ListN.{length, drop, length-append}
 use borrow.Author.Tests.{eqb-true, leb-true, le-leb}
 use Rattle.word.specs.Words.{wordAt, kindOf, bits, ofKind}
 use Rattle.word.proofs.Truth.{first, second}
-use Rattle.lists.specs.Meaning.{Sizes, every, distinctSizes}
-use Rattle.lists.specs.Format.{past, records, each, flat, countOf, readSize, sizeGood, sizeWords, sizeHeld, readSizes}
-use Rattle.lists.specs.Format.{sizesHead, sizesFiled, decodeSizes, encodeSizes, sizesGood}
+use Rattle.lists.specs.Sizes.{Sizes, distinctSizes}
+use Rattle.lists.specs.Records.{every, past, each, flat, countOf}
+use Rattle.lists.specs.Records.{records}
+use Rattle.lists.specs.SizeFormat.{readSize, sizeGood, sizeWords, sizeHeld, readSizes, sizesHead, sizesFiled, decodeSizes, encodeSizes, sizesGood}
 use Rattle.lists.proofs.Records.{read-length, room-length, flat-length, flat-read, every-read, read-flat, past-flat, each-flat}
 use Rattle.lists.proofs.Forms.{size-form}
 

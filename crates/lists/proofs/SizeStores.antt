@@ -14,12 +14,14 @@ use Rattle.resource.specs.declared.types.ResourceBinding.{ResourceBinding}
 use Rattle.resource.proofs.ReadLaws.{place-held}
 use Rattle.resource.proofs.EntryFormat.{place-filed, place-read, place-back}
 use Rattle.word.proofs.Truth.{first, second}
-use Rattle.lists.specs.Meaning.{Sizes, placeFrom, distinctPlaces, sizePlaces, sizeHas, sizeRecord, sizeFits, recorded}
-use Rattle.lists.specs.Format.{put, past, records, each, flat, countOf, places, readPlace, readSize, readSizes, sizeGood, sizeWords}
-use Rattle.lists.specs.Format.{sizesFiled, decodeSizes, encodeSizes, sizesGood}
-use Rattle.lists.specs.declared.types.SizeRecord.{SizeRecord}
-use Rattle.lists.specs.declared.types.Found.{Found}
-use Rattle.lists.specs.declared.types.Found.the-variants.{At, Nothing}
+use Rattle.lists.specs.Sizes.{Sizes, sizePlaces, sizeHas, sizeRecord, sizeFits, recorded}
+use Rattle.lists.specs.Places.{placeFrom, distinctPlaces, places, readPlace}
+use Rattle.lists.specs.Records.{put, past, each, flat, countOf}
+use Rattle.lists.specs.Records.{records}
+use Rattle.lists.specs.SizeFormat.{readSize, readSizes, sizeGood, sizeWords, sizesFiled, decodeSizes, encodeSizes, sizesGood}
+use Rattle.lists.specs.declared.size_record.SizeRecord.{SizeRecord}
+use Rattle.lists.specs.declared.found.Found.{Found}
+use Rattle.lists.specs.declared.found.Found.the-variants.{At, Nothing}
 use Rattle.lists.proofs.Words.{put-next, here, there}
 use Rattle.lists.proofs.Records.{read-length, room-length, nth-record, each-nth, flat-read, put-last, set-flat}
 use Rattle.lists.proofs.Forms.{size-written, size-form}

@@ -11,11 +11,12 @@ use Rattle.word.specs.Words.{wordAt, kindOf, bits, ofKind}
 use Rattle.varying.specs.Format.{locatedWords, locatedHeld, payloadFiled, payloadWord, payloadHeld}
 use Rattle.word.proofs.Truth.{first, second, both, below-all}
 use Rattle.varying.proofs.Joined.{payload-written, payload-held, payload-filed, payload-read}
-use Rattle.lists.specs.Meaning.{StageIo, every, rising}
-use Rattle.lists.specs.Format.{past, each, flat, countOf, primitiveAt, primitiveCode, readLocated, locatedGood, readVaryings}
-use Rattle.lists.specs.Format.{stageHead, outFiled, stageFiled, decodeStage, encodeStage, outGood, stageGood}
-use Rattle.lists.specs.declared.types.PrimitiveIndex.{PrimitiveIndex}
-use Rattle.lists.specs.declared.types.PrimitiveIndex.the-variants as Index
+use Rattle.lists.specs.StageLists.{StageIo, rising}
+use Rattle.lists.specs.Records.{every, past, each, flat, countOf}
+use Rattle.lists.specs.StageListFormat.{primitiveAt, primitiveCode, readLocated, locatedGood, readVaryings}
+use Rattle.lists.specs.StageListFormat.{stageHead, outFiled, stageFiled, decodeStage, encodeStage, outGood, stageGood}
+use Rattle.lists.specs.declared.stage_types.PrimitiveIndex.{PrimitiveIndex}
+use Rattle.lists.specs.declared.stage_types.PrimitiveIndex.the-variants as Index
 use Rattle.lists.proofs.Records.{read-length, flat-length, flat-read, every-read, read-flat, past-flat, each-flat}
 use Rattle.lists.proofs.Forms.{located-form}
 

@@ -14,13 +14,16 @@ use Rattle.varying.specs.Format.{locationFiled, varFiled, varOf, payloadFiled, 
 use Rattle.varying.specs.declared.InterfaceVar.{InterfaceVar}
 use Rattle.varying.specs.declared.Payload.{Payload}
 use Rattle.word.proofs.Truth.{first, second}
-use Rattle.lists.specs.Meaning.{foundBelow, rising, varyingAt}
-use Rattle.lists.specs.Format.{records, countOf, primitiveAt, readLocated, locatedGood, readVaryings, variableFound, stageHead, outFiled, decodeStage}
-use Rattle.lists.specs.declared.types.Found.{Found}
-use Rattle.lists.specs.declared.types.Found.the-variants.{At, Nothing}
-use Rattle.lists.specs.declared.types.PrimitiveIndex.{PrimitiveIndex}
-use Rattle.lists.specs.declared.types.Provided.{Provided}
-use Rattle.lists.specs.declared.types.Provided.the-variants as Pro
+use Rattle.lists.specs.Places.{foundBelow}
+use Rattle.lists.specs.StageLists.{rising, varyingAt}
+use Rattle.lists.specs.Records.{records}
+use Rattle.lists.specs.Records.{countOf}
+use Rattle.lists.specs.StageListFormat.{primitiveAt, readLocated, locatedGood, readVaryings, variableFound, stageHead, outFiled, decodeStage}
+use Rattle.lists.specs.declared.found.Found.{Found}
+use Rattle.lists.specs.declared.found.Found.the-variants.{At, Nothing}
+use Rattle.lists.specs.declared.stage_types.PrimitiveIndex.{PrimitiveIndex}
+use Rattle.lists.specs.declared.stage_types.Provided.{Provided}
+use Rattle.lists.specs.declared.stage_types.Provided.the-variants as Pro
 use Rattle.lists.proofs.Records.{read-length, nth-record, left-cons, left-none}
 use Rattle.lists.proofs.Words.{here, there}
 use Rattle.lists.proofs.StageLists.{filed}

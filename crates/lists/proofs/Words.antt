@@ -8,7 +8,7 @@ use mathlib.Core.List.{List, [], _∷_, _++_, append-assoc}
 use lib.ListN.{length, take, drop, set, length-append}
 use lib.Seq.{getD-drop, set-getD, sets-eq, take-at, drop-at, drop-drop, length-take-le}
 use Rattle.word.specs.Words.{wordAt}
-use Rattle.lists.specs.Format.{put}
+use Rattle.lists.specs.Records.{put}
 
 -- the words of the record at a position
 pub here : (l : List ℕ) (at : ℕ) → wordAt (drop at l) 0 ≡ wordAt l at

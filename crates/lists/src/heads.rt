@@ -2,7 +2,8 @@
 ghost use mathlib.Core.Path.{_≡_};
 ghost use Prim.Native.Nat.{_<_, _≤_};
 ghost use lib.ListN.{length};
-ghost use Rattle.lists.specs.Format.{countOf, groupsOf};
+ghost use Rattle.lists.specs.Records.{countOf};
+ghost use Rattle.lists.specs.LayoutFormat.{groupsOf};
 
 // How many records a list counts.
 pub fn count(l: &[u32]) -> usize

@@ -4,8 +4,8 @@ ghost use mathlib.Core.Bool.{true};
 ghost use Prim.Native.Nat.{_*_, _^_};
 ghost use Rattle.word.specs.Words.{ofKind};
 ghost use Rattle.varying.specs.Format.{varOf, varWord, payloadHeld, payloadWord};
-ghost use Rattle.lists.specs.Format.{primitiveCode};
-use crate::types::PrimitiveIndex;
+ghost use Rattle.lists.specs.StageListFormat.{primitiveCode};
+use crate::stage_types::PrimitiveIndex;
 use varying::Payload;
 
 // The first word of a list that counts no variable yet.

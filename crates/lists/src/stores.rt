@@ -4,7 +4,7 @@ ghost use mathlib.Core.List.{[], _∷_};
 ghost use Prim.Native.Nat.{_+_, _<_, _≤_, max};
 ghost use lib.ListN.{length, set};
 ghost use Rattle.word.specs.Words.{wordAt};
-ghost use Rattle.lists.specs.Format.{put};
+ghost use Rattle.lists.specs.Records.{put};
 
 // Two words stored at a position.
 pub(crate) fn store_two(l: &mut [u32], at: usize, first: u32, second: u32)

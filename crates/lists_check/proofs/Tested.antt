@@ -17,10 +17,13 @@ use Rattle.varying.specs.Format.{varFiled, varOf, locatedHeld, payloadOf, paylo
 use Rattle.varying.specs.declared.Payload.{Payload}
 use Rattle.word.proofs.Truth.{first, second, both}
 use Rattle.varying.proofs.Joined.{var-held, payload-held}
-use Rattle.lists.specs.Meaning.{Layout, entryPlaces, entryHas, findEntry, foundBelow}
-use Rattle.lists.specs.Format.{countOf, entryFits, readLocated, outFiled, decodeStage}
-use Rattle.lists.specs.declared.types.Found.{Found}
-use Rattle.lists.specs.declared.types.Found.the-variants.{At, Nothing}
+use Rattle.lists.specs.Layouts.{Layout, entryPlaces, entryHas, findEntry}
+use Rattle.lists.specs.Places.{foundBelow}
+use Rattle.lists.specs.Records.{countOf}
+use Rattle.lists.specs.LayoutFormat.{entryFits}
+use Rattle.lists.specs.StageListFormat.{readLocated, outFiled, decodeStage}
+use Rattle.lists.specs.declared.found.Found.{Found}
+use Rattle.lists.specs.declared.found.Found.the-variants.{At, Nothing}
 use Rattle.lists.proofs.PlaceWays.{place-lacks}
 use Rattle.lists.proofs.Records.{read-length, room-length}
 use Rattle.lists_check.specs.Room.{hasRoom}

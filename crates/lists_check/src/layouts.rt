@@ -2,8 +2,9 @@
 ghost use mathlib.Core.Path.{_≡_};
 ghost use mathlib.Core.Bool.{true};
 ghost use Rattle.resource.specs.Format.{entryHeld};
-ghost use Rattle.lists.specs.Format.{layoutFiled};
+ghost use Rattle.lists.specs.LayoutFormat.{layoutFiled};
 use crate::print;
+use lists::found::Found;
 use lists::heads::count;
 use lists::layout::entry;
 use lists::layout::find_entry;
@@ -11,7 +12,6 @@ use lists::layout::group_count;
 use lists::layout::join_visibility;
 use lists::layout::layout_filed;
 use lists::layout::push_entry;
-use lists::types::Found;
 use lists::visibility::sees;
 use resource::binding_codes::binding_code;
 use resource::binding_codes::least_size;

@@ -11,8 +11,13 @@ use Rattle.word.specs.Words.{wordAt, bits}
 use Rattle.word.specs.Answers.{refused}
 use Rattle.word.specs.declared.answer.Answer.{Answer}
 use Rattle.word.proofs.Truth.{first, second}
-use Rattle.lists.specs.Meaning.{Layout, Sizes, StageIo, every}
-use Rattle.lists.specs.Format.{layoutFiled, sizesFiled, outFiled, stageFiled, decodeLayout, decodeSizes, decodeStage, encodeStage}
+use Rattle.lists.specs.Layouts.{Layout}
+use Rattle.lists.specs.Sizes.{Sizes}
+use Rattle.lists.specs.StageLists.{StageIo}
+use Rattle.lists.specs.Records.{every}
+use Rattle.lists.specs.LayoutFormat.{layoutFiled, decodeLayout}
+use Rattle.lists.specs.SizeFormat.{sizesFiled, decodeSizes}
+use Rattle.lists.specs.StageListFormat.{outFiled, stageFiled, decodeStage, encodeStage}
 use Rattle.lists.proofs.LayoutLists as layouts
 use Rattle.lists.proofs.SizeLists as sizes
 use Rattle.interface.specs.Meaning.{EntryPoint, Interface}

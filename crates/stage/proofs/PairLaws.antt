@@ -19,10 +19,12 @@ use Rattle.resource.specs.declared.types.BindGroupLayoutEntry.{BindGroupLayoutE
 use Rattle.word.proofs.Truth.{first, second, by-test}
 use Rattle.lists.proofs.Records.{first-passes, rest-passes}
 use Rattle.lists.proofs.LayoutStores.{entry-there}
-use Rattle.lists.specs.Meaning.{every, Layout, findEntry, foundBelow, entryNth}
-use Rattle.lists.specs.Format.{decodeLayout}
-use Rattle.lists.specs.declared.types.Found.{Found}
-use Rattle.lists.specs.declared.types.Found.the-variants.{At, Nothing}
+use Rattle.lists.specs.Records.{every}
+use Rattle.lists.specs.Layouts.{Layout, findEntry, entryNth}
+use Rattle.lists.specs.Places.{foundBelow}
+use Rattle.lists.specs.LayoutFormat.{decodeLayout}
+use Rattle.lists.specs.declared.found.Found.{Found}
+use Rattle.lists.specs.declared.found.Found.the-variants.{At, Nothing}
 use Rattle.interface.specs.Format.{pairOf, pairsOf}
 use Rattle.interface.specs.declared.types.SamplingPair.{SamplingPair}
 use Rattle.stage.specs.Given.{resourceTable, pairBelow, pairsBelow, wordMeans}

@@ -14,7 +14,9 @@ use Rattle.word.proofs.Tests.{yes-true, yes-false}
 use Rattle.word.proofs.Truth.{second, by-test}
 use Rattle.resource.specs.Rules.{derivedTexture, deriveBindingType}
 use Rattle.resource.specs.Format.{placeOf, placeHeld, typeCode, resourceTypeOf, resource, typeHeld}
-use Rattle.lists.specs.Meaning.{every, Layout, Sizes}
+use Rattle.lists.specs.Records.{every}
+use Rattle.lists.specs.Layouts.{Layout}
+use Rattle.lists.specs.Sizes.{Sizes}
 use Rattle.lists.proofs.Records.{first-passes, rest-passes}
 use Rattle.interface.specs.Format.{contents, pairsOf}
 use Rattle.interface.specs.declared.types.ShaderStage.{ShaderStage}

@@ -8,7 +8,9 @@ use native.Mathlib.Omega.{arith}
 use borrow.Author.Tests.{eq-eqb, ne-eqb}
 use Rattle.word.specs.Choice.{pick}
 use Rattle.word.specs.declared.answer.Answer.{Answer}
-use Rattle.lists.specs.Format.{decodeLayout, decodeSizes, decodeStage, encodeLayout, encodeSizes, encodeStage}
+use Rattle.lists.specs.LayoutFormat.{decodeLayout, encodeLayout}
+use Rattle.lists.specs.SizeFormat.{decodeSizes, encodeSizes}
+use Rattle.lists.specs.StageListFormat.{decodeStage, encodeStage}
 use Rattle.interface.specs.Meaning.{EntryPoint, Interface}
 use Rattle.interface.specs.Format.{Decoded, Torn, Misfiled, Pack, decode, decodedNumber, stageAt}
 use Rattle.interface.specs.Reads.{interfaceOf}

@@ -2,7 +2,8 @@
 use mathlib.Core.Path.{_≡_}
 use borrow.Author.Tests.{eq-eqb, ne-eqb}
 use Rattle.word.specs.declared.answer.Answer.{Answer}
-use Rattle.lists.specs.Meaning.{Layout, Sizes}
+use Rattle.lists.specs.Layouts.{Layout}
+use Rattle.lists.specs.Sizes.{Sizes}
 use Rattle.stage.specs.Meaning.{State, state, andThen}
 
 module _ (a : Answer) (L : Layout) (S : Sizes) (x : State) (k : Layout → Sizes → State) (e : state a L S ≡ x) where

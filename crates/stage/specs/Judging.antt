@@ -7,8 +7,9 @@ use Rattle.word.specs.Choice.{pick, yes}
 use Rattle.word.specs.Answers.{accepted}
 use Rattle.word.specs.declared.answer.Answer.{Answer}
 use Rattle.resource.specs.declared.types.Resource.{Resource}
-use Rattle.lists.specs.Meaning.{Layout, StageIo}
-use Rattle.lists.specs.Format.{encodeStage}
+use Rattle.lists.specs.Layouts.{Layout}
+use Rattle.lists.specs.StageLists.{StageIo}
+use Rattle.lists.specs.StageListFormat.{encodeStage}
 use Rattle.interface.specs.Meaning.{EntryPoint}
 use Rattle.interface.specs.declared.types.ShaderStage.{ShaderStage}
 use Rattle.interface.specs.declared.types.Limits.{Limits}

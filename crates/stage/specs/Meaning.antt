@@ -4,7 +4,8 @@ use mathlib.Core.List.{List}
 use lib.Dec.{eqb}
 use Rattle.word.specs.Choice.{pick}
 use Rattle.word.specs.declared.answer.Answer.{Answer}
-use Rattle.lists.specs.Meaning.{Layout, Sizes}
+use Rattle.lists.specs.Layouts.{Layout}
+use Rattle.lists.specs.Sizes.{Sizes}
 
 -- 'The call gives a stage, a name of any bytes, topology 0–4 or 5 for none, mode 0 provided or 1 derived, and two fragment flags
 -- (dual source, depth attached), 0 or 1', with the words of the pack and the lists that are lent

@@ -10,8 +10,8 @@ use Rattle.word.specs.declared.answer.Answer.{Answer}
 use Rattle.varying.specs.Rules.{samePayload}
 use Rattle.varying.specs.declared.Payload.{Payload}
 use Rattle.varying.specs.declared.Payload.the-variants as Pay
-use Rattle.lists.specs.Meaning.{StageIo}
-use Rattle.lists.specs.declared.types.PrimitiveIndex.{PrimitiveIndex}
+use Rattle.lists.specs.StageLists.{StageIo}
+use Rattle.lists.specs.declared.stage_types.PrimitiveIndex.{PrimitiveIndex}
 use Rattle.interface.specs.Meaning.{EntryPoint}
 use Rattle.interface.specs.Format.{topologyCode}
 use Rattle.interface.specs.declared.types.PrimitiveTopology.{PrimitiveTopology}

@@ -1,4 +1,4 @@
-use Rattle.lists.specs.Format.{groupsOf}
+use Rattle.lists.specs.LayoutFormat.{groupsOf}
 use borrow.Author.Needs.{needs}
 use Rattle.lists.proofs.heads.groups.Statement.{statement}
 use Rattle.lists.proofs.heads.groups.Tie as tie

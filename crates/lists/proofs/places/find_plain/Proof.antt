@@ -1,8 +1,7 @@
 use Prim.Native.Nat.{_+_, _-_, _*_, _<_, _≤_, _^_}
 use mathlib.Core.Path.{_≡_}
 use lib.ListN.{drop}
-use Rattle.lists.specs.Meaning.{placeFrom}
-use Rattle.lists.specs.Format.{places}
+use Rattle.lists.specs.Places.{placeFrom, places}
 use Rattle.lists.proofs.PlaceWays.{sought-begins, sought-found, sought-onward, sought-nowhere}
 use borrow.Author.Tests.{lt-ltb}
 use borrow.Author.Needs.{needs}

@@ -2,8 +2,7 @@ use Prim.Native.Nat.{_+_, _-_, _*_, _<_, _≤_, _^_}
 use mathlib.Core.Path.{_≡_}
 use lib.ListN.{length, drop}
 use Rattle.resource.specs.Format.{placeOf}
-use Rattle.lists.specs.Meaning.{placeFrom}
-use Rattle.lists.specs.Format.{places}
+use Rattle.lists.specs.Places.{placeFrom, places}
 use Rattle.lists.proofs.PlaceWays.{sought-begins, sought-nowhere, content-found, content-onward, within-begins, within, within-onward}
 use borrow.Author.Tests.{lt-ltb}
 use borrow.Author.Needs.{needs}
