@@ -24,6 +24,7 @@ use Rattle.lists.specs.Places.{samePlace}
 use Rattle.lists.specs.Records.{fits}
 use Rattle.lists.specs.declared.size_record.SizeRecord.{SizeRecord}
 use Rattle.lists.specs.declared.found.Found.the-variants.{At}
+use Rattle.lists.proofs.SizeLaws.{places-raised}
 use Rattle.interface.specs.Format.{member}
 use Rattle.interface.specs.declared.types.ShaderStage.{ShaderStage}
 use Rattle.interface.specs.declared.types.SamplingPair.{SamplingPair}
@@ -44,12 +45,6 @@ module _ (stage : ShaderStage) (named : Bool) (r : Resource) (M : Layout) (d : d
   placed-serves h k = rw (placed-found, p .seen, p .holds, derived-accepted (r .ty) named (p .type) h k (p .derived))
 
 -- ---- sizes
-
-places-raised : (place : ResourceBinding) (size : ℕ) (ss : List SizeRecord) → sizePlaces (raiseAt place size ss) ≡ sizePlaces ss
-unfolding raiseAt
-places-raised place size [] = refl
-places-raised place size (s ∷ ss) =
-    by-test (samePlace (s .bind) place) (λ t. rw t) (λ n. rw n (ap (λ (l : List ResourceBinding). s .bind ∷ l) (places-raised place size ss)))
 
 places-more : (s : SizeRecord) (ss : List SizeRecord) → sizePlaces (ss ++ (s ∷ [])) ≡ sizePlaces ss ++ (s .bind ∷ [])
 places-more s [] = refl

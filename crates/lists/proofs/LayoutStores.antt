@@ -2,18 +2,17 @@
 use Prim.Native.Nat.{ℕ, suc, _+_, _*_, _^_, _<_, _≤_}
 use native.Mathlib.Omega.{arith}
 use mathlib.Core.Path.{_≡_, refl, sym, ap, _∙_}
-use mathlib.Core.Bool.{Bool, true, false}
+use mathlib.Core.Bool.{true, false}
 use mathlib.Core.List.{List, [], _∷_, _++_}
 use lib.ListN.{length, drop, getD, set, length-append, length-drop}
 use lib.Seq.{drop-drop}
-use borrow.Author.Tests.{ltb-true, le-leb, lt-leb}
+use borrow.Author.Tests.{le-leb, lt-leb}
 use Rattle.word.specs.Words.{wordAt, kindOf, contentOf, bits, ofKind}
-use Rattle.word.specs.Choice.{pick}
-use Rattle.resource.specs.Format.{placeWord, bindingCode, leastSize, entryFiled, entryWords, entryOf, entryHeld, entryFiledAt, entryAt}
+use Rattle.resource.specs.Format.{entryFiled, entryWords, entryOf, entryFiledAt, entryAt}
 use Rattle.resource.specs.declared.types.BindGroupLayoutEntry.{BindGroupLayoutEntry}
-use Rattle.resource.proofs.EntryFormat.{entry-filed, entry-read as entry-again, entry-back}
-use Rattle.word.proofs.Truth.{first, second}
-use Rattle.lists.specs.Layouts.{Layout, entryHas, entryNth, emptyEntry, pushed, joinBit, seenBy, joinAt, joined}
+use Rattle.resource.proofs.EntryFormat.{entry-back}
+use Rattle.word.proofs.Truth.{first}
+use Rattle.lists.specs.Layouts.{entryHas, entryNth, emptyEntry, pushed, joinBit, seenBy, joinAt, joined}
 use Rattle.lists.specs.Records.{fits, put, past, each, flat, countOf}
 use Rattle.lists.specs.LayoutFormat.{groupsOf, readEntry, readEntries, entryGood, entryFits, layoutFiled, decodeLayout, encodeLayout, layoutGood}
 use Rattle.lists.proofs.Words.{put-next, here, there}
@@ -28,33 +27,6 @@ use Rattle.lists.proofs.LayoutWays.{entries-counted, nth-read, entry-re
 pub entry-stored : (l m : List ℕ) (at p t s v : ℕ) → entryFiled p t s v ≡ true → m ≡ put l at (p ∷ t ∷ s ∷ v ∷ [])
     → m ≡ put l at (entryWords (entryOf p t s v))
 entry-stored l m at p t s v f h = rw (entry-back p t s v f) h
-
-pub seen-sum : (e : BindGroupLayoutEntry) → entryHeld e ≡ true → 0x98000000 + e .visibility < 2 ^ 32
-seen-sum e h = let v : e .visibility < 32 = search (ltb-true, second) in omega arith
-
--- the words of an entry that the list can hold
-module _ (g p t s : ℕ) (e : BindGroupLayoutEntry) (h : entryFits g e ≡ true) (ep : p ≡ placeWord (e .bind)) (et : t ≡ ofKind 18 (bindingCode (e .ty)))
-    (es : s ≡ ofKind 6 (leastSize (e .ty))) where
-  pub words-filed : entryFiled p t s (0x98000000 + e .visibility) ≡ true
-  words-filed = rw (ep, et, es) (entry-filed e (search first))
-
-  words-mean : entryOf p t s (0x98000000 + e .visibility) ≡ e
-  words-mean = rw (ep, et, es) (entry-again e (search first))
-
-  pub words-fit : entryFits g (entryOf p t s (0x98000000 + e .visibility)) ≡ true
-  words-fit = rw words-mean h
-
-  pub words-new : (others : List BindGroupLayoutEntry) → entryHas (e .bind) others ≡ false
-      → entryHas (entryOf p t s (0x98000000 + e .visibility) .bind) others ≡ false
-  words-new others n = rw words-mean n
-
-  module _ (r : Bool) (L : Layout) where
-    pub words-encoded : (ws : List ℕ) → ws ≡ encodeLayout (pick r (pushed L (entryOf p t s (0x98000000 + e .visibility))) L)
-        → ws ≡ encodeLayout (pick r (pushed L e) L)
-    words-encoded ws f = rw words-mean at f
-
-    pub words-pushed : (M : Layout) → M ≡ pick r (pushed L (entryOf p t s (0x98000000 + e .visibility))) L → M ≡ pick r (pushed L e) L
-    words-pushed M f = rw words-mean at f
 
 -- ---- a new entry
 
@@ -77,9 +49,6 @@ head-there ws f = omega (arith, filed ws f .holds)
 
 pub entries-within : (ws : List ℕ) (n : ℕ) → layoutFiled ws ≡ true → n ≡ countOf ws → 1 + 4 * n ≤ length ws
 entries-within ws n f e = omega (arith, filed ws f .holds)
-
-pub near-inside : (ws : List ℕ) (n i : ℕ) → layoutFiled ws ≡ true → n ≡ countOf ws → i < n → 1 + 4 * i < length ws
-near-inside ws n i f e h = omega (arith, entries-within ws n f e)
 
 -- a list of 1,024 words has at most 255 entries
 pub layout-few : (ws : List ℕ) → layoutFiled ws ≡ true → length (decodeLayout ws .entries) ≤ 255

@@ -1,4 +1,3 @@
-pub mod Examples
 pub mod Ways
 pub mod Words
 pub mod Records
@@ -20,3 +19,6 @@ pub mod StageWays
 pub mod InsertLaws
 pub mod OutWords
 pub mod OutStores
+pub mod LayoutExamples
+pub mod SizeExamples
+pub mod StageExamples

@@ -1,49 +1,36 @@
 -- What the code's stores into a size list make of it.
-use Prim.Native.Nat.{ℕ, suc, _+_, _-_, _*_, _%_, _^_, _<_, _≤_, max}
+use Prim.Native.Nat.{ℕ, suc, _+_, _-_, _*_, _^_, _<_, _≤_, max}
 use native.Mathlib.Omega.{arith}
 use mathlib.Core.Path.{_≡_, sym, ap, _∙_}
-use mathlib.Core.Bool.{Bool, true, false}
+use mathlib.Core.Bool.{true, false}
 use mathlib.Core.List.{List, [], _∷_, _++_}
 use lib.ListN.{length, drop, getD, set, length-append, length-drop, length-map}
-use lib.Seq.{drop-drop}
 use lib.Dec.{eqb}
-use borrow.Author.Tests.{eqb-true, eqb-false, ne-eqb, not-true, le-leb, lt-leb}
+use borrow.Author.Tests.{eqb-true, eqb-false, not-true, le-leb, lt-leb}
 use Rattle.word.specs.Words.{wordAt, kindOf, contentOf, bits, ofKind}
-use Rattle.resource.specs.Format.{placeFiled, placeOf, placeWord, placeHeld, sizeFiled}
+use Rattle.resource.specs.Format.{placeFiled, placeOf, sizeFiled}
 use Rattle.resource.specs.declared.types.ResourceBinding.{ResourceBinding}
 use Rattle.resource.proofs.ReadLaws.{place-held}
-use Rattle.resource.proofs.EntryFormat.{place-filed, place-read, place-back}
+use Rattle.resource.proofs.EntryFormat.{place-back}
 use Rattle.word.proofs.Truth.{first, second}
-use Rattle.lists.specs.Sizes.{Sizes, sizePlaces, sizeHas, sizeRecord, sizeFits, recorded}
-use Rattle.lists.specs.Places.{placeFrom, distinctPlaces, places, readPlace}
+use Rattle.lists.specs.Sizes.{sizePlaces, sizeHas, sizeRecord, sizeFits, recorded}
+use Rattle.lists.specs.Places.{placeFrom, distinctPlaces, places}
 use Rattle.lists.specs.Records.{put, past, each, flat, countOf}
 use Rattle.lists.specs.Records.{records}
 use Rattle.lists.specs.SizeFormat.{readSize, readSizes, sizeGood, sizeWords, sizesFiled, decodeSizes, encodeSizes, sizesGood}
 use Rattle.lists.specs.declared.size_record.SizeRecord.{SizeRecord}
 use Rattle.lists.specs.declared.found.Found.{Found}
 use Rattle.lists.specs.declared.found.Found.the-variants.{At, Nothing}
-use Rattle.lists.proofs.Words.{put-next, here, there}
+use Rattle.lists.proofs.Words.{put-next, there}
 use Rattle.lists.proofs.Records.{read-length, room-length, nth-record, each-nth, flat-read, put-last, set-flat}
 use Rattle.lists.proofs.Forms.{size-written, size-form}
-use Rattle.lists.proofs.PlaceLaws.{FoundAt, found-there, found-nth}
-use Rattle.lists.proofs.PlaceWays.{place-found, place-lacks, content-place}
+use Rattle.lists.proofs.PlaceLaws.{FoundAt, found-there}
+use Rattle.lists.proofs.PlaceWays.{place-found, place-lacks}
 use Rattle.lists.proofs.SizeLists.{Filed, filed, encode-decode, decode-encode, filed-encode, good-decode}
 use Rattle.lists.proofs.SizeLaws.{raised, noRecord, raised-set, length-raised, good-recorded}
 use Rattle.lists.proofs.SizeWays.{size-places}
 
--- ---- a position that is tried first: no other record has its place
-
-module _ (s : List ℕ) (n i content : ℕ) (h : i < n) where
-  pub near-record : distinctPlaces (places 2 n (drop 1 s)) ≡ true → wordAt s (1 + 2 * i) % 0x800_0000 ≡ content
-      → At i ≡ placeFrom (placeOf content) (places 2 n (drop 1 s)) 0
-  near-record d q =
-      let ps = places 2 n (drop 1 s) in
-      let g : getD ps i (placeOf content) ≡ placeOf content
-      = nth-record 2 readPlace n i (drop 1 s) (placeOf content) h
-      ∙ rw (drop-drop (2 * i) 1 s, here s (1 + 2 * i)) (sym (content-place (wordAt s (1 + 2 * i))) ∙ ap placeOf q) in
-      let z : 0 + i ≡ i = omega arith in
-      sym (rw (g, z) at (found-nth ps 0 i (placeOf content) d (omega (arith, read-length 2 readPlace n (drop 1 s)))))
-
+-- no two records have one place
 pub sizes-differ : (s : List ℕ) (n : ℕ) → sizesFiled s ≡ true → n ≡ countOf s → distinctPlaces (places 2 n (drop 1 s)) ≡ true
 sizes-differ s n f e = rw e (rw (size-places (countOf s) (drop 1 s)) at (filed s f .distinct))
 
@@ -213,30 +200,3 @@ module _ (s s′ : List ℕ) (p z : ℕ) (f : sizesFiled s ≡ true) (fz : sizeF
 pub raised-filed : (s s′ : List ℕ) (p z n i : ℕ) (r : Found) → sizesFiled s ≡ true → sizeFiled z ≡ true → n ≡ countOf s
     → r ≡ placeFrom (placeOf p) (places 2 n (drop 1 s)) 0 → r ≡ At i → s′ ≡ set s (2 * i + 2) (max (wordAt s (2 * i + 2)) z) → sizesFiled s′ ≡ true
 raised-filed s s′ p z n i r f fz en er h e = record-filed s s′ p z f fz (size-raised s s′ p z n i r f fz en er h e)
-
--- ---- the words of a place and a size
-
-module _ (place : ResourceBinding) (size p : ℕ) (h : placeHeld place ≡ true) (o : 1 ≤ size) (l : size < 2 ^ 27) (e : p ≡ placeWord place) where
-  pub place-word-filed : placeFiled p ≡ true
-  place-word-filed = rw e (place-filed place h)
-
-  pub size-word-filed : sizeFiled (0x30000000 + size) ≡ true
-  size-word-filed =
-      let k : kindOf (0x30000000 + size) ≡ 6 = omega arith in
-      rw (k, ne-eqb (contentOf (0x30000000 + size)) 0 (λ z. omega arith))
-
-  place-is : placeOf p ≡ place
-  place-is = rw e (place-read place h)
-
-  size-is : contentOf (0x30000000 + size) ≡ size
-  size-is = omega arith
-
-  module _ (S : Sizes) where
-    pub words-fit : (r : Bool) → r ≡ sizeFits (placeOf p) S → r ≡ sizeFits place S
-    words-fit r f = rw place-is at f
-
-    pub words-encoded : (s : List ℕ) → s ≡ encodeSizes (recorded (placeOf p) (contentOf (0x30000000 + size)) S) → s ≡ encodeSizes (recorded place size S)
-    words-encoded s f = rw (place-is, size-is) at f
-
-    pub words-recorded : (T : Sizes) → T ≡ recorded (placeOf p) (contentOf (0x30000000 + size)) S → T ≡ recorded place size S
-    words-recorded T f = rw (place-is, size-is) at f

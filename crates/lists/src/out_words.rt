@@ -9,7 +9,7 @@ use crate::stage_types::PrimitiveIndex;
 use varying::Payload;
 
 // The first word of a list that counts no variable yet.
-pub fn primitive_word(primitive: PrimitiveIndex) -> u32
+pub(crate) fn primitive_word(primitive: PrimitiveIndex) -> u32
     ensures { λ r. ⌜ r ≡ ofKind 11 (2 ^ 25 * primitiveCode primitive) ⌝ }
 {
     match primitive {

@@ -30,7 +30,7 @@ use Rattle.interface.specs.declared.types.SamplingPair.{SamplingPair}
 use Rattle.stage.specs.Given.{resourceTable, pairBelow, pairsBelow, wordMeans}
 use Rattle.stage.specs.Resources.{resourceNth, filtering, sampleNumber, pairNumber, typeAt, pairAnswer, pairUse, pairUses}
 use Rattle.stage.proofs.ResourceParts.{pairs-cons, pairs-none, nth-at}
-use Rattle.stage.proofs.ResourceLaws.{found-within}
+use Rattle.lists.proofs.PlaceWays.{found-inside}
 
 -- ---- type words
 
@@ -125,7 +125,7 @@ pub type-found : (l : List ℕ) (place : ℕ) (f : Found) (i w : ℕ) → foundB
 unfolding entryOf
 type-found l place f i w b n q e =
     let t : entryNth (decodeLayout l .entries) i .ty ≡ bindingTypeOf (wordAt l (1 + 4 * i + 1)) (contentOf (wordAt l (1 + 4 * i + 2)))
-    = ap (λ (e : BindGroupLayoutEntry). e .ty) (entry-there l i (found-within (decodeLayout l) f i b n)) in
+    = ap (λ (e : BindGroupLayoutEntry). e .ty) (entry-there l i (found-inside (length (decodeLayout l .entries)) i f b n)) in
     (contentOf (wordAt l (1 + 4 * i + 2)), rw (← q, n, e) t)
 
 pub type-none : (l : List ℕ) (place : ℕ) (f : Found) → f ≡ findEntry (placeOf place) (decodeLayout l) → f ≡ Nothing

@@ -50,11 +50,7 @@ answer-there number place bind a e h = h ∙ ap (bindingAnswer number) e
 
 -- ---- positions that were found
 
--- the position that was found is one of an entry
-pub found-within : (L : Layout) (f : Found) (i : ℕ) → foundBelow (length (L .entries)) f ≡ true → f ≡ At i → i < length (L .entries)
-found-within L f i h e = ltb-true i (length (L .entries)) (rw e at h)
-
--- and fits into a byte
+-- the position that was found fits into a byte
 pub found-few : (l : List ℕ) (f : Found) → layoutFiled l ≡ true → foundBelow (length (decodeLayout l .entries)) f ≡ true → foundBelow 256 f ≡ true
 found-few l (At i) h b = lt-ltb i 256 (omega (arith, layout-few l h, ltb-true i (length (decodeLayout l .entries)) b))
 found-few l Nothing h b = refl

@@ -12,7 +12,7 @@ record-words-spec =
     (λ c κs. search needs)  -- content-requires
     (λ c κs. search needs)  -- noted-requires
     (λ c. search needs)  -- cast-find-near
-    (λ c κs. ((search needs, search records-within, search needs), search sizes-differ))  -- find-near-requires
+    (λ c κs. ((search needs, search needs, search needs, search records-within, search needs), search sizes-differ))  -- find-near-requires
     (λ c. search needs)  -- enum-known-index
     (λ c. search index-next)  -- add-next
     (λ c. search index-few)  -- cast-next
