@@ -5,7 +5,6 @@ pub mod BitWays
 pub mod PlaceLaws
 pub mod PlaceWays
 pub mod MarkLaws
-pub mod Forms
 pub mod LayoutLists
 pub mod LayoutLaws
 pub mod SizeLists

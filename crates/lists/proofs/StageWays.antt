@@ -15,8 +15,7 @@ use Rattle.varying.specs.declared.Payload.{Payload}
 use Rattle.word.proofs.Truth.{first, second}
 use Rattle.lists.specs.Places.{foundBelow}
 use Rattle.lists.specs.StageLists.{rising, varyingAt}
-use Rattle.lists.specs.Records.{records}
-use Rattle.lists.specs.Records.{countOf}
+use Rattle.lists.specs.Records.{records, countOf}
 use Rattle.lists.specs.StageListFormat.{primitiveAt, readLocated, locatedGood, readVaryings, variableFound, stageHead, outFiled, decodeStage}
 use Rattle.lists.specs.declared.found.Found.{Found}
 use Rattle.lists.specs.declared.found.Found.the-variants.{At}

@@ -145,7 +145,7 @@ pub fn join_visibility(l: &mut [u32], index: usize, stage: u32)
     ensures { λ _. ⌜ decodeLayout (now (l .exit)) ≡ joined stage (decodeLayout (now (l .entry))) index ⌝ }
     ensures { λ _. ⌜ layoutFiled (now (l .exit)) ≡ true ⌝ }
 {
-    let at = 4 * index + 4;
+    let at = 1 + 4 * index + 3;
     let visibility = join_bit(content(word(l, at)), stage);
     l[at] = 0x9800_0000 + visibility;
 }
