@@ -11,6 +11,7 @@ of its lines, and when it prints `-` because it does not ask: for a list that is
 import random, struct, sys
 
 R = random.Random(20)
+NEAR = random.Random(21)  # positions to try first: no answer depends on them
 TESTS, LOOK_LAYOUT, JOIN, PUSH, RECORD, LOOK_STAGE, BEGIN, INSERT = range(8)
 MOST = 1024
 kind = lambda w: w >> 27
@@ -280,6 +281,8 @@ cases, lines = [], []
 
 def case(asked, ws, *arguments):
     arguments = (list(arguments) + [0] * 4)[:4]
+    if asked in (RECORD, LOOK_STAGE):
+        arguments[2 if asked == RECORD else 1] = NEAR.randrange(6)
     cases.append(struct.pack('<%dI' % (6 + len(ws)), asked, *arguments, len(ws), *ws))
     answer, after = ANSWERS[asked](list(ws), *arguments)
     changed = ['%d:%08x' % (i, w) for i, w in enumerate(after) if w != ws[i]]

@@ -11,8 +11,15 @@ use Rattle.resource.specs.Format.{resourceTypeFiled as resource-resourceTypeFil
 use Rattle.resource.specs.Rules.{sameSpace as resource-sameSpace, bufferUse as resource-bufferUse, samplerUse as resource-samplerUse, viewFits as resource-viewFits, sampledFits as resource-sampledFits, storageFits as resource-storageFits, textureUse as resource-textureUse, accelerationUse as resource-accelerationUse, checkBindingUse as resource-checkBindingUse, derivedTexture as resource-derivedTexture, deriveBindingType as resource-deriveBindingType, handBack as resource-handBack}
 use Rattle.varying.specs.Format.{varFiled as varying-varFiled, varOf as varying-varOf, varWord as varying-varWord, payloadFiled as varying-payloadFiled, payloadOf as varying-payloadOf, payloadWord as varying-payloadWord}
 use Rattle.varying.specs.Rules.{samePayload as varying-samePayload}
-use Rattle.lists.specs.Format.{past as lists-past, records as lists-records, each as lists-each, flat as lists-flat, put as lists-put, groupsOf as lists-groupsOf, countOf as lists-countOf, layoutHead as lists-layoutHead, layoutFiled as lists-layoutFiled, decodeLayout as lists-decodeLayout, encodeLayout as lists-encodeLayout, layoutGood as lists-layoutGood, sizesHead as lists-sizesHead, sizesFiled as lists-sizesFiled, decodeSizes as lists-decodeSizes, encodeSizes as lists-encodeSizes, sizesGood as lists-sizesGood, stageHead as lists-stageHead, outFiled as lists-outFiled, decodeStage as lists-decodeStage, encodeStage as lists-encodeStage, outGood as lists-outGood}
-use Rattle.lists.specs.Meaning.{placeFrom as lists-placeFrom, placeIn as lists-placeIn, distinctPlaces as lists-distinctPlaces, every as lists-every, entryNth as lists-entryNth, pushed as lists-pushed, joinAt as lists-joinAt, joined as lists-joined, sizeAt as lists-sizeAt, raiseAt as lists-raiseAt, recorded as lists-recorded, varyingAt as lists-varyingAt, rising as lists-rising, insert as lists-insert, inserted as lists-inserted}
+use Rattle.lists.specs.Records.{past as lists-past, each as lists-each, flat as lists-flat, put as lists-put, countOf as lists-countOf, every as lists-every}
+use Rattle.lists.specs.Records.{records as lists-records}
+use Rattle.lists.specs.LayoutFormat.{groupsOf as lists-groupsOf, layoutHead as lists-layoutHead, layoutFiled as lists-layoutFiled, decodeLayout as lists-decodeLayout, encodeLayout as lists-encodeLayout, layoutGood as lists-layoutGood}
+use Rattle.lists.specs.SizeFormat.{sizesHead as lists-sizesHead, sizesFiled as lists-sizesFiled, decodeSizes as lists-decodeSizes, encodeSizes as lists-encodeSizes, sizesGood as lists-sizesGood}
+use Rattle.lists.specs.StageListFormat.{stageHead as lists-stageHead, outFiled as lists-outFiled, decodeStage as lists-decodeStage, encodeStage as lists-encodeStage, outGood as lists-outGood}
+use Rattle.lists.specs.Places.{placeFrom as lists-placeFrom, placeIn as lists-placeIn, distinctPlaces as lists-distinctPlaces}
+use Rattle.lists.specs.Layouts.{entryNth as lists-entryNth, pushed as lists-pushed, joinAt as lists-joinAt, joined as lists-joined}
+use Rattle.lists.specs.Sizes.{sizeAt as lists-sizeAt, raiseAt as lists-raiseAt, recorded as lists-recorded}
+use Rattle.lists.specs.StageLists.{varyingAt as lists-varyingAt, rising as lists-rising, insert as lists-insert, inserted as lists-inserted}
 use Rattle.interface.specs.Format.{readVarying as interface-readVarying, clips as interface-clips, bytesOf as interface-bytesOf, noZero as interface-noZero, allZero as interface-allZero, readName as interface-readName, readWorkgroup as interface-readWorkgroup, readMesh as interface-readMesh, contents as interface-contents, member as interface-member, ofType as interface-ofType, pairsOf as interface-pairsOf, readEntryPoint as interface-readEntryPoint, sameBytes as interface-sameBytes, hasName as interface-hasName, distinctNames as interface-distinctNames, readPack as interface-readPack, torn as interface-torn, decode as interface-decode, concat as interface-concat, packName as interface-packName, entryPointWords as interface-entryPointWords, recordWords as interface-recordWords, encode as interface-encode}
 use Rattle.interface.specs.Reads.{varyings as interface-varyings, standing as interface-standing, resourcesAt as interface-resourcesAt, entryNth as interface-entryNth}
 use Rattle.interface.specs.Rules.{findFrom as interface-findFrom, onlyFrom as interface-onlyFrom, finalizeName as interface-finalizeName}

@@ -26,8 +26,10 @@ use Rattle.resource.specs.declared.types.BindGroupLayoutEntry.{BindGroupLayoutE
 use Rattle.varying.specs.declared.InterfaceVar.{InterfaceVar}
 use Rattle.varying.specs.declared.Located.{Located}
 use Rattle.varying.specs.declared.Payload.the-variants as Pay
-use Rattle.lists.specs.Format.{encodeLayout, encodeSizes, encodeStage}
-use Rattle.lists.specs.declared.types.PrimitiveIndex.the-variants as Index
+use Rattle.lists.specs.LayoutFormat.{encodeLayout}
+use Rattle.lists.specs.SizeFormat.{encodeSizes}
+use Rattle.lists.specs.StageListFormat.{encodeStage}
+use Rattle.lists.specs.declared.stage_types.PrimitiveIndex.the-variants as Index
 use Rattle.interface.specs.Meaning.{EntryPoint}
 use Rattle.interface.specs.Format.{encode, stageCode}
 use Rattle.interface.specs.declared.types.ShaderStage.{ShaderStage}

@@ -14,8 +14,11 @@ use Rattle.resource.specs.Format.{placeHeld, typeHeld}
 use Rattle.word.proofs.Truth.{second}
 use Rattle.varying.specs.Format.{locatedWords, payloadWord}
 use Rattle.varying.specs.declared.Located.{Located}
-use Rattle.lists.specs.Meaning.{StageIo}
-use Rattle.lists.specs.Format.{layoutFiled, sizesFiled, stageFiled, decodeLayout, decodeSizes, decodeStage, encodeStage, flat, primitiveCode, countOf}
+use Rattle.lists.specs.StageLists.{StageIo}
+use Rattle.lists.specs.LayoutFormat.{layoutFiled, decodeLayout}
+use Rattle.lists.specs.SizeFormat.{sizesFiled, decodeSizes}
+use Rattle.lists.specs.StageListFormat.{stageFiled, decodeStage, encodeStage, primitiveCode}
+use Rattle.lists.specs.Records.{flat, countOf}
 use Rattle.lists.proofs.LayoutLists.{good, good-decode}
 use Rattle.interface.specs.Meaning.{Interface, EntryPoint}
 use Rattle.interface.specs.Format.{stageAt, member}

@@ -20,10 +20,12 @@ use Rattle.resource.specs.declared.types.Derived.the-variants as Der
 use Rattle.resource.proofs.SameBinding.{same-binding-eq}
 use Rattle.resource.proofs.HandBack.{derived-held}
 use Rattle.word.proofs.Truth.{first, second, by-test, never}
-use Rattle.lists.specs.Meaning.{Layout, samePlace, findEntry, entryPlaces, entryHas, entryNth, fits, pushed, seesBit, joined}
-use Rattle.lists.specs.Format.{entryFits, layoutGood}
-use Rattle.lists.specs.declared.types.Found.{Found}
-use Rattle.lists.specs.declared.types.Found.the-variants.{At, Nothing}
+use Rattle.lists.specs.Layouts.{Layout, findEntry, entryPlaces, entryHas, entryNth, pushed, seesBit, joined}
+use Rattle.lists.specs.Places.{samePlace}
+use Rattle.lists.specs.Records.{fits}
+use Rattle.lists.specs.LayoutFormat.{entryFits, layoutGood}
+use Rattle.lists.specs.declared.found.Found.{Found}
+use Rattle.lists.specs.declared.found.Found.the-variants.{At, Nothing}
 use Rattle.lists.proofs.PlaceLaws.{same-place-refl}
 use Rattle.lists.proofs.PlaceWays.{place-lacks}
 use Rattle.lists.proofs.LayoutLaws.{nth-last, length-join, nth-joined, good-pushed, good-joined}

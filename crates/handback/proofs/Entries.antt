@@ -8,8 +8,9 @@ use lib.ListN.{length}
 use Rattle.resource.specs.declared.types.ResourceBinding.{ResourceBinding}
 use Rattle.resource.specs.declared.types.BindGroupLayoutEntry.{BindGroupLayoutEntry}
 use Rattle.word.proofs.Truth.{by-test, never}
-use Rattle.lists.specs.Meaning.{samePlace, placeFrom, placeIn, distinctPlaces, entryPlaces, entryHas, distinctEntries, entryNth}
-use Rattle.lists.specs.declared.types.Found.the-variants.{At}
+use Rattle.lists.specs.Places.{samePlace, placeFrom, placeIn, distinctPlaces}
+use Rattle.lists.specs.Layouts.{entryPlaces, entryHas, distinctEntries, entryNth}
+use Rattle.lists.specs.declared.found.Found.the-variants.{At}
 use Rattle.lists.proofs.PlaceLaws.{same-place-eq, passed-not}
 
 -- an entry of a place at a position

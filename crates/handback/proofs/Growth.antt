@@ -10,8 +10,8 @@ use borrow.Author.Tests.{eqb-true, eqb-false, ltb-true, eq-eqb}
 use Rattle.resource.specs.Format.{formatHeld}
 use Rattle.resource.specs.declared.types.BindGroupLayoutEntry.{BindGroupLayoutEntry}
 use Rattle.word.proofs.Truth.{first, second, by-test}
-use Rattle.lists.specs.Meaning.{Layout, entryNth, emptyEntry, pushed, seesBit, joinBit, joined}
-use Rattle.lists.specs.Format.{entryFits, layoutGood}
+use Rattle.lists.specs.Layouts.{Layout, entryNth, emptyEntry, pushed, seesBit, joinBit, joined}
+use Rattle.lists.specs.LayoutFormat.{entryFits, layoutGood}
 use Rattle.lists.proofs.Records.{every-nth}
 use Rattle.lists.proofs.LayoutLists.{good}
 use Rattle.lists.proofs.LayoutLaws.{nth-getD, nth-more, length-join, nth-joined, nth-beside, join-bits}

@@ -4,7 +4,7 @@ use mathlib.Core.Path.{_≡_}
 use mathlib.Core.Bool.{true}
 use mathlib.Core.List.{List, _∷_, _++_}
 use Rattle.word.specs.Answers.{accepted}
-use Rattle.lists.specs.Format.{layoutFiled}
+use Rattle.lists.specs.LayoutFormat.{layoutFiled}
 use Rattle.stage.specs.Meaning.{Call}
 use Rattle.stage.specs.Stage.{checkStage}
 use Rattle.handback.specs.HandBack.{derivedOver, putAgain, runOver, Stands, packKept, interfaceOfCall, RoomEnough, Again, HandBack}

@@ -16,7 +16,8 @@ use Rattle.resource.specs.declared.types.ResourceType.the-variants as Res
 use Rattle.resource.specs.declared.types.Derived.{Derived}
 use Rattle.resource.specs.declared.types.Derived.the-variants as Der
 use Rattle.word.proofs.Truth.{first, second, by-test, never}
-use Rattle.lists.specs.Meaning.{Layout, distinctEntries, every}
+use Rattle.lists.specs.Layouts.{Layout, distinctEntries}
+use Rattle.lists.specs.Records.{every}
 use Rattle.lists.proofs.Records.{first-passes, rest-passes}
 use Rattle.interface.specs.Format.{member, isTexture, isSampler, ofType, pairGood}
 use Rattle.interface.specs.declared.types.ShaderStage.{ShaderStage}

@@ -18,9 +18,12 @@ use Rattle.resource.specs.declared.types.ResourceType.{ResourceType}
 use Rattle.resource.specs.declared.types.ResourceType.the-variants as Res
 use Rattle.resource.proofs.HandBack.{derived-accepted}
 use Rattle.word.proofs.Truth.{by-test}
-use Rattle.lists.specs.Meaning.{Layout, Sizes, findEntry, distinctEntries, sizePlaces, sizeHas, raiseAt, samePlace, sizeRecord, fits, recorded}
-use Rattle.lists.specs.declared.types.SizeRecord.{SizeRecord}
-use Rattle.lists.specs.declared.types.Found.the-variants.{At}
+use Rattle.lists.specs.Layouts.{Layout, findEntry, distinctEntries}
+use Rattle.lists.specs.Sizes.{Sizes, sizePlaces, sizeHas, raiseAt, sizeRecord, recorded}
+use Rattle.lists.specs.Records.{fits}
+use Rattle.lists.specs.declared.size_record.SizeRecord.{SizeRecord}
+use Rattle.lists.specs.declared.found.Found.the-variants.{At}
+use Rattle.lists.proofs.SizeLaws.{places-raised}
 use Rattle.interface.specs.Format.{member}
 use Rattle.interface.specs.declared.types.ShaderStage.{ShaderStage}
 use Rattle.stage.specs.Resources.{resourceNth, SizesAfter, sizesAfter, recordSize, providedUse, provideStep, provideSteps}
@@ -39,12 +42,6 @@ module _ (stage : ShaderStage) (named : Bool) (r : Resource) (M : Layout) (d : d
   placed-serves h k = rw (placed-found, p .seen, p .holds, derived-accepted (r .ty) named (p .type) h k (p .derived))
 
 -- ---- sizes
-
-places-raised : (place : ResourceBinding) (size : ℕ) (ss : List SizeRecord) → sizePlaces (raiseAt place size ss) ≡ sizePlaces ss
-unfolding raiseAt
-places-raised place size [] = refl
-places-raised place size (s ∷ ss) =
-    by-test (samePlace (s .bind) place) (λ t. rw t) (λ n. rw n (ap (λ (l : List ResourceBinding). s .bind ∷ l) (places-raised place size ss)))
 
 places-more : (s : SizeRecord) (ss : List SizeRecord) → sizePlaces (ss ++ (s ∷ [])) ≡ sizePlaces ss ++ (s .bind ∷ [])
 places-more s [] = refl

@@ -6,8 +6,10 @@ use mathlib.Core.List.{List, [], _∷_, _++_}
 use lib.Dec.{eqb}
 use Rattle.word.specs.Answers.{accepted}
 use Rattle.word.proofs.Truth.{first}
-use Rattle.lists.specs.Meaning.{Layout}
-use Rattle.lists.specs.Format.{layoutFiled, layoutGood, decodeLayout, encodeLayout, decodeSizes, decodeStage, encodeStage}
+use Rattle.lists.specs.Layouts.{Layout}
+use Rattle.lists.specs.LayoutFormat.{layoutFiled, layoutGood, decodeLayout, encodeLayout}
+use Rattle.lists.specs.SizeFormat.{decodeSizes}
+use Rattle.lists.specs.StageListFormat.{decodeStage, encodeStage}
 use Rattle.lists.proofs.LayoutLists.{good-decode, filed-encode, decode-encode}
 use Rattle.interface.specs.Meaning.{Interface, EntryPoint}
 use Rattle.interface.specs.Format.{stageAt, member}

@@ -13,9 +13,12 @@ use Rattle.resource.specs.declared.types.ResourceType.{ResourceType}
 use Rattle.resource.specs.declared.types.ResourceType.the-variants as Res
 use Rattle.resource.specs.declared.types.ImageClass.the-variants as Class
 use Rattle.resource.specs.declared.types.SampleKind.the-variants as Kind
-use Rattle.lists.specs.Meaning.{Layout, entryNth, sizeHas, sizeRecord, seesBit}
-use Rattle.lists.specs.Format.{layoutFiled, sizesFiled, decodeLayout, decodeSizes, countOf}
-use Rattle.lists.specs.declared.types.SizeRecord.{SizeRecord}
+use Rattle.lists.specs.Layouts.{Layout, entryNth, seesBit}
+use Rattle.lists.specs.Sizes.{sizeHas, sizeRecord}
+use Rattle.lists.specs.LayoutFormat.{layoutFiled, decodeLayout}
+use Rattle.lists.specs.SizeFormat.{sizesFiled, decodeSizes}
+use Rattle.lists.specs.Records.{countOf}
+use Rattle.lists.specs.declared.size_record.SizeRecord.{SizeRecord}
 use Rattle.interface.specs.Meaning.{EntryPoint, Interface}
 use Rattle.interface.specs.Format.{decode, stageAt}
 use Rattle.interface.specs.Reads.{interfaceOf}

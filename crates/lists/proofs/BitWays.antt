@@ -5,7 +5,7 @@ use mathlib.Core.Path.{_≡_, sym, _∙_}
 use mathlib.Core.Bool.{Bool, true, false}
 use lib.Pow.{pow-mono}
 use borrow.Author.Tests.{eqb-true, eqb-false, eq-eqb, ne-eqb}
-use Rattle.lists.specs.Meaning.{seesBit, joinBit}
+use Rattle.lists.specs.Layouts.{seesBit, joinBit}
 
 module _ (stage : ℕ) (h : stage ≤ 4) where
   pub bit-small : 1 * 2 ^ stage % 2 ^ 32 ≤ 16

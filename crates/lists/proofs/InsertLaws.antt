@@ -11,9 +11,10 @@ use Rattle.word.specs.Choice.{pick}
 use Rattle.varying.specs.Format.{locatedHeld}
 use Rattle.varying.specs.declared.Located.{Located}
 use Rattle.word.proofs.Truth.{by-test}
-use Rattle.lists.specs.Meaning.{StageIo, every, rising, varyingAt, isProvided, insert, inserted}
-use Rattle.lists.specs.Format.{outGood}
-use Rattle.lists.specs.declared.types.Provided.the-variants as Pro
+use Rattle.lists.specs.StageLists.{StageIo, rising, varyingAt, isProvided, insert, inserted}
+use Rattle.lists.specs.Records.{every}
+use Rattle.lists.specs.StageListFormat.{outGood}
+use Rattle.lists.specs.declared.stage_types.Provided.the-variants as Pro
 use Rattle.lists.proofs.Records.{first-passes, rest-passes}
 use Rattle.lists.proofs.StageLists.{Good, good, is-good}
 

@@ -1,22 +1,22 @@
 -- What is done to a layout, over its meaning: a new entry, a stage joined, and the rules that stay.
 use Prim.Native.Nat.{ℕ, zero, suc, _+_, _<_, _≤_}
 use native.Mathlib.Omega.{arith}
-use mathlib.Core.Path.{_≡_, refl, ap}
+use mathlib.Core.Path.{_≡_, refl, sym, ap, _∙_}
 use mathlib.Core.Bool.{Bool, true, false, not, _&&_}
 use mathlib.Core.List.{List, [], _∷_, _++_, map-append}
 use lib.Dec.{eqb, ltb}
-use lib.ListN.{length, getD, set, length-append, length-drop, length-set, length-map}
-use lib.Seq.{map-set-same}
+use lib.ListN.{length, getD, set, List·getD-append, length-append, length-drop, length-set, length-map}
+use lib.Seq.{map-set-same, getD-set-same, getD-set-other, getD-append-seam}
 use borrow.Author.Tests.{ltb-true, lt-ltb}
 use Rattle.word.specs.Choice.{pick}
 use Rattle.resource.specs.Format.{placeHeld, formatHeld}
 use Rattle.resource.specs.declared.types.ResourceBinding.{ResourceBinding}
 use Rattle.resource.specs.declared.types.BindGroupLayoutEntry.{BindGroupLayoutEntry}
 use Rattle.word.proofs.Truth.{first, second, never, allBelow, below-all}
-use Rattle.lists.specs.Meaning.{Layout, samePlace, entryPlaces, entryHas, findEntry}
-use Rattle.lists.specs.Meaning.{entryNth, emptyEntry, pushed, seesBit, joinBit, seenBy, joinAt, joined}
-use Rattle.lists.specs.Format.{entryFits, layoutGood}
-use Rattle.lists.specs.declared.types.Found.the-variants.{At}
+use Rattle.lists.specs.Layouts.{Layout, entryPlaces, entryHas, findEntry, entryNth, emptyEntry, pushed, seesBit, joinBit, seenBy, joinAt, joined}
+use Rattle.lists.specs.Places.{samePlace}
+use Rattle.lists.specs.LayoutFormat.{entryFits, layoutGood}
+use Rattle.lists.specs.declared.found.Found.the-variants.{At}
 use Rattle.lists.proofs.Records.{every-more, every-set, every-nth}
 use Rattle.lists.proofs.PlaceLaws.{distinct-more, found-last, found-kept}
 use Rattle.lists.proofs.LayoutLists.{Good, good, is-good}
@@ -30,15 +30,10 @@ nth-getD (e ∷ es) zero = refl
 nth-getD (e ∷ es) (suc i) = nth-getD es i
 
 pub nth-more : (es : List BindGroupLayoutEntry) (e : BindGroupLayoutEntry) (k : ℕ) → k < length es → entryNth (es ++ (e ∷ [])) k ≡ entryNth es k
-unfolding entryNth
-nth-more [] e k h = absurd (omega arith)
-nth-more (x ∷ es) e zero h = refl
-nth-more (x ∷ es) e (suc k) h = nth-more es e k (omega arith)
+nth-more es e k h = rw (nth-getD (es ++ (e ∷ [])) k, nth-getD es k) (List·getD-append es (e ∷ []) emptyEntry k h)
 
 pub nth-last : (es : List BindGroupLayoutEntry) (e : BindGroupLayoutEntry) → entryNth (es ++ (e ∷ [])) (length es) ≡ e
-unfolding entryNth
-nth-last [] e = refl
-nth-last (x ∷ es) e = nth-last es e
+nth-last es e = rw (nth-getD (es ++ (e ∷ [])) (length es)) (getD-append-seam es e [] emptyEntry)
 
 -- ---- a stage joined to a visibility
 
@@ -92,18 +87,11 @@ module _ (s : ℕ) (es : List BindGroupLayoutEntry) (i : ℕ) where
       (map-set-same (λ e. e .bind) es i (seenBy s (entryNth es i)) emptyEntry (ap (λ (e : BindGroupLayoutEntry). e .bind) (nth-getD es i)))
 
 pub nth-joined : (s : ℕ) (es : List BindGroupLayoutEntry) (i : ℕ) → i < length es → entryNth (joinAt s es i) i ≡ seenBy s (entryNth es i)
-unfolding entryNth joinAt
-nth-joined s [] i h = absurd (omega arith)
-nth-joined s (e ∷ es) zero h = refl
-nth-joined s (e ∷ es) (suc i) h = nth-joined s es i (omega arith)
+nth-joined s es i h = rw (nth-getD (joinAt s es i) i, joined-set s es i) (getD-set-same es i (seenBy s (entryNth es i)) emptyEntry h)
 
 pub nth-beside : (s : ℕ) (es : List BindGroupLayoutEntry) (i k : ℕ) → (k ≡ i → ⊥) → entryNth (joinAt s es i) k ≡ entryNth es k
-unfolding entryNth joinAt
-nth-beside s [] i k h = refl
-nth-beside s (e ∷ es) zero zero h = absurd (h refl)
-nth-beside s (e ∷ es) zero (suc k) h = refl
-nth-beside s (e ∷ es) (suc i) zero h = refl
-nth-beside s (e ∷ es) (suc i) (suc k) h = nth-beside s es i k (λ e. h (ap suc e))
+nth-beside s es i k h =
+    rw (nth-getD (joinAt s es i) k, joined-set s es i) (getD-set-other es i k (seenBy s (entryNth es i)) emptyEntry h ∙ sym (nth-getD es k))
 
 -- ---- rules that stay
 

@@ -1,19 +1,54 @@
 -- A layout and its words: what is well formed is exactly what the writer makes.
 use Prim.Native.Nat.{ℕ, _+_, _*_, _^_, _≤_}
 use native.Mathlib.Omega.{arith}
-use mathlib.Core.Path.{_≡_}
+use mathlib.Core.Path.{_≡_, refl, sym, ap}
 use mathlib.Core.Bool.{true}
-use mathlib.Core.List.{List, [], _∷_}
-use lib.ListN.{length, drop, length-append}
+use mathlib.Core.List.{List, [], _∷_, _++_}
+use lib.ListN.{length, drop}
 use borrow.Author.Tests.{eqb-true, leb-true, le-leb}
 use Rattle.word.specs.Words.{wordAt, kindOf, bits, ofKind}
-use Rattle.resource.specs.Format.{entryWords}
-use Rattle.word.proofs.Truth.{first, second}
-use Rattle.lists.specs.Meaning.{Layout, every, distinctEntries}
-use Rattle.lists.specs.Format.{past, each, flat, groupsOf, countOf, readEntry, entryGood, entryFits, readEntries}
-use Rattle.lists.specs.Format.{layoutHead, layoutFiled, decodeLayout, encodeLayout, layoutGood}
-use Rattle.lists.proofs.Records.{read-length, room-length, flat-length, flat-read, every-read, read-flat, past-flat, each-flat}
-use Rattle.lists.proofs.Forms.{entry-form}
+use Rattle.resource.specs.Format.{entryWords, placeOf, placeWord, entryOf, entryHeld}
+use Rattle.word.proofs.Truth.{first, second, both}
+use Rattle.lists.specs.Layouts.{Layout, distinctEntries}
+use Rattle.lists.specs.Records.{every, each, countOf}
+use Rattle.lists.specs.LayoutFormat.{groupsOf, readEntry, entryGood, entryFits, readEntries, layoutHead, layoutFiled, decodeLayout, encodeLayout, layoutGood}
+use Rattle.lists.proofs.Records.{Joined, Carried, read-length, room-length, flat-read, every-read, carried}
+use Rattle.lists.proofs.Words.{four}
+use lib.Dec.{ltb}
+use Rattle.resource.specs.declared.types.ResourceBinding.{ResourceBinding}
+use Rattle.resource.specs.declared.types.BindGroupLayoutEntry.{BindGroupLayoutEntry}
+use Rattle.resource.proofs.EntryFormat.{place-read, entry-filed, entry-read, entry-held, entry-back}
+use Rattle.lists.specs.Places.{readPlace}
+
+-- ---- the four words of an entry
+
+entry-wide : (e : BindGroupLayoutEntry) → length (entryWords e) ≡ 4
+unfolding entryWords
+entry-wide e = refl
+
+entry-again : (e : BindGroupLayoutEntry) (ws : List ℕ) → entryHeld e ≡ true → readEntry (entryWords e ++ ws) ≡ e
+unfolding entryWords
+entry-again e ws h = entry-read e h
+
+entry-passed : (groups : ℕ) (e : BindGroupLayoutEntry) (ws : List ℕ) → entryFits groups e ≡ true → entryGood groups (entryWords e ++ ws) ≡ true
+unfolding entryWords
+entry-passed groups e ws h =
+    let k : entryHeld e ≡ true = search first in
+    let g : ltb (e .bind .group) groups ≡ true = search second in
+    let p : placeOf (placeWord (e .bind)) ≡ e .bind = place-read (e .bind) (search first) in
+    rw (entry-filed e k, ap (λ (b : ResourceBinding). b .group) p, g)
+
+pub entry-form : (groups : ℕ) → Joined 4 readEntry entryWords (entryGood groups) (entryFits groups)
+unfolding entryOf
+entry-form groups =
+    record {
+      wide = entry-wide;
+      written = λ ws h t. rw (entry-back (wordAt ws 0) (wordAt ws 1) (wordAt ws 2) (wordAt ws 3) (search first)) (sym (four ws h));
+      kept = λ ws t. both (entryHeld (readEntry ws)) (ltb (readPlace ws .group) groups)
+          (entry-held (wordAt ws 0) (wordAt ws 1) (wordAt ws 2) (wordAt ws 3) (search first)) (search second);
+      again = λ e ws t. entry-again e ws (search first);
+      passed = entry-passed groups;
+    }
 
 -- ---- what well-formed words say
 
@@ -98,32 +133,17 @@ module _ (L : Layout) (h : layoutGood L ≡ true) where
   unfolding encodeLayout countOf
   head-count = let g : Good L = good L h in omega (arith, g .short, g .groups)
 
-  entries-again : readEntries (length (L .entries)) (drop 1 (encodeLayout L)) ≡ L .entries
+  tail : Carried 4 readEntry (entryGood (L .groups)) (L .entries) (L .room) (drop 1 (encodeLayout L))
   unfolding encodeLayout
-  entries-again =
-      read-flat (entry-form (L .groups)) (L .entries) (L .room) (good L h .held)
-
-  room-again : past 4 (length (L .entries)) (drop 1 (encodeLayout L)) ≡ L .room
-  unfolding encodeLayout
-  room-again = past-flat (entry-form (L .groups)) (L .entries) (L .room)
-
-  entries-pass : each 4 (entryGood (L .groups)) (length (L .entries)) (drop 1 (encodeLayout L)) ≡ true
-  unfolding encodeLayout
-  entries-pass =
-      each-flat (entry-form (L .groups)) (L .entries) (L .room) (good L h .held)
+  tail = carried (entry-form (L .groups)) (L .entries) (L .room) (good L h .held)
 
   words-length : length (encodeLayout L) ≡ 1 + 4 * length (L .entries) + length (L .room)
   unfolding encodeLayout
-  words-length =
-      omega (
-        arith,
-        length-append (flat entryWords (L .entries)) (L .room),
-        flat-length (entry-form (L .groups)) (L .entries),
-      )
+  words-length = omega (arith, tail .long)
 
   pub decode-encode : decodeLayout (encodeLayout L) ≡ L
   unfolding decodeLayout
-  decode-encode = rw (head-groups, head-count, entries-again, room-again)
+  decode-encode = rw (head-groups, head-count, tail .again, tail .rest)
 
   pub filed-encode : layoutFiled (encodeLayout L) ≡ true
   unfolding layoutFiled layoutHead
@@ -133,8 +153,8 @@ module _ (L : Layout) (h : layoutGood L ≡ true) where
         head-groups,
         head-count,
         head-kind,
-        entries-again,
-        entries-pass,
+        tail .again,
+        tail .pass,
         le-leb (length (encodeLayout L)) 1024 (omega (arith, words-length, g .short)),
         le-leb (L .groups) 8 (g .groups),
         le-leb (1 + 4 * length (L .entries)) (length (encodeLayout L)) (omega (arith, words-length)),

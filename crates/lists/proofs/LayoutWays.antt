@@ -1,25 +1,24 @@
 -- The code's ways through a layout list.
-use Prim.Native.Nat.{ℕ, zero, suc, _+_, _*_, _%_, _<_, _≤_}
+use Prim.Native.Nat.{ℕ, _+_, _*_, _<_, _≤_}
 use native.Mathlib.Omega.{arith}
-use mathlib.Core.Path.{_≡_, refl, sym, ap, _∙_}
+use mathlib.Core.Path.{_≡_, sym, _∙_}
 use mathlib.Core.Bool.{Bool, true, false, not, _&&_}
 use mathlib.Core.List.{List}
 use lib.Dec.{eqb, leb, ltb}
-use lib.ListN.{length, drop, getD}
+use lib.ListN.{length, drop}
 use lib.Seq.{drop-drop}
 use borrow.Author.Tests.{not-false, leb-true}
-use Rattle.word.specs.Words.{wordAt, kindOf, contentOf, bits}
-use Rattle.resource.specs.Format.{placeOf, entryFiledAt, entryAt, entryOf}
+use Rattle.word.specs.Words.{wordAt, kindOf, bits}
+use Rattle.resource.specs.Format.{entryFiledAt, entryAt, entryOf}
 use Rattle.resource.specs.declared.types.ResourceBinding.{ResourceBinding}
 use Rattle.resource.specs.declared.types.BindGroupLayoutEntry.{BindGroupLayoutEntry}
 use Rattle.word.proofs.Truth.{second}
-use Rattle.lists.specs.Meaning.{placeFrom, distinctPlaces, distinctEntries, entryPlaces, findEntry, foundBelow, entryNth, emptyEntry}
-use Rattle.lists.specs.Format.{records, each, countOf, groupsOf, readPlace, places, readEntry, entryGood, readEntries, layoutHead, layoutFiled, decodeLayout}
-use Rattle.lists.specs.declared.types.Found.{Found}
-use Rattle.lists.specs.declared.types.Found.the-variants.{At}
+use Rattle.lists.specs.Places.{placeFrom, distinctPlaces, foundBelow, places}
+use Rattle.lists.specs.Layouts.{distinctEntries, entryPlaces, findEntry, entryNth, emptyEntry}
+use Rattle.lists.specs.Records.{each, countOf}
+use Rattle.lists.specs.LayoutFormat.{groupsOf, readEntry, entryGood, readEntries, layoutHead, layoutFiled, decodeLayout}
+use Rattle.lists.specs.declared.found.Found.{Found}
 use Rattle.lists.proofs.Records.{read-length, read-mapped, nth-record}
-use Rattle.lists.proofs.PlaceLaws.{found-nth}
-use Rattle.lists.proofs.PlaceWays.{content-place}
 use Rattle.lists.proofs.LayoutLists.{filed}
 use Rattle.lists.proofs.LayoutLaws.{nth-getD}
 use Rattle.lists.proofs.Words.{here, there}
@@ -64,6 +63,10 @@ pub entry-found : (l : List ℕ) (n : ℕ) (place : ResourceBinding) (r : Found)
 unfolding decodeLayout
 entry-found l n place r e h = rw (← e, entry-places n (drop 1 l)) h
 
+-- no two entries have one place
+pub entries-differ : (l : List ℕ) (n : ℕ) → layoutFiled l ≡ true → n ≡ countOf l → distinctPlaces (places 4 n (drop 1 l)) ≡ true
+entries-differ l n f e = rw e (rw (entry-places (countOf l) (drop 1 l)) at (filed l f .distinct))
+
 pub entries-counted : (l : List ℕ) → length (decodeLayout l .entries) ≡ countOf l
 unfolding decodeLayout
 entries-counted l = read-length 4 readEntry (countOf l) (drop 1 l)
@@ -71,34 +74,14 @@ entries-counted l = read-length 4 readEntry (countOf l) (drop 1 l)
 pub entry-below : (l : List ℕ) (n : ℕ) (r : Found) → n ≡ countOf l → foundBelow n r ≡ true → foundBelow (length (decodeLayout l .entries)) r ≡ true
 entry-below l n r e h = rw (entries-counted l, ← e) h
 
--- the entry at a position, sought by the content of its place's word
-pub near-found : (l : List ℕ) (n i place c : ℕ) → layoutFiled l ≡ true → n ≡ countOf l → i < n → c ≡ contentOf place
-    → wordAt l (1 + 4 * i) % 0x800_0000 ≡ c → At i ≡ findEntry (placeOf place) (decodeLayout l)
-unfolding decodeLayout
-near-found l n i place c f e h ec q =
-    let ps = places 4 (countOf l) (drop 1 l) in
-    let k : i < countOf l = omega arith in
-    let d : distinctPlaces ps ≡ true = rw (entry-places (countOf l) (drop 1 l)) at (filed l f .distinct) in
-    let g : getD ps i (placeOf place) ≡ placeOf place
-    = nth-record 4 readPlace (countOf l) i (drop 1 l) (placeOf place) k
-    ∙ rw (drop-drop (4 * i) 1 l, here l (1 + 4 * i)) (sym (content-place (wordAt l (1 + 4 * i))) ∙ ap placeOf (q ∙ ec) ∙ content-place place) in
-    let z : 0 + i ≡ i = omega arith in
-    rw (entry-places (countOf l) (drop 1 l)) (sym (rw (g, z) at (found-nth ps 0 i (placeOf place) d (omega (arith, read-length 4 readPlace (countOf l) (drop 1 l))))))
-
-pub groups-decoded : (l : List ℕ) (r : ℕ) → r ≡ groupsOf l → r ≡ decodeLayout l .groups
-unfolding decodeLayout
-groups-decoded l r h = h
+pub groups-decoded : (l : List ℕ) (w : ℕ) → w ≡ wordAt l 0 → bits 26 16 w ≡ decodeLayout l .groups
+unfolding decodeLayout groupsOf
+groups-decoded l w e = rw e
 
 -- ---- the entry at a position
 
 pub nth-read : (n i : ℕ) (ws : List ℕ) → i < n → entryNth (readEntries n ws) i ≡ readEntry (drop (4 * i) ws)
 nth-read n i ws h = nth-getD (readEntries n ws) i ∙ nth-record 4 readEntry n i ws emptyEntry h
-
-nth-past : (n i : ℕ) (ws : List ℕ) → n ≤ i → entryNth (readEntries n ws) i ≡ emptyEntry
-unfolding entryNth records
-nth-past zero i ws h = refl
-nth-past (suc n) zero ws h = absurd (omega arith)
-nth-past (suc n) (suc i) ws h = nth-past n i (drop 4 ws) (omega arith)
 
 module _ (l : List ℕ) (i n : ℕ) (e : n ≡ countOf l) where
   pub entry-read : (r : BindGroupLayoutEntry) → i < n → r ≡ entryAt l (1 + 4 * i) → r ≡ entryNth (decodeLayout l .entries) i
@@ -112,7 +95,3 @@ module _ (l : List ℕ) (i n : ℕ) (e : n ≡ countOf l) where
         there l (1 + 4 * i) 2,
         there l (1 + 4 * i) 3,
       ) f
-
-  pub entry-past : n ≤ i → emptyEntry ≡ entryNth (decodeLayout l .entries) i
-  unfolding decodeLayout
-  entry-past h = sym (nth-past (countOf l) i (drop 1 l) (omega arith))

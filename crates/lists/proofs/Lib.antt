@@ -1,4 +1,3 @@
-pub mod Examples
 pub mod Ways
 pub mod Words
 pub mod Records
@@ -6,7 +5,6 @@ pub mod BitWays
 pub mod PlaceLaws
 pub mod PlaceWays
 pub mod MarkLaws
-pub mod Forms
 pub mod LayoutLists
 pub mod LayoutLaws
 pub mod SizeLists
@@ -20,3 +18,6 @@ pub mod StageWays
 pub mod InsertLaws
 pub mod OutWords
 pub mod OutStores
+pub mod LayoutExamples
+pub mod SizeExamples
+pub mod StageExamples

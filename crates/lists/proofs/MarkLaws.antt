@@ -15,9 +15,9 @@ use Rattle.word.specs.Words.{wordAt, bits}
 use Rattle.word.proofs.Truth.{by-test, never}
 use Rattle.resource.specs.Format.{placeOf}
 use Rattle.resource.specs.declared.types.ResourceBinding.{ResourceBinding}
-use Rattle.lists.specs.Meaning.{samePlace, placeIn, distinctPlaces, every}
+use Rattle.lists.specs.Places.{samePlace, placeIn, distinctPlaces, readPlace, places}
+use Rattle.lists.specs.Records.{every, countOf, records}
 use Rattle.lists.specs.Marks.{slot, marked, bitOf, taken}
-use Rattle.lists.specs.Format.{records, countOf, readPlace, places}
 use Rattle.lists.proofs.Words.{here}
 use Rattle.lists.proofs.PlaceLaws.{same-place-eq}
 use Rattle.lists.proofs.PlaceWays.{content-place}

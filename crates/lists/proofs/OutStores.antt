@@ -3,9 +3,9 @@ use Prim.Native.Nat.{ℕ, zero, suc, _+_, _-_, _*_, _%_, _^_, _<_, _≤_}
 use native.Mathlib.Omega.{arith}
 use mathlib.Core.Path.{_≡_, refl, sym, ap, _∙_}
 use mathlib.Core.Bool.{Bool, true, false}
-use mathlib.Core.List.{List, [], _∷_, _++_, append-assoc}
-use lib.ListN.{length, take, drop, set, length-append, length-drop, length-set, take-append-drop}
-use lib.Seq.{drop-drop, drop-at, take-append-add, length-take-le, getD-set-same}
+use mathlib.Core.List.{List, [], _∷_, _++_}
+use lib.ListN.{length, take, drop, set, length-append, length-drop, length-set}
+use lib.Seq.{drop-drop, length-take-le, getD-set-same}
 use borrow.Author.Tests.{eqb-true}
 use Rattle.word.specs.Choice.{pick}
 use Rattle.word.specs.Words.{wordAt, kindOf, contentOf, bits, ofKind}
@@ -14,49 +14,14 @@ use Rattle.varying.specs.declared.Located.{Located}
 use Rattle.varying.specs.declared.Payload.{Payload}
 use Rattle.word.proofs.Truth.{first, second}
 use Rattle.varying.proofs.Joined.{payload-written, location-written, var-written, var-filed, var-read}
-use Rattle.lists.specs.Meaning.{StageIo, every, rising, insert, inserted, varyingAt, isProvided}
-use Rattle.lists.specs.Format.{put, past, records, each, flat, countOf, primitiveCode, readLocated, locatedGood, readVaryings}
-use Rattle.lists.specs.Format.{outFiled, decodeStage, encodeStage, outGood}
-use Rattle.lists.specs.declared.types.PrimitiveIndex.{PrimitiveIndex}
-use Rattle.lists.proofs.Words.{here, there, put-put}
+use Rattle.lists.specs.StageLists.{StageIo, rising, insert, inserted, varyingAt, isProvided}
+use Rattle.lists.specs.Records.{every, put, past, each, flat, countOf, records}
+use Rattle.lists.specs.StageListFormat.{primitiveCode, readLocated, locatedGood, readVaryings, outFiled, decodeStage, encodeStage, outGood}
+use Rattle.lists.specs.declared.stage_types.PrimitiveIndex.{PrimitiveIndex}
+use Rattle.lists.proofs.Words.{here, there, two-at, drop-put, put-put, put-after, put-own, put-kept}
 use Rattle.lists.proofs.Records.{read-length, room-length, left-cons, left-none, each-cons, each-nth, first-passes, rest-passes, past-drop, flat-append, flat-length, take-read}
-use Rattle.lists.proofs.Forms.{two, located-form}
-use Rattle.lists.proofs.StageLists.{Filed, filed, is-good, code-back, decode-encode, filed-encode, good-decode}
+use Rattle.lists.proofs.StageLists.{located-form, Filed, filed, is-good, code-back, decode-encode, filed-encode, good-decode}
 use Rattle.lists.proofs.InsertLaws.{lastFrom, insert-last, insert-before, insert-over, insert-behind, insert-length, longer, good-inserted}
-
--- ---- words written at a position
-
--- the two words at a position, and what lies behind
-pub two-at : (l : List ℕ) (at : ℕ) → at + 2 ≤ length l → drop at l ≡ wordAt l at ∷ wordAt l (at + 1) ∷ drop (at + 2) l
-two-at l at h = two (drop at l) (omega (arith, length-drop at l)) ∙ rw (here l at, there l at 1, drop-drop 2 at l)
-
-put-behind : (l p : List ℕ) (at : ℕ) → at ≤ length l → drop (at + length p) (put l at p) ≡ drop (at + length p) l
-unfolding put
-put-behind l p at h =
-    let n : length (take at l ++ p) ≡ at + length p = length-append (take at l) p ∙ rw (length-take-le at l h) in
-    ap (drop (at + length p)) (sym (append-assoc (take at l) p (drop (at + length p) l))) ∙ drop-at (take at l ++ p) (drop (at + length p) l) (at + length p) n
-
--- words written as they stand, and others behind them
-put-after : (l q : List ℕ) (at j : ℕ) → at + j ≤ length l → put l at (take j (drop at l) ++ q) ≡ put l (at + j) q
-unfolding put
-put-after l q at j h =
-    let n : length (take at l) ≡ at = length-take-le at l (omega arith) in
-    let m : length (take j (drop at l)) ≡ j = length-take-le j (drop at l) (omega (arith, length-drop at l)) in
-    let t : take (at + j) l ≡ take at l ++ take j (drop at l) = rw (n, take-append-drop at l) at (take-append-add (take at l) (drop at l) j) in
-    let e : at + length (take j (drop at l) ++ q) ≡ at + j + length q = rw (length-append (take j (drop at l)) q, m) (omega arith) in
-    rw (e, t, append-assoc (take j (drop at l)) q (drop (at + j + length q) l))
-    (sym (append-assoc (take at l) (take j (drop at l)) (q ++ drop (at + j + length q) l)))
-
-put-own : (l q : List ℕ) (at : ℕ) → at + 2 ≤ length l → put l at (wordAt l at ∷ wordAt l (at + 1) ∷ q) ≡ put l (at + 2) q
-put-own l q at h = rw (two-at l at h) at (put-after l q at 2 h)
-
--- two words written, and those behind as they stand
-put-kept : (l : List ℕ) (at j a b : ℕ) → at + 2 + j ≤ length l → put l at (a ∷ b ∷ take j (drop (at + 2) l)) ≡ put l at (a ∷ b ∷ [])
-unfolding put
-put-kept l at j a b h =
-    let n : length (take j (drop (at + 2) l)) ≡ j = length-take-le j (drop (at + 2) l) (omega (arith, length-drop (at + 2) l)) in
-    let e : at + suc (suc j) ≡ at + 2 + j = omega arith in
-    rw (n, e, ← drop-drop j (at + 2) l, take-append-drop j (drop (at + 2) l))
 
 -- ---- records moved up
 
@@ -69,7 +34,7 @@ module _ (l goal : List ℕ) (at k a b : ℕ) (inv : goal ≡ put l at (a ∷ b 
       let q = wordAt l at ∷ wordAt l (at + 1) ∷ take j (drop (at + 2) l) in
       let n : length (take j (drop (at + 2) l)) ≡ j = length-take-le j (drop (at + 2) l) (omega (arith, length-drop (at + 2) l)) in
       let p : put (put l at (a ∷ b ∷ [])) (at + 2) q ≡ put l at (a ∷ b ∷ q) = put-put l at (a ∷ b ∷ []) q (omega (arith, n)) in
-      let r : drop (at + 2) (put l at (a ∷ b ∷ [])) ≡ drop (at + 2) l = put-behind l (a ∷ b ∷ []) at (omega arith) in
+      let r : drop (at + 2) (put l at (a ∷ b ∷ [])) ≡ drop (at + 2) l = drop-put l at (a ∷ b ∷ []) (omega arith) in
       inv ∙ rw (e, two-at l at (omega arith), em, ec, ed, r) (sym p)
 
   pub shift-ended : (m : List ℕ) → k ≡ 0 → m ≡ put l at (a ∷ b ∷ []) → m ≡ goal

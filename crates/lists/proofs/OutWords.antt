@@ -13,8 +13,8 @@ use Rattle.varying.specs.declared.Payload.{Payload}
 use Rattle.varying.specs.declared.Payload.the-variants as Pay
 use Rattle.word.proofs.Truth.{below-all}
 use Rattle.varying.proofs.Joined.{kind-back, flag-back}
-use Rattle.lists.specs.Format.{primitiveCode}
-use Rattle.lists.specs.declared.types.PrimitiveIndex.{PrimitiveIndex}
+use Rattle.lists.specs.StageListFormat.{primitiveCode}
+use Rattle.lists.specs.declared.stage_types.PrimitiveIndex.{PrimitiveIndex}
 
 pub primitive-told : (p q : PrimitiveIndex) (x : ℕ) → p ≡ q → x ≡ ofKind 11 (2 ^ 25 * primitiveCode q) → x ≡ ofKind 11 (2 ^ 25 * primitiveCode p)
 primitive-told p q x e h = rw e h

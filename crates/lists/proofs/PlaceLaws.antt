@@ -9,8 +9,8 @@ use borrow.Author.Tests.{eqb-true, eq-eqb}
 use Rattle.word.specs.Choice.{pick}
 use Rattle.resource.specs.declared.types.ResourceBinding.{ResourceBinding}
 use Rattle.word.proofs.Truth.{first, second, by-test, never}
-use Rattle.lists.specs.Meaning.{samePlace, placeFrom, placeIn, distinctPlaces}
-use Rattle.lists.specs.declared.types.Found.the-variants.{At}
+use Rattle.lists.specs.Places.{samePlace, placeFrom, placeIn, distinctPlaces}
+use Rattle.lists.specs.declared.found.Found.the-variants.{At}
 
 pub same-place-eq : (a b : ResourceBinding) → samePlace a b ≡ true → a ≡ b
 same-place-eq a b h =

@@ -1,52 +1,29 @@
 -- The code's ways through places.
 use Prim.Native.Nat.{ℕ, _+_, _-_, _*_, _%_, _<_, _≤_, _^_}
 use native.Mathlib.Omega.{arith}
-use native.Mathlib.Nat.{mul-le-mul-right}
+use native.Mathlib.Nat.{mul-suc, mul-le-mul-left, mul-le-mul-right}
 use mathlib.Core.Path.{_≡_, refl, sym, ap, _∙_}
 use mathlib.Core.Bool.{Bool, true, false}
 use mathlib.Core.List.{List, [], _∷_}
-use lib.ListN.{drop}
-use borrow.Author.Tests.{eq-eqb}
+use lib.ListN.{drop, getD}
+use lib.Seq.{drop-drop}
+use borrow.Author.Tests.{eq-eqb, ltb-true}
 use Rattle.word.specs.Choice.{pick}
 use Rattle.word.specs.Words.{wordAt, contentOf, bits}
 use Rattle.word.proofs.Truth.{by-test}
-use Rattle.resource.specs.Format.{placeOf, placeWord, placeHeld}
+use Rattle.resource.specs.Format.{placeOf}
 use Rattle.resource.specs.declared.types.ResourceBinding.{ResourceBinding}
-use Rattle.resource.proofs.EntryFormat.{place-read}
-use Rattle.lists.specs.Meaning.{samePlace, placeFrom, placeIn}
-use Rattle.lists.specs.Format.{readPlace, places}
-use Rattle.lists.specs.declared.types.Found.{Found}
-use Rattle.lists.specs.declared.types.Found.the-variants.{At, Nothing}
-use Rattle.lists.proofs.Records.{one-less, left-cons, left-none}
+use Rattle.lists.specs.Places.{samePlace, placeFrom, placeIn, distinctPlaces, foundBelow, readPlace, places}
+use Rattle.lists.specs.declared.found.Found.{Found}
+use Rattle.lists.specs.declared.found.Found.the-variants.{At, Nothing}
+use Rattle.lists.proofs.Records.{one-less, read-length, nth-record, left-cons, left-none}
 use Rattle.lists.proofs.Words.{here}
-use Rattle.lists.proofs.PlaceLaws.{same-place-eq}
+use Rattle.lists.proofs.PlaceLaws.{same-place-eq, found-nth}
 
 -- ---- a place sought
 
 pub sought-begins : (place : ResourceBinding) (width n : ℕ) (ws : List ℕ) → placeFrom place (places width n ws) 0 ≡ placeFrom place (places width (n - 0) ws) 0
 sought-begins place width n ws = let e : n - 0 ≡ n = omega arith in rw e
-
-module _ (width : ℕ) (l : List ℕ) (n i at : ℕ) (place : ResourceBinding) (goal : Found) (inv : goal ≡ placeFrom place (places width (n - i) (drop at l)) i) where
-  module _ (p : ResourceBinding) (b : Bool) (h : i < n) (ep : p ≡ placeOf (wordAt l at)) (eb : b ≡ samePlace p place) where
-    same-here : samePlace (placeOf (wordAt l at)) place ≡ b
-    same-here = ap (λ q. samePlace q place) (sym ep) ∙ sym eb
-
-    pub sought-found : b ≡ true → At i ≡ goal
-    unfolding placeFrom
-    sought-found t =
-        let z : n - i ≡ 0 → ⊥ = λ e. omega arith in
-        sym (inv ∙ rw (left-cons width readPlace l (n - i) at z, here l at, same-here, t))
-
-    pub sought-onward : b ≡ false → goal ≡ placeFrom place (places width (n - (i + 1)) (drop (at + width) l)) (i + 1)
-    unfolding placeFrom
-    sought-onward t =
-        let z : n - i ≡ 0 → ⊥ = λ e. omega arith in
-        let k : n - i - 1 ≡ n - (i + 1) = omega arith in
-        inv ∙ rw (left-cons width readPlace l (n - i) at z, here l at, same-here, t, k)
-
-  pub sought-nowhere : n ≤ i → Nothing ≡ goal
-  unfolding placeFrom
-  sought-nowhere h = let z : n - i ≡ 0 = omega arith in sym (inv ∙ rw (left-none width readPlace (n - i) (drop at l) z))
 
 -- ---- a place sought by the content of its word
 
@@ -73,16 +50,24 @@ module _ (w content : ℕ) (h : content < 2 ^ 27) where
       absurd (n (omega arith)))
       (λ f. f)
 
-module _ (width : ℕ) (l : List ℕ) (n i at content : ℕ) (goal : Found) (inv : goal ≡ placeFrom (placeOf content) (places width (n - i) (drop at l)) i)
-    (h : i < n) (held : content < 2 ^ 27) where
-  pub content-found : wordAt l at % 0x800_0000 ≡ content → At i ≡ goal
-  content-found e =
-      sought-found width l n i at (placeOf content) goal inv (placeOf (wordAt l at)) true h refl (sym (content-same (wordAt l at) content held e)) refl
+module _ (width : ℕ) (l : List ℕ) (n i at content : ℕ) (goal : Found) (inv : goal ≡ placeFrom (placeOf content) (places width (n - i) (drop at l)) i) where
+  module _ (h : i < n) (held : content < 2 ^ 27) where
+    some-left : n - i ≡ 0 → ⊥
+    some-left e = omega arith
 
-  pub content-onward : (wordAt l at % 0x800_0000 ≡ content → ⊥)
-      → goal ≡ placeFrom (placeOf content) (places width (n - (i + 1)) (drop (at + width) l)) (i + 1)
-  content-onward e =
-      sought-onward width l n i at (placeOf content) goal inv (placeOf (wordAt l at)) false h refl (sym (content-other (wordAt l at) content held e)) refl
+    pub content-found : wordAt l at % 0x800_0000 ≡ content → At i ≡ goal
+    unfolding placeFrom
+    content-found e = sym (inv ∙ rw (left-cons width readPlace l (n - i) at some-left, here l at, content-same (wordAt l at) content held e))
+
+    pub content-onward : (wordAt l at % 0x800_0000 ≡ content → ⊥) → goal ≡ placeFrom (placeOf content) (places width (n - (i + 1)) (drop (at + width) l)) (i + 1)
+    unfolding placeFrom
+    content-onward e =
+        let k : n - i - 1 ≡ n - (i + 1) = omega arith in
+        inv ∙ rw (left-cons width readPlace l (n - i) at some-left, here l at, content-other (wordAt l at) content held e, k)
+
+  pub content-nowhere : n ≤ i → Nothing ≡ goal
+  unfolding placeFrom
+  content-nowhere h = let z : n - i ≡ 0 = omega arith in sym (inv ∙ rw (left-none width readPlace (n - i) (drop at l) z))
 
 -- the records lie within the words
 module _ (width n m : ℕ) where
@@ -99,30 +84,54 @@ module _ (width n m : ℕ) where
         let s : width * (n - i) ≡ width * (n - (i + 1)) + width = rw e at (one-less width (n - i) (λ z. omega arith)) in
         omega arith
 
-module _ (width n m : ℕ) (w : width ≤ 4) (h : n < 2 ^ 32) (k : 2 ^ 60 ≤ m) where
-  pub sought-fit : width * n < m
-  sought-fit = let q : width * n ≤ 4 * n = mul-le-mul-right n w in omega arith
+-- a word tells the place that its content tells
+pub content-tells : (ps : List ResourceBinding) (r : Found) (w c : ℕ) → c ≡ contentOf w → r ≡ placeFrom (placeOf c) ps 0 → r ≡ placeFrom (placeOf w) ps 0
+content-tells ps r w c e f =
+    let g : bits 26 23 c ≡ bits 26 23 w = omega arith in
+    let n : bits 22 0 c ≡ bits 22 0 w = omega arith in
+    rw (g, n) at f
 
-  pub sought-end-fits : (from : ℕ) → from < 2 ^ 32 → from + width * n < m
-  sought-end-fits from f = let q : width * n ≤ 4 * n = mul-le-mul-right n w in omega arith
+-- ---- a position that is tried first: no other record has its place
 
--- a place is the one that its word tells, and a word tells the place that its content tells
-module _ (ps : List ResourceBinding) (r : Found) (w : ℕ) where
-  pub content-tells : (c : ℕ) → c ≡ contentOf w → r ≡ placeFrom (placeOf c) ps 0 → r ≡ placeFrom (placeOf w) ps 0
-  content-tells c e f =
-      let g : bits 26 23 c ≡ bits 26 23 w = omega arith in
-      let n : bits 22 0 c ≡ bits 22 0 w = omega arith in
-      rw (g, n) at f
+module _ (width n i : ℕ) (h : i < n) where
+  before-next : width * i + width ≤ width * n
+  before-next = rw (← mul-suc width i) (mul-le-mul-left width (omega arith))
 
-  pub word-tells : (place : ResourceBinding) → place ≡ placeOf w → r ≡ placeFrom place ps 0 → r ≡ placeFrom (placeOf w) ps 0
-  word-tells place e f = rw (← e) f
+  pub near-inside : (m : ℕ) → 0 < width → 1 + width * n ≤ m → 1 + width * i < m
+  near-inside m o b = omega (arith, before-next)
 
-module _ (place : ResourceBinding) (b : Bool) (h : b ≡ placeHeld place) (t : b ≡ true) where
-  pub held-told : placeHeld place ≡ true
-  held-told = sym h ∙ t
+  module _ (m : ℕ) (w : width ≤ 4) (k : n < 2 ^ 32) (b : 2 ^ 60 ≤ m) where
+    near-low : width * i < 2 ^ 34
+    near-low = let q : width * i ≤ 4 * i = mul-le-mul-right i w in omega arith
 
-  pub place-told : (ps : List ResourceBinding) (r : Found) (w : ℕ) → w ≡ placeWord place → r ≡ placeFrom (placeOf w) ps 0 → r ≡ placeFrom place ps 0
-  place-told ps r w e f = f ∙ ap (λ q. placeFrom q ps 0) (ap placeOf e ∙ place-read place held-told)
+    pub near-scaled : width * i < m
+    near-scaled = omega (arith, near-low)
+
+    pub near-placed : 1 + width * i < m
+    near-placed = omega (arith, near-low)
+
+    pub near-bytes : (1 + width * i) * 4 < m
+    near-bytes = omega (arith, near-low)
+
+  pub near-record : (l : List ℕ) (content : ℕ) → distinctPlaces (places width n (drop 1 l)) ≡ true → wordAt l (1 + width * i) % 0x800_0000 ≡ content
+      → At i ≡ placeFrom (placeOf content) (places width n (drop 1 l)) 0
+  near-record l content d q =
+      let ps = places width n (drop 1 l) in
+      let g : getD ps i (placeOf content) ≡ placeOf content
+      = nth-record width readPlace n i (drop 1 l) (placeOf content) h
+      ∙ rw (drop-drop (width * i) 1 l, here l (1 + width * i)) (sym (content-place (wordAt l (1 + width * i))) ∙ ap placeOf q) in
+      let z : 0 + i ≡ i = omega arith in
+      sym (rw (g, z) at (found-nth ps 0 i (placeOf content) d (omega (arith, read-length width readPlace n (drop 1 l)))))
+
+-- ---- a position that was found
+
+module _ (n i : ℕ) (f : Found) (h : foundBelow n f ≡ true) (e : f ≡ At i) where
+  pub found-inside : i < n
+  found-inside = ltb-true i n (rw e at h)
+
+  -- and its word can be read
+  pub found-bytes : n * 4 < 2 ^ 63 → i * 4 < 2 ^ 64
+  found-bytes k = omega (arith, found-inside)
 
 -- ---- a place among others
 
@@ -146,8 +155,3 @@ module _ (place : ResourceBinding) (ps : List ResourceBinding) (f : Found) (e : 
 
   pub place-lacks : f ≡ Nothing → false ≡ placeIn place ps
   place-lacks h = rw (sought-in place ps 0, ← e, h)
-
--- ---- the place at a position
-
-pub read-place : (ws : List ℕ) (at w : ℕ) (p : ResourceBinding) → w ≡ wordAt ws at → p ≡ placeOf w → p ≡ placeOf (wordAt ws at)
-read-place ws at w p e h = rw (← e) h

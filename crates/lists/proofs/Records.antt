@@ -8,10 +8,10 @@ use mathlib.Core.Bool.{Bool, true, false, false≢true}
 use mathlib.Core.List.{List, [], _∷_, _++_, append-assoc, append-nil, map}
 use lib.ListN.{length, take, drop, getD, set, length-drop, length-append}
 use lib.Seq.{drop-drop, take-at, drop-at, set-append-left}
+use borrow.Author.Tests.{le-leb, lt-leb}
 use Rattle.word.specs.Choice.{pick}
-use Rattle.lists.specs.Meaning.{every}
-use Rattle.lists.specs.Format.{past, records, each, flat, put}
-use Rattle.lists.proofs.Words.{set-behind}
+use Rattle.lists.specs.Records.{fits, every, past, each, flat, put, records}
+use Rattle.lists.proofs.Words.{put-next, set-behind}
 
 -- ---- a test, and then the rest
 
@@ -70,6 +70,17 @@ past-drop width (suc n) ws =
 pub room-length : (width n : ℕ) (ws : List ℕ) → length (past width n ws) ≡ length ws - width * n
 room-length width n ws = ap length (past-drop width n ws) ∙ length-drop (width * n) ws
 
+-- the free room behind records that begin at a position
+module _ (first width n : ℕ) (ws : List ℕ) (h : first + width * n ≤ length ws) where
+  pub room-left : first + width * n + length (past width n (drop first ws)) ≡ length ws
+  room-left = omega (arith, room-length width n (drop first ws), length-drop first ws)
+
+  pub room-lacks : length ws < first + width * n + width → fits width (past width n (drop first ws)) ≡ false
+  room-lacks k = lt-leb width (length (past width n (drop first ws))) (omega (arith, room-left))
+
+  pub room-fits : first + width * n + width ≤ length ws → fits width (past width n (drop first ws)) ≡ true
+  room-fits k = le-leb width (length (past width n (drop first ws))) (omega (arith, room-left))
+
 module _ (width : ℕ) (test : List ℕ → Bool) where
   pub each-cons : (l : List ℕ) (k at : ℕ) → (k ≡ 0 → ⊥) → each width test k (drop at l) ≡ pick (test (drop at l)) (each width test (k - 1) (drop (at + width) l)) false
   unfolding each
@@ -118,6 +129,13 @@ pub record Joined {A : Type 0} (width : ℕ) (read : List ℕ → A) (words : A 
   pub again : (a : A) (ws : List ℕ) → held a ≡ true → read (words a ++ ws) ≡ a
   pub passed : (a : A) (ws : List ℕ) → held a ≡ true → test (words a ++ ws) ≡ true
 
+-- words that carry records, with free room behind them
+pub record Carried {A : Type 0} (width : ℕ) (read : List ℕ → A) (test : List ℕ → Bool) (p : List A) (r ws : List ℕ) : Type 0 where
+  pub again : records width read (length p) ws ≡ p
+  pub rest : past width (length p) ws ≡ r
+  pub pass : each width test (length p) ws ≡ true
+  pub long : length ws ≡ width * length p + length r
+
 pub flat-append : {A : Type 0} (words : A → List ℕ) (p q : List A) → flat words (p ++ q) ≡ flat words p ++ flat words q
 unfolding flat
 flat-append words [] q = refl
@@ -153,7 +171,7 @@ module _ {A : Type 0} {width : ℕ} {read : List ℕ → A} {words : A → List 
   behind-words a ws = drop-at (words a) ws width (J .wide a)
 
   -- what was written is read again, and the rest lies behind it
-  pub read-flat : (p : List A) (r : List ℕ) → every held p ≡ true → records width read (length p) (flat words p ++ r) ≡ p
+  read-flat : (p : List A) (r : List ℕ) → every held p ≡ true → records width read (length p) (flat words p ++ r) ≡ p
   unfolding flat records every
   read-flat [] r t = refl
   read-flat (a ∷ p) r t =
@@ -165,14 +183,14 @@ module _ {A : Type 0} {width : ℕ} {read : List ℕ → A} {words : A → List 
         read-flat p r (rest-passes (held a) (every held p) t),
       )
 
-  pub past-flat : (p : List A) (r : List ℕ) → past width (length p) (flat words p ++ r) ≡ r
+  past-flat : (p : List A) (r : List ℕ) → past width (length p) (flat words p ++ r) ≡ r
   unfolding flat past
   past-flat [] r = refl
   past-flat (a ∷ p) r =
       ap (λ l. past width (length p) (drop width l)) (append-assoc (words a) (flat words p) r)
       ∙ (ap (past width (length p)) (behind-words a (flat words p ++ r)) ∙ past-flat p r)
 
-  pub each-flat : (p : List A) (r : List ℕ) → every held p ≡ true → each width test (length p) (flat words p ++ r) ≡ true
+  each-flat : (p : List A) (r : List ℕ) → every held p ≡ true → each width test (length p) (flat words p ++ r) ≡ true
   unfolding flat each every
   each-flat [] r t = refl
   each-flat (a ∷ p) r t =
@@ -183,6 +201,15 @@ module _ {A : Type 0} {width : ℕ} {read : List ℕ → A} {words : A → List 
       )
       (each-flat p r (rest-passes (held a) (every held p) t))
 
+  pub carried : (p : List A) (r : List ℕ) → every held p ≡ true → Carried width read test p r (flat words p ++ r)
+  carried p r t =
+      record {
+        again = read-flat p r t;
+        rest = past-flat p r;
+        pass = each-flat p r t;
+        long = length-append (flat words p) r ∙ rw (flat-length p);
+      }
+
   -- ---- written over
 
   module _ (n : ℕ) (ws : List ℕ) (h : width * n ≤ length ws) (t : each width test n ws ≡ true) where
@@ -192,7 +219,7 @@ module _ {A : Type 0} {width : ℕ} {read : List ℕ → A} {words : A → List 
         ap (take (width * n)) (sym (flat-read n ws h t)) ∙ take-at (flat words (records width read n ws)) (past width n ws) (width * n) e
 
     -- one more record behind the others
-    pub put-last : (a : A) → put ws (width * n) (words a) ≡ flat words (records width read n ws ++ (a ∷ [])) ++ drop width (past width n ws)
+    put-last : (a : A) → put ws (width * n) (words a) ≡ flat words (records width read n ws ++ (a ∷ [])) ++ drop width (past width n ws)
     unfolding put flat
     put-last a =
         let b : drop (width * n + width) ws ≡ drop width (past width n ws)
@@ -206,8 +233,15 @@ module _ {A : Type 0} {width : ℕ} {read : List ℕ → A} {words : A → List 
           append-assoc (flat words (records width read n ws)) (words a) (drop width (past width n ws)),
         )
 
+    -- under a head that counts it
+    pub put-more : (w v : ℕ) (a : A) → set (put (w ∷ ws) (1 + width * n) (words a)) 0 v ≡ v ∷ (flat words (records width read n ws ++ (a ∷ [])) ++ drop width (past width n ws))
+    put-more w v a = rw (put-next w ws (width * n) (words a), put-last a)
+
+    pub count-more : (a : A) → length (records width read n ws ++ (a ∷ [])) ≡ n + 1
+    count-more a = length-append (records width read n ws) (a ∷ []) ∙ rw (read-length width read n ws)
+
   -- one word of a record
-  pub set-flat : (p : List A) (r : List ℕ) (i j v : ℕ) (a d : A) → i < length p → j < width → words a ≡ set (words (getD p i d)) j v
+  set-flat : (p : List A) (r : List ℕ) (i j v : ℕ) (a d : A) → i < length p → j < width → words a ≡ set (words (getD p i d)) j v
       → set (flat words p ++ r) (width * i + j) v ≡ flat words (set p i a) ++ r
   unfolding flat
   set-flat [] r i j v a d h k e = absurd (omega arith)
@@ -219,3 +253,10 @@ module _ {A : Type 0} {width : ℕ} {read : List ℕ → A} {words : A → List 
       let z : width * suc i + j ≡ length (words x) + (width * i + j) = rw (mul-suc, J .wide x) (omega arith) in
       rw (z, append-assoc (words x) (flat words p) r, set-behind (words x) (flat words p ++ r) (width * i + j) v, set-flat p r i j v a d (omega arith) k e)
       (sym (append-assoc (words x) (flat words (set p i a)) r))
+
+  pub set-read : (n i j v : ℕ) (ws : List ℕ) (a d : A) → width * n ≤ length ws → each width test n ws ≡ true → i < n → j < width
+      → words a ≡ set (words (getD (records width read n ws) i d)) j v
+      → set ws (width * i + j) v ≡ flat words (set (records width read n ws) i a) ++ past width n ws
+  set-read n i j v ws a d h t k m e =
+      let b : i < length (records width read n ws) = omega (arith, read-length width read n ws) in
+      ap (λ l. set l (width * i + j) v) (sym (flat-read n ws h t)) ∙ set-flat (records width read n ws) (past width n ws) i j v a d b m e

@@ -1,18 +1,59 @@
 -- A size list and its words: what is well formed is exactly what the writer makes.
-use Prim.Native.Nat.{ℕ, _+_, _*_, _≤_}
+use Prim.Native.Nat.{ℕ, _+_, _*_, _≤_, _^_, _<_}
 use native.Mathlib.Omega.{arith}
-use mathlib.Core.Path.{_≡_}
-use mathlib.Core.Bool.{true}
-use mathlib.Core.List.{List, [], _∷_}
-use lib.ListN.{length, drop, length-append}
-use borrow.Author.Tests.{eqb-true, leb-true, le-leb}
-use Rattle.word.specs.Words.{wordAt, kindOf, bits, ofKind}
+use mathlib.Core.Path.{_≡_, refl, sym}
+use mathlib.Core.Bool.{true, not}
+use mathlib.Core.List.{List, [], _∷_, _++_}
+use lib.ListN.{length, drop}
+use borrow.Author.Tests.{eqb-true, leb-true, le-leb, ltb-true, lt-ltb}
+use Rattle.word.specs.Words.{wordAt, kindOf, bits, ofKind, contentOf}
 use Rattle.word.proofs.Truth.{first, second}
-use Rattle.lists.specs.Meaning.{Sizes, every, distinctSizes}
-use Rattle.lists.specs.Format.{past, records, each, flat, countOf, readSize, sizeGood, sizeWords, sizeHeld, readSizes}
-use Rattle.lists.specs.Format.{sizesHead, sizesFiled, decodeSizes, encodeSizes, sizesGood}
-use Rattle.lists.proofs.Records.{read-length, room-length, flat-length, flat-read, every-read, read-flat, past-flat, each-flat}
-use Rattle.lists.proofs.Forms.{size-form}
+use Rattle.lists.specs.Sizes.{Sizes, distinctSizes}
+use Rattle.lists.specs.Records.{every, each, countOf, records}
+use Rattle.lists.specs.SizeFormat.{readSize, sizeGood, sizeWords, sizeHeld, readSizes, sizesHead, sizesFiled, decodeSizes, encodeSizes, sizesGood}
+use Rattle.lists.proofs.Records.{Joined, Carried, read-length, room-length, flat-read, every-read, carried}
+use Rattle.lists.proofs.Words.{two}
+use lib.Dec.{eqb}
+use Rattle.resource.specs.Format.{placeHeld, sizeFiled}
+use Rattle.resource.proofs.ReadLaws.{place-held}
+use Rattle.resource.proofs.EntryFormat.{place-filed, place-read, place-back}
+use Rattle.lists.specs.declared.size_record.SizeRecord.{SizeRecord}
+
+-- ---- the two words of a record
+
+pub size-written : (w : ℕ) → sizeFiled w ≡ true → ofKind 6 (contentOf w) ≡ w
+size-written w h = let k : kindOf w ≡ 6 = search (eqb-true, first) in omega arith
+
+size-kept : (ws : List ℕ) → sizeGood ws ≡ true → sizeHeld (readSize ws) ≡ true
+size-kept ws h =
+    let n : not (eqb (contentOf (wordAt ws 1)) 0) ≡ true = search second in
+    rw (place-held (wordAt ws 0), lt-ltb (contentOf (wordAt ws 1)) (2 ^ 27) (omega arith), n)
+
+size-again : (s : SizeRecord) (ws : List ℕ) → sizeHeld s ≡ true → readSize (sizeWords s ++ ws) ≡ s
+size-again s ws h =
+    let p : placeHeld (s .bind) ≡ true = search first in
+    let l : s .size < 2 ^ 27 = search (ltb-true, first, second) in
+    let c : contentOf (ofKind 6 (s .size)) ≡ s .size = omega arith in
+    rw (place-read (s .bind) p, c)
+
+size-passed : (s : SizeRecord) (ws : List ℕ) → sizeHeld s ≡ true → sizeGood (sizeWords s ++ ws) ≡ true
+size-passed s ws h =
+    let p : placeHeld (s .bind) ≡ true = search first in
+    let l : s .size < 2 ^ 27 = search (ltb-true, first, second) in
+    let n : not (eqb (s .size) 0) ≡ true = search second in
+    let c : contentOf (ofKind 6 (s .size)) ≡ s .size = omega arith in
+    let k : kindOf (ofKind 6 (s .size)) ≡ 6 = omega arith in
+    rw (place-filed (s .bind) p, k, c, n)
+
+pub size-form : Joined 2 readSize sizeWords sizeGood sizeHeld
+size-form =
+    record {
+      wide = λ s. refl;
+      written = λ ws h t. rw (place-back (wordAt ws 0) (search first), size-written (wordAt ws 1) (search second)) (sym (two ws h));
+      kept = size-kept;
+      again = size-again;
+      passed = size-passed;
+    }
 
 -- ---- what well-formed words say
 
@@ -87,25 +128,17 @@ module _ (S : Sizes) (h : sizesGood S ≡ true) where
   unfolding encodeSizes countOf
   head-count = omega (arith, good S h .short)
 
-  records-again : readSizes (length (S .records)) (drop 1 (encodeSizes S)) ≡ S .records
+  tail : Carried 2 readSize sizeGood (S .records) (S .room) (drop 1 (encodeSizes S))
   unfolding encodeSizes
-  records-again = read-flat size-form (S .records) (S .room) (good S h .held)
-
-  room-again : past 2 (length (S .records)) (drop 1 (encodeSizes S)) ≡ S .room
-  unfolding encodeSizes
-  room-again = past-flat size-form (S .records) (S .room)
-
-  records-pass : each 2 sizeGood (length (S .records)) (drop 1 (encodeSizes S)) ≡ true
-  unfolding encodeSizes
-  records-pass = each-flat size-form (S .records) (S .room) (good S h .held)
+  tail = carried size-form (S .records) (S .room) (good S h .held)
 
   words-length : length (encodeSizes S) ≡ 1 + 2 * length (S .records) + length (S .room)
   unfolding encodeSizes
-  words-length = omega (arith, length-append (flat sizeWords (S .records)) (S .room), flat-length size-form (S .records))
+  words-length = omega (arith, tail .long)
 
   pub decode-encode : decodeSizes (encodeSizes S) ≡ S
   unfolding decodeSizes
-  decode-encode = rw (head-count, records-again, room-again)
+  decode-encode = rw (head-count, tail .again, tail .rest)
 
   pub filed-encode : sizesFiled (encodeSizes S) ≡ true
   unfolding sizesFiled sizesHead
@@ -115,8 +148,8 @@ module _ (S : Sizes) (h : sizesGood S ≡ true) where
         head-count,
         head-rest,
         head-kind,
-        records-again,
-        records-pass,
+        tail .again,
+        tail .pass,
         le-leb (length (encodeSizes S)) 1024 (omega (arith, words-length, g .short)),
         le-leb (1 + 2 * length (S .records)) (length (encodeSizes S)) (omega (arith, words-length)),
         g .distinct,

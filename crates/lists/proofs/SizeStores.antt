@@ -1,47 +1,33 @@
 -- What the code's stores into a size list make of it.
-use Prim.Native.Nat.{ℕ, suc, _+_, _-_, _*_, _%_, _^_, _<_, _≤_, max}
+use Prim.Native.Nat.{ℕ, suc, _+_, _-_, _*_, _^_, _<_, _≤_, max}
 use native.Mathlib.Omega.{arith}
 use mathlib.Core.Path.{_≡_, sym, ap, _∙_}
-use mathlib.Core.Bool.{Bool, true, false}
+use mathlib.Core.Bool.{true, false}
 use mathlib.Core.List.{List, [], _∷_, _++_}
-use lib.ListN.{length, drop, getD, set, length-append, length-drop, length-map}
-use lib.Seq.{drop-drop}
+use lib.ListN.{length, drop, getD, set}
 use lib.Dec.{eqb}
-use borrow.Author.Tests.{eqb-true, eqb-false, ne-eqb, not-true, le-leb, lt-leb}
+use borrow.Author.Tests.{eqb-true, eqb-false, not-true}
 use Rattle.word.specs.Words.{wordAt, kindOf, contentOf, bits, ofKind}
-use Rattle.resource.specs.Format.{placeFiled, placeOf, placeWord, placeHeld, sizeFiled}
+use Rattle.resource.specs.Format.{placeFiled, placeOf, sizeFiled}
 use Rattle.resource.specs.declared.types.ResourceBinding.{ResourceBinding}
 use Rattle.resource.proofs.ReadLaws.{place-held}
-use Rattle.resource.proofs.EntryFormat.{place-filed, place-read, place-back}
+use Rattle.resource.proofs.EntryFormat.{place-back}
 use Rattle.word.proofs.Truth.{first, second}
-use Rattle.lists.specs.Meaning.{Sizes, placeFrom, distinctPlaces, sizePlaces, sizeHas, sizeRecord, sizeFits, recorded}
-use Rattle.lists.specs.Format.{put, past, records, each, flat, countOf, places, readPlace, readSize, readSizes, sizeGood, sizeWords}
-use Rattle.lists.specs.Format.{sizesFiled, decodeSizes, encodeSizes, sizesGood}
-use Rattle.lists.specs.declared.types.SizeRecord.{SizeRecord}
-use Rattle.lists.specs.declared.types.Found.{Found}
-use Rattle.lists.specs.declared.types.Found.the-variants.{At, Nothing}
-use Rattle.lists.proofs.Words.{put-next, here, there}
-use Rattle.lists.proofs.Records.{read-length, room-length, nth-record, each-nth, flat-read, put-last, set-flat}
-use Rattle.lists.proofs.Forms.{size-written, size-form}
-use Rattle.lists.proofs.PlaceLaws.{FoundAt, found-there, found-nth}
-use Rattle.lists.proofs.PlaceWays.{place-found, place-lacks, content-place}
-use Rattle.lists.proofs.SizeLists.{Filed, filed, encode-decode, decode-encode, filed-encode, good-decode}
+use Rattle.lists.specs.Sizes.{sizePlaces, sizeHas, sizeRecord, sizeFits, recorded}
+use Rattle.lists.specs.Places.{foundBelow, placeFrom, distinctPlaces, places}
+use Rattle.lists.specs.Records.{fits, put, past, each, flat, countOf, records}
+use Rattle.lists.specs.SizeFormat.{readSize, readSizes, sizeGood, sizeWords, sizesFiled, decodeSizes, encodeSizes, sizesGood}
+use Rattle.lists.specs.declared.size_record.SizeRecord.{SizeRecord}
+use Rattle.lists.specs.declared.found.Found.{Found}
+use Rattle.lists.specs.declared.found.Found.the-variants.{At, Nothing}
+use Rattle.lists.proofs.Words.{there}
+use Rattle.lists.proofs.Records.{read-length, room-lacks, room-fits, nth-record, each-nth, put-more, count-more, set-read}
+use Rattle.lists.proofs.PlaceWays.{place-found, place-lacks, found-inside}
+use Rattle.lists.proofs.SizeLists.{size-written, size-form, Filed, filed, encode-decode, decode-encode, filed-encode, good-decode}
 use Rattle.lists.proofs.SizeLaws.{raised, noRecord, raised-set, length-raised, good-recorded}
 use Rattle.lists.proofs.SizeWays.{size-places}
 
--- ---- a position that is tried first: no other record has its place
-
-module _ (s : List ℕ) (n i content : ℕ) (h : i < n) where
-  pub near-record : distinctPlaces (places 2 n (drop 1 s)) ≡ true → wordAt s (1 + 2 * i) % 0x800_0000 ≡ content
-      → At i ≡ placeFrom (placeOf content) (places 2 n (drop 1 s)) 0
-  near-record d q =
-      let ps = places 2 n (drop 1 s) in
-      let g : getD ps i (placeOf content) ≡ placeOf content
-      = nth-record 2 readPlace n i (drop 1 s) (placeOf content) h
-      ∙ rw (drop-drop (2 * i) 1 s, here s (1 + 2 * i)) (sym (content-place (wordAt s (1 + 2 * i))) ∙ ap placeOf q) in
-      let z : 0 + i ≡ i = omega arith in
-      sym (rw (g, z) at (found-nth ps 0 i (placeOf content) d (omega (arith, read-length 2 readPlace n (drop 1 s)))))
-
+-- no two records have one place
 pub sizes-differ : (s : List ℕ) (n : ℕ) → sizesFiled s ≡ true → n ≡ countOf s → distinctPlaces (places 2 n (drop 1 s)) ≡ true
 sizes-differ s n f e = rw e (rw (size-places (countOf s) (drop 1 s)) at (filed s f .distinct))
 
@@ -65,27 +51,19 @@ module _ (s : List ℕ) (place : ResourceBinding) (n : ℕ) (r : Found) (en : n 
     pub size-fits : true ≡ sizeFits place (decodeSizes s)
     size-fits = rw size-has
 
-    size-below : i < n
-    unfolding decodeSizes
-    size-below =
-        let f : FoundAt place (sizePlaces (decodeSizes s .records)) 0 i (noRecord .bind) = found-there place (noRecord .bind) (sizePlaces (decodeSizes s .records)) 0 i size-there in
-        omega (arith, f .there, length-map (decodeSizes s .records) (λ (x : SizeRecord). x .bind), read-length 2 readSize (countOf s) (drop 1 s))
+-- the words of a record that was found
+module _ (s : List ℕ) (n i : ℕ) (r : Found) (f : sizesFiled s ≡ true) (en : n ≡ countOf s) (b : foundBelow n r ≡ true) (h : r ≡ At i) where
+  pub index-inside : 2 * i + 2 < length s
+  index-inside = omega (arith, filed s f .holds, found-inside n i r b h)
 
-    module _ (f : sizesFiled s ≡ true) where
-      pub index-inside : 2 * i + 2 < length s
-      index-inside = omega (arith, filed s f .holds, size-below)
+  pub index-scaled : 2 * i < 2 ^ 64
+  index-scaled = omega (arith, index-inside, filed s f .short)
 
-      pub index-scaled : 2 * i < 2 ^ 64
-      index-scaled = omega (arith, filed s f .holds, filed s f .short, size-below)
+  pub index-placed : 2 * i + 2 < 2 ^ 64
+  index-placed = omega (arith, index-inside, filed s f .short)
 
-      pub index-next : i + 1 < 2 ^ 64
-      index-next = omega (arith, filed s f .holds, filed s f .short, size-below)
-
-      pub index-few : i + 1 < 2 ^ 16
-      index-few = omega (arith, filed s f .holds, filed s f .short, size-below)
-
-      pub index-placed : 2 * i + 2 < 2 ^ 64
-      index-placed = omega (arith, filed s f .holds, filed s f .short, size-below)
+  pub index-next : (m : ℕ) → 2 ^ 16 ≤ m → i + 1 < m
+  index-next m k = omega (arith, index-inside, filed s f .short)
 
 -- ---- a record raised
 
@@ -95,12 +73,10 @@ raised-tail : (n i size : ℕ) (ws : List ℕ) → 2 * n ≤ length ws → each 
 raised-tail n i size ws h t k =
     let ss = readSizes n ws in
     let v = ofKind 6 (max (contentOf (wordAt ws (2 * i + 1))) size) in
-    let b : i < length ss = omega (arith, read-length 2 readSize n ws) in
     let z : getD ss i noRecord .size ≡ contentOf (wordAt ws (2 * i + 1))
     = ap (λ (x : SizeRecord). x .size) (nth-record 2 readSize n i ws noRecord k) ∙ rw (there ws (2 * i) 1) in
     let c : sizeWords (raised size (getD ss i noRecord)) ≡ set (sizeWords (getD ss i noRecord)) 1 v = rw z in
-    ap (λ l. set l (2 * i + 1) v) (sym (flat-read size-form n ws h t))
-    ∙ set-flat size-form ss (past 2 n ws) i 1 v (raised size (getD ss i noRecord)) noRecord b (omega arith) c
+    set-read size-form n i 1 v ws (raised size (getD ss i noRecord)) noRecord h t k (omega arith) c
 
 raised-words : (s : List ℕ) (place : ResourceBinding) (i size : ℕ) → sizesFiled s ≡ true → placeFrom place (sizePlaces (decodeSizes s .records)) 0 ≡ At i
     → i < countOf s → sizeHas place (decodeSizes s .records) ≡ true
@@ -135,29 +111,33 @@ size-kind s i f k =
     rw (there (drop 1 s) (2 * i) 1, there s 1 (2 * i + 1), z) at q
 
 pub size-raised : (s s′ : List ℕ) (p z n i : ℕ) (r : Found) → sizesFiled s ≡ true → sizeFiled z ≡ true → n ≡ countOf s
-    → r ≡ placeFrom (placeOf p) (places 2 n (drop 1 s)) 0 → r ≡ At i → s′ ≡ set s (2 * i + 2) (max (wordAt s (2 * i + 2)) z)
+    → r ≡ placeFrom (placeOf p) (places 2 n (drop 1 s)) 0 → foundBelow n r ≡ true → r ≡ At i → s′ ≡ set s (2 * i + 2) (max (wordAt s (2 * i + 2)) z)
     → s′ ≡ encodeSizes (recorded (placeOf p) (contentOf z) (decodeSizes s))
-size-raised s s′ p z n i r f fz en er h e =
-    let b : i < countOf s = rw (← en) (size-below s (placeOf p) n r en er i h) in
+size-raised s s′ p z n i r f fz en er below h e =
+    let b : i < countOf s = rw (← en) (found-inside n i r below h) in
     let m : max (wordAt s (2 * i + 2)) z ≡ ofKind 6 (max (contentOf (wordAt s (2 * i + 2))) (contentOf z)) = omega (arith, size-kind s i f b, size-written z fz) in
     e ∙ rw m (raised-words s (placeOf p) i (contentOf z) f (size-there s (placeOf p) n r en er i h) b (size-has s (placeOf p) n r en er i h))
 
 -- ---- a new record
 
 module _ (s : List ℕ) (place : ResourceBinding) (size n : ℕ) (f : sizesFiled s ≡ true) (en : n ≡ countOf s) (new : sizeHas place (decodeSizes s .records) ≡ false) where
-  room-is : 1 + 2 * n + length (decodeSizes s .room) ≡ length s
+  room-lacking : length s < 1 + 2 * n + 2 → fits 2 (decodeSizes s .room) ≡ false
   unfolding decodeSizes
-  room-is = omega (arith, filed s f .holds, room-length 2 (countOf s) (drop 1 s), length-drop 1 s)
+  room-lacking h = room-lacks 1 2 (countOf s) s (filed s f .holds) (rw en at h)
+
+  room-there : 1 + 2 * n + 2 ≤ length s → fits 2 (decodeSizes s .room) ≡ true
+  unfolding decodeSizes
+  room-there h = room-fits 1 2 (countOf s) s (filed s f .holds) (rw en at h)
 
   pub push-lacks : length s < 1 + 2 * n + 2 → false ≡ sizeFits place (decodeSizes s)
-  push-lacks h = rw (new, lt-leb 2 (length (decodeSizes s .room)) (omega (arith, room-is)))
+  push-lacks h = rw (new, room-lacking h)
 
   pub push-fits : 1 + 2 * n + 2 ≤ length s → true ≡ sizeFits place (decodeSizes s)
-  push-fits h = rw (new, le-leb 2 (length (decodeSizes s .room)) (omega (arith, room-is)))
+  push-fits h = rw (new, room-there h)
 
   pub push-refused : length s < 1 + 2 * n + 2 → s ≡ encodeSizes (recorded place size (decodeSizes s))
   unfolding recorded
-  push-refused h = rw (new, lt-leb 2 (length (decodeSizes s .room)) (omega (arith, room-is))) (sym (encode-decode s f))
+  push-refused h = rw (new, room-lacking h) (sym (encode-decode s f))
 
 pub head-there : (s : List ℕ) → sizesFiled s ≡ true → 1 ≤ length s
 head-there s f = omega (arith, filed s f .holds)
@@ -179,10 +159,9 @@ pushed-words (w ∷ ws) place size f h =
     let y : bits 26 16 w ≡ 0 = t .rest in
     let n = bits 15 0 w in
     let few : 1 + 2 * n ≤ 1024 = omega (arith, t .short) in
-    let c : length (readSizes n ws ++ (sizeRecord place size ∷ [])) ≡ n + 1
-    = length-append (readSizes n ws) (sizeRecord place size ∷ []) ∙ rw (read-length 2 readSize n ws) in
+    let fit : 2 * n ≤ length ws = omega arith in
     let head : ofKind 20 (n + 1) ≡ w + 1 = omega arith in
-    rw (put-next w ws (2 * n) (sizeWords (sizeRecord place size)), c, head, put-last size-form n ws (omega arith) (t .good) (sizeRecord place size))
+    put-more size-form n ws fit (t .good) w (w + 1) (sizeRecord place size) ∙ rw (count-more size-form n ws fit (t .good) (sizeRecord place size), head)
 
 pub push-stored : (s s′ : List ℕ) (p z n w : ℕ) → sizesFiled s ≡ true → n ≡ countOf s → placeFiled p ≡ true → sizeFiled z ≡ true
     → sizeHas (placeOf p) (decodeSizes s .records) ≡ false → w ≡ wordAt s 0 → 1 + 2 * n + 2 ≤ length s → s′ ≡ put s (1 + 2 * n) (p ∷ z ∷ [])
@@ -190,7 +169,7 @@ pub push-stored : (s s′ : List ℕ) (p z n w : ℕ) → sizesFiled s ≡ true 
 unfolding recorded
 push-stored s s′ p z n w f en fp fz new ew h e =
     let q : s′ ≡ put s (1 + 2 * countOf s) (sizeWords (sizeRecord (placeOf p) (contentOf z))) = rw (place-back p fp, size-written z fz, ← en) e in
-    rw (new, le-leb 2 (length (decodeSizes s .room)) (omega (arith, room-is s (placeOf p) (contentOf z) n f en new)), q, ew)
+    rw (new, room-there s (placeOf p) (contentOf z) n f en new h, q, ew)
     (pushed-words s (placeOf p) (contentOf z) f (rw en at h))
 
 -- ---- what holds of the words after either
@@ -209,32 +188,5 @@ module _ (s s′ : List ℕ) (p z : ℕ) (f : sizesFiled s ≡ true) (fz : sizeF
   record-filed = rw e (filed-encode (recorded (placeOf p) (contentOf z) (decodeSizes s)) record-good)
 
 pub raised-filed : (s s′ : List ℕ) (p z n i : ℕ) (r : Found) → sizesFiled s ≡ true → sizeFiled z ≡ true → n ≡ countOf s
-    → r ≡ placeFrom (placeOf p) (places 2 n (drop 1 s)) 0 → r ≡ At i → s′ ≡ set s (2 * i + 2) (max (wordAt s (2 * i + 2)) z) → sizesFiled s′ ≡ true
-raised-filed s s′ p z n i r f fz en er h e = record-filed s s′ p z f fz (size-raised s s′ p z n i r f fz en er h e)
-
--- ---- the words of a place and a size
-
-module _ (place : ResourceBinding) (size p : ℕ) (h : placeHeld place ≡ true) (o : 1 ≤ size) (l : size < 2 ^ 27) (e : p ≡ placeWord place) where
-  pub place-word-filed : placeFiled p ≡ true
-  place-word-filed = rw e (place-filed place h)
-
-  pub size-word-filed : sizeFiled (0x30000000 + size) ≡ true
-  size-word-filed =
-      let k : kindOf (0x30000000 + size) ≡ 6 = omega arith in
-      rw (k, ne-eqb (contentOf (0x30000000 + size)) 0 (λ z. omega arith))
-
-  place-is : placeOf p ≡ place
-  place-is = rw e (place-read place h)
-
-  size-is : contentOf (0x30000000 + size) ≡ size
-  size-is = omega arith
-
-  module _ (S : Sizes) where
-    pub words-fit : (r : Bool) → r ≡ sizeFits (placeOf p) S → r ≡ sizeFits place S
-    words-fit r f = rw place-is at f
-
-    pub words-encoded : (s : List ℕ) → s ≡ encodeSizes (recorded (placeOf p) (contentOf (0x30000000 + size)) S) → s ≡ encodeSizes (recorded place size S)
-    words-encoded s f = rw (place-is, size-is) at f
-
-    pub words-recorded : (T : Sizes) → T ≡ recorded (placeOf p) (contentOf (0x30000000 + size)) S → T ≡ recorded place size S
-    words-recorded T f = rw (place-is, size-is) at f
+    → r ≡ placeFrom (placeOf p) (places 2 n (drop 1 s)) 0 → foundBelow n r ≡ true → r ≡ At i → s′ ≡ set s (2 * i + 2) (max (wordAt s (2 * i + 2)) z) → sizesFiled s′ ≡ true
+raised-filed s s′ p z n i r f fz en er below h e = record-filed s s′ p z f fz (size-raised s s′ p z n i r f fz en er below h e)

@@ -9,8 +9,10 @@ use borrow.Author.Tests.{eq-eqb, ne-eqb, not-false, leb-true}
 use Rattle.word.specs.Words.{wordAt, kindOf, bits}
 use Rattle.resource.specs.Format.{sizeFiled}
 use Rattle.word.proofs.Truth.{second}
-use Rattle.lists.specs.Meaning.{distinctPlaces, distinctSizes, sizePlaces}
-use Rattle.lists.specs.Format.{countOf, places, readSize, sizeGood, readSizes, sizesHead}
+use Rattle.lists.specs.Places.{distinctPlaces, places}
+use Rattle.lists.specs.Sizes.{distinctSizes, sizePlaces}
+use Rattle.lists.specs.Records.{countOf}
+use Rattle.lists.specs.SizeFormat.{readSize, sizeGood, readSizes, sizesHead}
 use Rattle.lists.proofs.Records.{read-mapped}
 use Rattle.lists.proofs.Words.{here, there}
 

@@ -1,23 +1,39 @@
 -- A stage list and its words: what is well formed is exactly what the writer makes.
 use Prim.Native.Nat.{ℕ, _+_, _*_, _^_, _<_, _≤_}
 use native.Mathlib.Omega.{arith}
-use mathlib.Core.Path.{_≡_, refl, ap}
+use mathlib.Core.Path.{_≡_, refl, ap, sym}
 use mathlib.Core.Bool.{true}
 use mathlib.Core.List.{List, [], _∷_}
-use lib.Dec.{eqb, leb}
-use lib.ListN.{length, drop, length-append}
+use lib.Dec.{eqb, leb, ltb}
+use lib.ListN.{length, drop}
 use borrow.Author.Tests.{eqb-true, leb-true, ltb-true, le-leb, lt-ltb}
-use Rattle.word.specs.Words.{wordAt, kindOf, bits, ofKind}
-use Rattle.varying.specs.Format.{locatedWords, locatedHeld, payloadFiled, payloadWord, payloadHeld}
+use Rattle.word.specs.Words.{wordAt, kindOf, bits, ofKind, contentOf}
+use Rattle.varying.specs.Format.{locatedWords, locatedHeld, payloadFiled, payloadWord, payloadHeld, varFiled, varOf, varWord, varHeld, locationFiled}
 use Rattle.word.proofs.Truth.{first, second, both, below-all}
 use Rattle.varying.proofs.Joined.{payload-written, payload-held, payload-filed, payload-read}
-use Rattle.lists.specs.Meaning.{StageIo, every, rising}
-use Rattle.lists.specs.Format.{past, each, flat, countOf, primitiveAt, primitiveCode, readLocated, locatedGood, readVaryings}
-use Rattle.lists.specs.Format.{stageHead, outFiled, stageFiled, decodeStage, encodeStage, outGood, stageGood}
-use Rattle.lists.specs.declared.types.PrimitiveIndex.{PrimitiveIndex}
-use Rattle.lists.specs.declared.types.PrimitiveIndex.the-variants as Index
-use Rattle.lists.proofs.Records.{read-length, flat-length, flat-read, every-read, read-flat, past-flat, each-flat}
-use Rattle.lists.proofs.Forms.{located-form}
+use Rattle.lists.specs.StageLists.{StageIo, rising}
+use Rattle.lists.specs.Records.{every, each, countOf}
+use Rattle.lists.specs.StageListFormat.{primitiveAt, primitiveCode, readLocated, locatedGood, readVaryings}
+use Rattle.lists.specs.StageListFormat.{stageHead, outFiled, stageFiled, decodeStage, encodeStage, outGood, stageGood, readLocated, locatedGood}
+use Rattle.lists.specs.declared.stage_types.PrimitiveIndex.{PrimitiveIndex}
+use Rattle.lists.specs.declared.stage_types.PrimitiveIndex.the-variants as Index
+use Rattle.lists.proofs.Records.{Joined, Carried, read-length, flat-read, every-read, carried}
+use Rattle.lists.proofs.Words.{two}
+use Rattle.varying.proofs.Joined.{var-written, var-held, var-filed, var-read, location-written, location-filed, location-read}
+
+-- ---- the two words of a variable
+
+pub located-form : Joined 2 readLocated locatedWords locatedGood locatedHeld
+located-form =
+    record {
+      wide = λ v. refl;
+      written = λ ws h t. rw (location-written (wordAt ws 0) (search first), var-written (wordAt ws 1) (search second)) (sym (two ws h));
+      kept = λ ws t. both (ltb (contentOf (wordAt ws 0)) (2 ^ 27)) (varHeld (varOf (wordAt ws 1)))
+          (lt-ltb (contentOf (wordAt ws 0)) (2 ^ 27) (omega arith)) (var-held (wordAt ws 1) (search second));
+      again = λ v ws t. rw (location-read (v .location) (search (ltb-true, first)), var-read (v .var) (search second));
+      passed = λ v ws t. both (locationFiled (ofKind 12 (v .location))) (varFiled (varWord (v .var)))
+          (location-filed (v .location) (search (ltb-true, first))) (var-filed (v .var) (search second));
+    }
 
 -- ---- what well-formed words say
 
@@ -126,26 +142,18 @@ module _ (S : StageIo) (h : outGood S ≡ true) where
   unfolding encodeStage
   second-word = refl
 
-  varyings-again : readVaryings (length (S .varyings)) (drop 2 (encodeStage S)) ≡ S .varyings
+  tail : Carried 2 readLocated locatedGood (S .varyings) (S .room) (drop 2 (encodeStage S))
   unfolding encodeStage
-  varyings-again = read-flat located-form (S .varyings) (S .room) (good S h .held)
-
-  room-again : past 2 (length (S .varyings)) (drop 2 (encodeStage S)) ≡ S .room
-  unfolding encodeStage
-  room-again = past-flat located-form (S .varyings) (S .room)
-
-  varyings-pass : each 2 locatedGood (length (S .varyings)) (drop 2 (encodeStage S)) ≡ true
-  unfolding encodeStage
-  varyings-pass = each-flat located-form (S .varyings) (S .room) (good S h .held)
+  tail = carried located-form (S .varyings) (S .room) (good S h .held)
 
   words-length : length (encodeStage S) ≡ 2 + 2 * length (S .varyings) + length (S .room)
   unfolding encodeStage
-  words-length = omega (arith, length-append (flat locatedWords (S .varyings)) (S .room), flat-length located-form (S .varyings))
+  words-length = omega (arith, tail .long)
 
   pub decode-encode : decodeStage (encodeStage S) ≡ S
   unfolding decodeStage
   decode-encode =
-      rw (head-count, head-primitive, second-word, payload-read (S .payload) (good S h .payload), code-again (S .primitive), varyings-again, room-again)
+      rw (head-count, head-primitive, second-word, payload-read (S .payload) (good S h .payload), code-again (S .primitive), tail .again, tail .rest)
 
   pub filed-encode : outFiled (encodeStage S) ≡ true
   unfolding outFiled stageHead
@@ -161,8 +169,8 @@ module _ (S : StageIo) (h : outGood S ≡ true) where
         le-leb (length (S .varyings)) 63 (g .few),
         le-leb (2 + 2 * length (S .varyings)) (length (encodeStage S)) (omega (arith, words-length)),
         payload-filed (S .payload) (g .payload),
-        varyings-again,
-        varyings-pass,
+        tail .again,
+        tail .pass,
         g .rises,
       )
 

@@ -1,5 +1,5 @@
 -- The code's ways through a stage list.
-use Prim.Native.Nat.{ℕ, zero, suc, _+_, _-_, _*_, _%_, _^_, _<_, _≤_}
+use Prim.Native.Nat.{ℕ, zero, suc, _+_, _-_, _*_, _%_, _<_, _≤_}
 use native.Mathlib.Omega.{arith}
 use mathlib.Core.Path.{_≡_, refl, sym, _∙_}
 use mathlib.Core.Bool.{Bool, true, false, not, _&&_}
@@ -7,20 +7,21 @@ use mathlib.Core.List.{List, []}
 use lib.Dec.{eqb, leb, ltb}
 use lib.ListN.{length, drop}
 use lib.Seq.{drop-drop}
-use borrow.Author.Tests.{eq-eqb, ne-eqb, lt-ltb, le-ltb, leb-true, ltb-true, not-false}
+use borrow.Author.Tests.{eq-eqb, ne-eqb, lt-ltb, le-ltb, leb-true, not-false}
 use Rattle.word.specs.Choice.{pick}
 use Rattle.word.specs.Words.{wordAt, kindOf, contentOf, bits}
-use Rattle.varying.specs.Format.{locationFiled, varFiled, varOf, payloadFiled, payloadOf}
-use Rattle.varying.specs.declared.InterfaceVar.{InterfaceVar}
+use Rattle.varying.specs.Format.{locationFiled, varFiled, payloadFiled, payloadOf}
 use Rattle.varying.specs.declared.Payload.{Payload}
 use Rattle.word.proofs.Truth.{first, second}
-use Rattle.lists.specs.Meaning.{foundBelow, rising, varyingAt}
-use Rattle.lists.specs.Format.{records, countOf, primitiveAt, readLocated, locatedGood, readVaryings, variableFound, stageHead, outFiled, decodeStage}
-use Rattle.lists.specs.declared.types.Found.{Found}
-use Rattle.lists.specs.declared.types.Found.the-variants.{At, Nothing}
-use Rattle.lists.specs.declared.types.PrimitiveIndex.{PrimitiveIndex}
-use Rattle.lists.specs.declared.types.Provided.{Provided}
-use Rattle.lists.specs.declared.types.Provided.the-variants as Pro
+use Rattle.lists.specs.Places.{foundBelow}
+use Rattle.lists.specs.StageLists.{rising, varyingAt}
+use Rattle.lists.specs.Records.{records, countOf}
+use Rattle.lists.specs.StageListFormat.{primitiveAt, readLocated, locatedGood, readVaryings, variableFound, stageHead, outFiled, decodeStage}
+use Rattle.lists.specs.declared.found.Found.{Found}
+use Rattle.lists.specs.declared.found.Found.the-variants.{At}
+use Rattle.lists.specs.declared.stage_types.PrimitiveIndex.{PrimitiveIndex}
+use Rattle.lists.specs.declared.stage_types.Provided.{Provided}
+use Rattle.lists.specs.declared.stage_types.Provided.the-variants as Pro
 use Rattle.lists.proofs.Records.{read-length, nth-record, left-cons, left-none}
 use Rattle.lists.proofs.Words.{here, there}
 use Rattle.lists.proofs.StageLists.{filed}
@@ -104,20 +105,14 @@ module _ (l : List ℕ) (k at : ℕ) (goal : Bool) (inv : goal ≡ rising (readV
 -- ---- the variable at a location
 
 module _ (l : List ℕ) (k at location : ℕ) (goal : Provided) (inv : goal ≡ varyingAt location (readVaryings k (drop at l))) where
-  module _ (c : ℕ) (h : k ≡ 0 → ⊥) (ec : c ≡ contentOf (wordAt l at)) where
-    pub varying-hit : c ≡ location → variableFound l (At (at + 1)) ≡ goal
-    unfolding varyingAt
-    varying-hit q = sym (inv ∙ rw (left-cons 2 readLocated l k at h, here l at, there l at 1, ← ec, eq-eqb c location q))
+  pub varying-hit : (k ≡ 0 → ⊥) → wordAt l at % 0x800_0000 ≡ location → variableFound l (At (at + 1)) ≡ goal
+  unfolding varyingAt
+  varying-hit h q =
+      sym (inv ∙ rw (left-cons 2 readLocated l k at h, here l at, there l at 1, eq-eqb (contentOf (wordAt l at)) location q))
 
-    pub varying-miss : (c ≡ location → ⊥) → goal ≡ varyingAt location (readVaryings (k - 1) (drop (at + 2) l))
-    unfolding varyingAt
-    varying-miss q = inv ∙ rw (left-cons 2 readLocated l k at h, here l at, ← ec, ne-eqb c location q)
-
-  pub within-hit : (k ≡ 0 → ⊥) → wordAt l at % 0x800_0000 ≡ location → variableFound l (At (at + 1)) ≡ goal
-  within-hit h q = varying-hit (wordAt l at % 0x800_0000) h refl q
-
-  pub within-miss : (k ≡ 0 → ⊥) → (wordAt l at % 0x800_0000 ≡ location → ⊥) → goal ≡ varyingAt location (readVaryings (k - 1) (drop (at + 2) l))
-  within-miss h q = varying-miss (wordAt l at % 0x800_0000) h refl q
+  pub varying-miss : (k ≡ 0 → ⊥) → (wordAt l at % 0x800_0000 ≡ location → ⊥) → goal ≡ varyingAt location (readVaryings (k - 1) (drop (at + 2) l))
+  unfolding varyingAt
+  varying-miss h q = inv ∙ rw (left-cons 2 readLocated l k at h, here l at, ne-eqb (contentOf (wordAt l at)) location q)
 
   pub varying-ended : k ≡ 0 → Pro.Missing ≡ goal
   unfolding varyingAt
@@ -131,14 +126,6 @@ location-found l n location f e h = rw (← e) h
 -- a position found lies in the list
 pub within-below : (l : List ℕ) (k at : ℕ) → (k ≡ 0 → ⊥) → at + 2 * k ≤ length l → foundBelow (length l) (At (at + 1)) ≡ true
 within-below l k at h f = lt-ltb (at + 1) (length l) (omega arith)
-
--- and its word can be read
-module _ (n i : ℕ) (f : Found) (h : foundBelow n f ≡ true) (e : f ≡ At i) where
-  pub found-inside : i < n
-  found-inside = ltb-true i n (rw e at h)
-
-  pub found-bytes : n * 4 < 2 ^ 63 → i * 4 < 2 ^ 64
-  found-bytes k = omega (arith, found-inside)
 
 pub first-there : (l : List ℕ) → outFiled l ≡ true → 1 ≤ length l
 first-there l f = omega (arith, filed l f .holds)
@@ -163,10 +150,3 @@ module _ (l : List ℕ) (n : ℕ) (f : outFiled l ≡ true) (e : n ≡ countOf l
         let z : 2 + 2 * i + 1 ≡ 3 + 2 * i = omega arith in
         let a = varying-nth vs i (readLocated []) (filed l f .rises) (omega (arith, read-length 2 readLocated (countOf l) (drop 2 l))) in
         sym (rw (nth-record 2 readLocated (countOf l) i (drop 2 l) (readLocated []) k, drop-drop (2 * i) 2 l, here l (2 + 2 * i), there l (2 + 2 * i) 1, z, q) at a)
-
-module _ (l : List ℕ) (n location : ℕ) (f : Found) (en : n ≡ countOf l) (e : variableFound l f ≡ varyingAt location (readVaryings n (drop 2 l))) where
-  pub variable-found : (i y : ℕ) (v : InterfaceVar) → f ≡ At i → y ≡ wordAt l i → v ≡ varOf y → Pro.Var v ≡ varyingAt location (decodeStage l .varyings)
-  variable-found i y v q g h = rw (h, g) (rw q at (location-found l n location f en e))
-
-  pub variable-missing : f ≡ Nothing → Pro.Missing ≡ varyingAt location (decodeStage l .varyings)
-  variable-missing q = rw q at (location-found l n location f en e)

@@ -6,7 +6,7 @@ use mathlib.Core.List.{List}
 use lib.Dec.{leb}
 use lib.ListN.{drop}
 use borrow.Author.Tests.{not-true, not-false, le-leb}
-use Rattle.lists.specs.Format.{each}
+use Rattle.lists.specs.Records.{each}
 use Rattle.lists.proofs.Records.{each-cons, each-none}
 
 -- a test that a call answered: it fails, or what is left decides

@@ -1,3 +1,9 @@
-pub mod Meaning
-pub mod Format
+pub mod Records
+pub mod Places
 pub mod Marks
+pub mod Layouts
+pub mod LayoutFormat
+pub mod Sizes
+pub mod SizeFormat
+pub mod StageLists
+pub mod StageListFormat

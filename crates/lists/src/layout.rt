@@ -6,25 +6,18 @@ ghost use lib.ListN.{length, drop};
 ghost use Rattle.word.specs.Choice.{pick};
 ghost use Rattle.word.specs.Words.{wordAt};
 ghost use Rattle.resource.specs.Format.{placeOf, entryFiled, entryOf};
-ghost use Rattle.lists.specs.Meaning.{findEntry, foundBelow, entryNth, entryHas, fits, pushed, joined};
-ghost use Rattle.lists.specs.Format.{countOf, groupsOf, each, entryGood, entryFits, layoutHead, layoutFiled, decodeLayout, encodeLayout};
-use crate::heads::count;
+ghost use Rattle.lists.specs.Layouts.{findEntry, entryHas, pushed, joined};
+ghost use Rattle.lists.specs.Places.{foundBelow};
+ghost use Rattle.lists.specs.Records.{fits, countOf, each};
+ghost use Rattle.lists.specs.LayoutFormat.{groupsOf, entryGood, entryFits, layoutHead, layoutFiled, decodeLayout, encodeLayout};
+use crate::found::Found;
 use crate::heads::counted;
-use crate::heads::groups;
 use crate::places::distinct_places;
-use crate::places::find_place;
+use crate::places::find_near;
 use crate::places::find_within;
 use crate::stores::store_four;
-use crate::types::Found;
 use crate::visibility::join_bit;
-use resource::binding_codes::binding_word;
-use resource::binding_codes::least_word;
-use resource::entry_words::entry_at;
 use resource::entry_words::words_filed;
-use resource::resource_words::place_word;
-use resource::types::BindGroupLayoutEntry;
-use resource::types::BindingType;
-use resource::types::ResourceBinding;
 use word::content;
 use word::word;
 
@@ -90,15 +83,7 @@ pub fn layout_filed(l: &[u32]) -> bool
 pub fn group_count(l: &[u32]) -> u32
     ensures { λ r. ⌜ r ≡ decodeLayout (now (l .entry)) .groups ⌝ }
 {
-    groups(l)
-}
-
-// The position of the entry at a place.
-pub fn find_entry(l: &[u32], place: ResourceBinding) -> Found
-    ensures { λ r. ⌜ r ≡ findEntry place (decodeLayout (now (l .entry))) ⌝ }
-    ensures { λ r. ⌜ foundBelow (length (decodeLayout (now (l .entry)) .entries)) r ≡ true ⌝ }
-{
-    find_place(l, 1, count(l), 4, place)
+    word(l, 0) / 0x1_0000 % 0x800
 }
 
 // The position of the entry at the place that a word tells.
@@ -116,30 +101,7 @@ pub fn find_entry_near(l: &[u32], place: u32, near: usize) -> Found
     ensures { λ r. ⌜ r ≡ findEntry (placeOf place) (decodeLayout (now (l .entry))) ⌝ }
     ensures { λ r. ⌜ foundBelow (length (decodeLayout (now (l .entry)) .entries)) r ≡ true ⌝ }
 {
-    if near < counted(l) {
-        if l[1 + 4 * near] % 0x800_0000 == content(place) {
-            return Found::At { index: near };
-        }
-    }
-    find_entry_word(l, place)
-}
-
-// The entry at a position; past the last, one that serves nothing.
-pub fn entry(l: &[u32], index: usize) -> BindGroupLayoutEntry
-    ensures { λ r. ⌜ r ≡ entryNth (decodeLayout (now (l .entry)) .entries) index ⌝ }
-{
-    if index < count(l) {
-        return entry_at(l, 1 + 4 * index);
-    }
-    let bind = ResourceBinding {
-        group: 0,
-        binding: 0,
-    };
-    BindGroupLayoutEntry {
-        bind,
-        ty: BindingType::ExternalTexture,
-        visibility: 0,
-    }
+    find_near(l, counted(l), 4, content(place), near)
 }
 
 // One of the four words of the entry at a position.
@@ -175,28 +137,6 @@ pub fn push_words(l: &mut [u32], place: u32, ty: u32, least: u32, visibility: u3
     true
 }
 
-// A new entry at the end, or nothing where the free room is too small.
-pub fn push_entry(l: &mut [u32], e: BindGroupLayoutEntry) -> bool
-    requires { ⌜ layoutFiled (now l) ≡ true ⌝ }
-    requires { ⌜ entryFits (decodeLayout (now l) .groups) e ≡ true ⌝ }
-    requires { ⌜ entryHas (e .bind) (decodeLayout (now l) .entries) ≡ false ⌝ }
-    ensures { λ r. ⌜ r ≡ fits 4 (decodeLayout (now (l .entry)) .room) ⌝ }
-    ensures { λ r. ⌜ now (l .exit) ≡ encodeLayout (pick r (pushed (decodeLayout (now (l .entry))) e) (decodeLayout (now (l .entry)))) ⌝ }
-    ensures { λ r. ⌜ decodeLayout (now (l .exit)) ≡ pick r (pushed (decodeLayout (now (l .entry))) e) (decodeLayout (now (l .entry))) ⌝ }
-    ensures { λ r. ⌜ layoutFiled (now (l .exit)) ≡ true ⌝ }
-{
-    let bind = e.bind;
-    let ty = e.ty;
-    let visibility = 0x9800_0000 + e.visibility;
-    push_words(
-        l,
-        place_word(bind),
-        binding_word(ty),
-        least_word(ty),
-        visibility,
-    )
-}
-
 // A stage's bit joined to the visibility of the entry at a position.
 pub fn join_visibility(l: &mut [u32], index: usize, stage: u32)
     requires { ⌜ layoutFiled (now l) ≡ true ⌝ }
@@ -205,7 +145,7 @@ pub fn join_visibility(l: &mut [u32], index: usize, stage: u32)
     ensures { λ _. ⌜ decodeLayout (now (l .exit)) ≡ joined stage (decodeLayout (now (l .entry))) index ⌝ }
     ensures { λ _. ⌜ layoutFiled (now (l .exit)) ≡ true ⌝ }
 {
-    let at = 4 * index + 4;
+    let at = 1 + 4 * index + 3;
     let visibility = join_bit(content(word(l, at)), stage);
     l[at] = 0x9800_0000 + visibility;
 }

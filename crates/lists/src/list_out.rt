@@ -6,14 +6,15 @@ ghost use Prim.Native.Nat.{_+_, _*_, _<_, _≤_, _^_};
 ghost use lib.ListN.{length, take, drop, set};
 ghost use Rattle.word.specs.Words.{kindOf, contentOf};
 ghost use Rattle.varying.specs.Format.{varFiled, varOf, locatedHeld, locatedWords, payloadHeld};
-ghost use Rattle.lists.specs.Meaning.{rising, insert, inserted};
-ghost use Rattle.lists.specs.Format.{put, each, flat, locatedGood, readVaryings, outFiled, decodeStage, encodeStage};
+ghost use Rattle.lists.specs.StageLists.{rising, insert, inserted};
+ghost use Rattle.lists.specs.Records.{put, each, flat};
+ghost use Rattle.lists.specs.StageListFormat.{locatedGood, readVaryings, outFiled, decodeStage, encodeStage};
 use crate::out_words::payload_word;
 use crate::out_words::primitive_word;
 use crate::out_words::var_word;
 use crate::stage_io::location_at;
+use crate::stage_types::PrimitiveIndex;
 use crate::stores::store_two;
-use crate::types::PrimitiveIndex;
 use varying::Payload;
 use word::word;
 

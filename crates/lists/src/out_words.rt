@@ -4,12 +4,12 @@ ghost use mathlib.Core.Bool.{true};
 ghost use Prim.Native.Nat.{_*_, _^_};
 ghost use Rattle.word.specs.Words.{ofKind};
 ghost use Rattle.varying.specs.Format.{varOf, varWord, payloadHeld, payloadWord};
-ghost use Rattle.lists.specs.Format.{primitiveCode};
-use crate::types::PrimitiveIndex;
+ghost use Rattle.lists.specs.StageListFormat.{primitiveCode};
+use crate::stage_types::PrimitiveIndex;
 use varying::Payload;
 
 // The first word of a list that counts no variable yet.
-pub fn primitive_word(primitive: PrimitiveIndex) -> u32
+pub(crate) fn primitive_word(primitive: PrimitiveIndex) -> u32
     ensures { λ r. ⌜ r ≡ ofKind 11 (2 ^ 25 * primitiveCode primitive) ⌝ }
 {
     match primitive {

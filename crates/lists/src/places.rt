@@ -3,59 +3,15 @@ ghost use mathlib.Core.Path.{_≡_};
 ghost use mathlib.Core.Bool.{true};
 ghost use Prim.Native.Nat.{_+_, _*_, _<_, _≤_, _^_};
 ghost use lib.ListN.{length, drop};
-ghost use Rattle.word.specs.Words.{wordAt};
-ghost use Rattle.resource.specs.Format.{placeOf, placeHeld};
-ghost use Rattle.lists.specs.Meaning.{samePlace, placeFrom, placeIn, distinctPlaces, foundBelow, every};
+ghost use Rattle.resource.specs.Format.{placeOf};
+ghost use Rattle.lists.specs.Places.{placeFrom, placeIn, distinctPlaces, foundBelow, places};
+ghost use Rattle.lists.specs.Records.{every, countOf};
 ghost use Rattle.lists.specs.Marks.{slot, marked, bitOf};
-ghost use Rattle.lists.specs.Format.{countOf, places};
+use crate::found::Found;
 use crate::heads::counted;
-use crate::types::Found;
-use resource::resource_words::place_of;
-use resource::resource_words::place_word;
-use resource::types::ResourceBinding;
-use word::content;
-use word::word;
-
-fn same_place(a: ResourceBinding, b: ResourceBinding) -> bool
-    ensures { λ r. ⌜ r ≡ samePlace a b ⌝ }
-{
-    a.group == b.group && a.binding == b.binding
-}
-
-// Whether a place word can hold the place.
-fn place_held(place: ResourceBinding) -> bool
-    ensures { λ r. ⌜ r ≡ placeHeld place ⌝ }
-{
-    place.group < 16 && place.binding < 0x80_0000
-}
-
-// The place that stands at a position.
-pub fn place_at(l: &[u32], at: usize) -> ResourceBinding
-    ensures { λ r. ⌜ r ≡ placeOf (wordAt (now (l .entry)) at) ⌝ }
-{
-    place_of(word(l, at))
-}
-
-// Which of the records from a position on has the place, wherever they lie.
-fn find_plain(l: &[u32], from: usize, n: usize, width: usize, place: ResourceBinding) -> Found
-    requires { ⌜ (from < 2 ^ 32) × (n < 2 ^ 32) × (width ≤ 4) ⌝ }
-    ensures { λ r. ⌜ r ≡ placeFrom place (places width n (drop from (now (l .entry)))) 0 ⌝ }
-    ensures { λ r. ⌜ foundBelow n r ≡ true ⌝ }
-{
-    let mut at = from;
-    let mut i: usize = 0;
-    while i < n {
-        if same_place(place_at(l, at), place) {
-            return Found::At { index: i };
-        }
-        at += width;
-        i += 1;
-    }
-    Found::Nothing
-}
 
 // Which of the records has the place that a word's content tells, where all lie within the slice.
-pub(crate) fn find_within(l: &[u32], from: usize, n: usize, width: usize, content: u32) -> Found
+pub fn find_within(l: &[u32], from: usize, n: usize, width: usize, content: u32) -> Found
     requires { ⌜ (from < 2 ^ 32) × (n < 2 ^ 32) × (width ≤ 4) ⌝ }
     requires { ⌜ (0 < width) × (from + width * n ≤ length (now l)) × (content < 2 ^ 27) ⌝ }
     ensures { λ r. ⌜ r ≡ placeFrom (placeOf content) (places width n (drop from (now (l .entry)))) 0 ⌝ }
@@ -73,36 +29,19 @@ pub(crate) fn find_within(l: &[u32], from: usize, n: usize, width: usize, conten
     Found::Nothing
 }
 
-// Which of the records from a position on has the place that a word tells.
-fn find_word(l: &[u32], from: usize, n: usize, width: usize, place: u32) -> Found
-    requires { ⌜ (from < 2 ^ 32) × (n < 2 ^ 32) × (width ≤ 4) ⌝ }
-    ensures { λ r. ⌜ r ≡ placeFrom (placeOf place) (places width n (drop from (now (l .entry)))) 0 ⌝ }
+// The same among distinct places from the second word on. The record at a likely position is tried first.
+pub fn find_near(l: &[u32], n: usize, width: usize, content: u32, near: usize) -> Found
+    requires { ⌜ (n < 2 ^ 32) × (0 < width) × (width ≤ 4) × (1 + width * n ≤ length (now l)) × (content < 2 ^ 27) ⌝ }
+    requires { ⌜ distinctPlaces (places width n (drop 1 (now l))) ≡ true ⌝ }
+    ensures { λ r. ⌜ r ≡ placeFrom (placeOf content) (places width n (drop 1 (now (l .entry)))) 0 ⌝ }
     ensures { λ r. ⌜ foundBelow n r ≡ true ⌝ }
 {
-    if 0 < width {
-        if from + width * n <= l.len() {
-            return find_within(l, from, n, width, content(place));
+    if near < n {
+        if l[1 + width * near] % 0x800_0000 == content {
+            return Found::At { index: near };
         }
     }
-    find_plain(l, from, n, width, place_of(place))
-}
-
-// Which of the records from a position on has the place.
-pub(crate) fn find_place(
-    l: &[u32],
-    from: usize,
-    n: usize,
-    width: usize,
-    place: ResourceBinding,
-) -> Found
-    requires { ⌜ (from < 2 ^ 32) × (n < 2 ^ 32) × (width ≤ 4) ⌝ }
-    ensures { λ r. ⌜ r ≡ placeFrom place (places width n (drop from (now (l .entry)))) 0 ⌝ }
-    ensures { λ r. ⌜ foundBelow n r ≡ true ⌝ }
-{
-    if place_held(place) {
-        return find_word(l, from, n, width, place_word(place));
-    }
-    find_plain(l, from, n, width, place)
+    find_within(l, 1, n, width, content)
 }
 
 // Whether one of the records has the place that a word's content tells, where all lie within the slice.
@@ -199,7 +138,7 @@ fn bits_differ(l: &[u32], width: usize) -> bool
 }
 
 // Whether no two records have one place, where all lie within the slice. The places of a few mostly have bits that differ.
-pub(crate) fn distinct_places(l: &[u32], width: usize) -> bool
+pub fn distinct_places(l: &[u32], width: usize) -> bool
     requires { ⌜ (0 < width) × (width ≤ 4) × (1 + width * countOf (now l) ≤ length (now l)) ⌝ }
     ensures { λ r. ⌜ r ≡ distinctPlaces (places width (countOf (now (l .entry))) (drop 1 (now (l .entry)))) ⌝ }
 {

@@ -1,20 +1,19 @@
 // A size list: whether it is one, and a size recorded.
 ghost use mathlib.Core.Path.{_≡_};
 ghost use mathlib.Core.Bool.{true, false};
-ghost use Prim.Native.Nat.{_+_, _*_, _<_, _≤_, _^_};
+ghost use Prim.Native.Nat.{_+_, _*_, _<_, _≤_};
 ghost use lib.ListN.{length, drop};
 ghost use Rattle.word.specs.Words.{contentOf};
-ghost use Rattle.resource.specs.Format.{placeFiled, placeOf, placeHeld, sizeFiled};
-ghost use Rattle.lists.specs.Meaning.{placeFrom, distinctPlaces, foundBelow, sizeHas, sizeFits, recorded};
-ghost use Rattle.lists.specs.Format.{countOf, places, each, sizeGood, sizesHead, sizesFiled, decodeSizes, encodeSizes};
+ghost use Rattle.resource.specs.Format.{placeFiled, placeOf, sizeFiled};
+ghost use Rattle.lists.specs.Sizes.{sizeHas, sizeFits, recorded};
+ghost use Rattle.lists.specs.Records.{countOf, each};
+ghost use Rattle.lists.specs.SizeFormat.{sizeGood, sizesHead, sizesFiled, decodeSizes, encodeSizes};
+use crate::found::Found;
 use crate::heads::counted;
 use crate::places::distinct_places;
-use crate::places::find_within;
+use crate::places::find_near;
 use crate::stores::raise_word;
 use crate::stores::store_two;
-use crate::types::Found;
-use resource::resource_words::place_word;
-use resource::types::ResourceBinding;
 use word::content;
 use word::word;
 
@@ -95,21 +94,6 @@ fn push_size(s: &mut [u32], place: u32, size: u32) -> bool
     true
 }
 
-// Which of as many records has the place that a word's content tells, tried at a position first.
-fn find_near(s: &[u32], n: usize, content: u32, near: usize) -> Found
-    requires { ⌜ (n < 2 ^ 32) × (1 + 2 * n ≤ length (now s)) × (content < 2 ^ 27) ⌝ }
-    requires { ⌜ distinctPlaces (places 2 n (drop 1 (now s))) ≡ true ⌝ }
-    ensures { λ r. ⌜ r ≡ placeFrom (placeOf content) (places 2 n (drop 1 (now (s .entry)))) 0 ⌝ }
-    ensures { λ r. ⌜ foundBelow n r ≡ true ⌝ }
-{
-    if near < n {
-        if s[1 + 2 * near] % 0x800_0000 == content {
-            return Found::At { index: near };
-        }
-    }
-    find_within(s, 1, n, 2, content)
-}
-
 // The position that was noted.
 fn noted(next: &[u16; 1]) -> u16 {
     next[0]
@@ -125,7 +109,7 @@ pub fn record_words(s: &mut [u32], place: u32, size: u32, next: &mut [u16; 1]) -
     ensures { λ r. ⌜ decodeSizes (now (s .exit)) ≡ recorded (placeOf place) (contentOf size) (decodeSizes (now (s .entry))) ⌝ }
     ensures { λ r. ⌜ sizesFiled (now (s .exit)) ≡ true ⌝ }
 {
-    match find_near(s, counted(s), content(place), noted(next) as usize) {
+    match find_near(s, counted(s), 2, content(place), noted(next) as usize) {
         Found::At { index } => {
             next[0] = (index + 1) as u16;
             raise_word(s, 2 * index + 2, size);
@@ -133,18 +117,4 @@ pub fn record_words(s: &mut [u32], place: u32, size: u32, next: &mut [u16; 1]) -
         }
         Found::Nothing => push_size(s, place, size),
     }
-}
-
-// A size recorded at a place: the larger where it has a record, else a new one where there is room.
-pub fn record_size(s: &mut [u32], place: ResourceBinding, size: u64) -> bool
-    requires { ⌜ sizesFiled (now s) ≡ true ⌝ }
-    requires { ⌜ placeHeld place ≡ true ⌝ }
-    requires { ⌜ (1 ≤ size) × (size < 2 ^ 27) ⌝ }
-    ensures { λ r. ⌜ r ≡ sizeFits place (decodeSizes (now (s .entry))) ⌝ }
-    ensures { λ r. ⌜ now (s .exit) ≡ encodeSizes (recorded place size (decodeSizes (now (s .entry)))) ⌝ }
-    ensures { λ r. ⌜ decodeSizes (now (s .exit)) ≡ recorded place size (decodeSizes (now (s .entry))) ⌝ }
-    ensures { λ r. ⌜ sizesFiled (now (s .exit)) ≡ true ⌝ }
-{
-    let mut next: [u16; 1] = [0; 1];
-    record_words(s, place_word(place), 0x3000_0000 + size as u32, &mut next)
 }

@@ -5,13 +5,13 @@ ghost use Prim.Native.Nat.{_<_, _≤_, _+_, _*_, _^_};
 ghost use lib.ListN.{length, drop};
 ghost use Rattle.word.specs.Words.{wordAt, contentOf};
 ghost use Rattle.varying.specs.Format.{varFiled};
-ghost use Rattle.lists.specs.Meaning.{foundBelow, rising, varyingAt};
-ghost use Rattle.lists.specs.Format.{countOf, each, locatedGood, readVaryings, variableFound, stageHead, outFiled, stageFiled, decodeStage};
-use crate::heads::count;
+ghost use Rattle.lists.specs.Places.{foundBelow};
+ghost use Rattle.lists.specs.StageLists.{rising, varyingAt};
+ghost use Rattle.lists.specs.Records.{countOf, each};
+ghost use Rattle.lists.specs.StageListFormat.{locatedGood, readVaryings, variableFound, stageHead, outFiled, stageFiled, decodeStage};
+use crate::found::Found;
 use crate::heads::counted;
-use crate::types::Found;
-use crate::types::PrimitiveIndex;
-use crate::types::Provided;
+use crate::stage_types::PrimitiveIndex;
 use varying::Payload;
 use word::word;
 
@@ -40,7 +40,7 @@ fn stage_head(l: &[u32]) -> bool
 }
 
 // The location that stands at a position.
-pub fn location_at(l: &[u32], at: usize) -> u32
+pub(crate) fn location_at(l: &[u32], at: usize) -> u32
     ensures { λ r. ⌜ r ≡ contentOf (wordAt (now (l .entry)) at) ⌝ }
     ensures { λ r. ⌜ r < 2 ^ 27 ⌝ }
 {
@@ -117,24 +117,7 @@ pub fn stage_filed(l: &[u32]) -> bool
     out_filed(l)
 }
 
-// Where the word of the variable at a location stands, wherever the variables lie.
-fn find_plain(l: &[u32], n: usize, location: u32) -> Found
-    requires { ⌜ n < 0x1_0000 ⌝ }
-    ensures { λ r. ⌜ variableFound (now (l .entry)) r ≡ varyingAt location (readVaryings n (drop 2 (now (l .entry)))) ⌝ }
-{
-    let mut at: usize = 2;
-    let mut left = n;
-    while left != 0 {
-        if location_at(l, at) == location {
-            return Found::At { index: at + 1 };
-        }
-        at += 2;
-        left -= 1;
-    }
-    Found::Nothing
-}
-
-// The same where all variables lie within the slice.
+// Where the word of the variable at a location stands, where all variables lie within the slice.
 fn find_within(l: &[u32], n: usize, location: u32) -> Found
     requires { ⌜ n < 0x1_0000 ⌝ }
     requires { ⌜ 2 + 2 * n ≤ length (now l) ⌝ }
@@ -168,18 +151,6 @@ pub fn find_location(l: &[u32], location: u32, near: usize) -> Found
         }
     }
     find_within(l, n, location)
-}
-
-// The variable provided at a location.
-pub fn varying_at(l: &[u32], location: u32) -> Provided
-    ensures { λ r. ⌜ r ≡ varyingAt location (decodeStage (now (l .entry)) .varyings) ⌝ }
-{
-    match find_plain(l, count(l), location) {
-        Found::At { index } => Provided::Var {
-            var: varying::var_of(word(l, index)),
-        },
-        Found::Nothing => Provided::Missing,
-    }
 }
 
 pub fn primitive_index(l: &[u32]) -> PrimitiveIndex

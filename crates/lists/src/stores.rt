@@ -4,10 +4,10 @@ ghost use mathlib.Core.List.{[], _∷_};
 ghost use Prim.Native.Nat.{_+_, _<_, _≤_, max};
 ghost use lib.ListN.{length, set};
 ghost use Rattle.word.specs.Words.{wordAt};
-ghost use Rattle.lists.specs.Format.{put};
+ghost use Rattle.lists.specs.Records.{put};
 
 // Two words stored at a position.
-pub(crate) fn store_two(l: &mut [u32], at: usize, first: u32, second: u32)
+pub fn store_two(l: &mut [u32], at: usize, first: u32, second: u32)
     requires { ⌜ at + 2 ≤ length (now l) ⌝ }
     ensures { λ _. ⌜ now (l .exit) ≡ put (now (l .entry)) at (first ∷ second ∷ []) ⌝ }
 {
@@ -16,7 +16,7 @@ pub(crate) fn store_two(l: &mut [u32], at: usize, first: u32, second: u32)
 }
 
 // Four words stored at a position.
-pub(crate) fn store_four(l: &mut [u32], at: usize, a: u32, b: u32, c: u32, d: u32)
+pub fn store_four(l: &mut [u32], at: usize, a: u32, b: u32, c: u32, d: u32)
     requires { ⌜ at + 4 ≤ length (now l) ⌝ }
     ensures { λ _. ⌜ now (l .exit) ≡ put (now (l .entry)) at (a ∷ b ∷ c ∷ d ∷ []) ⌝ }
 {
@@ -25,7 +25,7 @@ pub(crate) fn store_four(l: &mut [u32], at: usize, a: u32, b: u32, c: u32, d: u3
 }
 
 // The larger of a word and the one at a position stored there.
-pub(crate) fn raise_word(l: &mut [u32], at: usize, w: u32)
+pub fn raise_word(l: &mut [u32], at: usize, w: u32)
     requires { ⌜ at < length (now l) ⌝ }
     ensures { λ _. ⌜ now (l .exit) ≡ set (now (l .entry)) at (max (wordAt (now (l .entry)) at) w) ⌝ }
 {

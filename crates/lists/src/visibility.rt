@@ -1,7 +1,7 @@
 // The stages that see a layout entry.
 ghost use mathlib.Core.Path.{_≡_};
 ghost use Prim.Native.Nat.{_+_, _<_, _≤_, _^_};
-ghost use Rattle.lists.specs.Meaning.{seesBit, joinBit};
+ghost use Rattle.lists.specs.Layouts.{seesBit, joinBit};
 
 // Whether a visibility has a stage's bit.
 pub fn sees(visibility: u32, stage: u32) -> bool

@@ -1,5 +1,5 @@
 -- What the program's tests say of the lists, entries and variables that it hands on.
-use Prim.Native.Nat.{ℕ, _+_, _*_, _^_, _<_, _≤_}
+use Prim.Native.Nat.{ℕ, _+_, _*_, _%_, _^_, _<_, _≤_}
 use native.Mathlib.Omega.{arith}
 use mathlib.Core.Path.{_≡_, refl, sym, _∙_}
 use mathlib.Core.Bool.{Bool, true, false, not, _&&_}
@@ -7,22 +7,25 @@ use mathlib.Core.List.{List, [], _∷_}
 use lib.Dec.{leb, ltb}
 use lib.ListN.{length, take, drop, set, length-drop}
 use lib.Seq.{length-take-le}
-use borrow.Author.Tests.{not-true, not-false, lt-ltb, le-ltb, ltb-true, leb-true}
-use Rattle.word.specs.Words.{wordAt, contentOf}
-use Rattle.resource.specs.Format.{entryHeld, entryFiled, entryOf}
+use borrow.Author.Tests.{not-true, not-false, eq-eqb, ne-eqb, lt-ltb, le-ltb, ltb-true, leb-true}
+use Rattle.word.specs.Words.{wordAt, kindOf, contentOf, bits}
+use Rattle.resource.specs.Format.{placeFiled, placeOf, sizeFiled, entryHeld, entryFiled, entryOf}
 use Rattle.resource.specs.declared.types.ResourceBinding.{ResourceBinding}
-use Rattle.resource.specs.declared.types.BindGroupLayoutEntry.{BindGroupLayoutEntry}
 use Rattle.resource.proofs.EntryFormat.{entry-held}
 use Rattle.varying.specs.Format.{varFiled, varOf, locatedHeld, payloadOf, payloadHeld}
 use Rattle.varying.specs.declared.Payload.{Payload}
 use Rattle.word.proofs.Truth.{first, second, both}
 use Rattle.varying.proofs.Joined.{var-held, payload-held}
-use Rattle.lists.specs.Meaning.{Layout, entryPlaces, entryHas, findEntry, foundBelow}
-use Rattle.lists.specs.Format.{countOf, entryFits, readLocated, outFiled, decodeStage}
-use Rattle.lists.specs.declared.types.Found.{Found}
-use Rattle.lists.specs.declared.types.Found.the-variants.{At, Nothing}
+use Rattle.lists.specs.Layouts.{Layout, entryPlaces, entryHas, findEntry}
+use Rattle.lists.specs.Records.{countOf}
+use Rattle.lists.specs.LayoutFormat.{entryFits, decodeLayout}
+use Rattle.lists.specs.StageListFormat.{readLocated, outFiled, stageFiled, decodeStage}
+use Rattle.lists.specs.declared.found.Found.{Found}
+use Rattle.lists.specs.declared.found.Found.the-variants.{Nothing}
 use Rattle.lists.proofs.PlaceWays.{place-lacks}
 use Rattle.lists.proofs.Records.{read-length, room-length}
+use Rattle.lists.proofs.LayoutWays.{entries-counted}
+use Rattle.lists.proofs.StageWays.{first-there}
 use Rattle.lists_check.specs.Room.{hasRoom}
 
 pub passed : (b test : Bool) → b ≡ test → not b ≡ false → test ≡ true
@@ -34,17 +37,34 @@ parts-alike n m a b h p q = length-take-le n a (omega arith) ∙ sym (length-tak
 
 -- ---- layouts
 
-pub entry-passed : (e : BindGroupLayoutEntry) (p t l v : ℕ) (b : Bool) → b ≡ entryFiled p t l v → not b ≡ false → e ≡ entryOf p t l v → entryHeld e ≡ true
-entry-passed e p t l v b q h r = rw r (entry-held p t l v (passed b (entryFiled p t l v) q h))
+pub entry-there : (l : List ℕ) (n i : ℕ) → n ≡ countOf l → i < n → i < length (decodeLayout l .entries)
+entry-there l n i e h = rw (entries-counted l, ← e) h
 
-pub entry-fits : (e : BindGroupLayoutEntry) (L : Layout) (g : ℕ) → entryHeld e ≡ true → g ≡ L .groups → e .bind .group < g → entryFits (L .groups) e ≡ true
-entry-fits e L g h q n = both (entryHeld e) (ltb (e .bind .group) (L .groups)) h (lt-ltb (e .bind .group) (L .groups) (omega arith))
+pub group-fits : (p g m : ℕ) → g ≡ m → bits 26 23 p < g → bits 26 23 p < m
+group-fits p g m e h = omega arith
 
-pub place-new : (place : ResourceBinding) (L : Layout) (f : Found) → f ≡ findEntry place L → f ≡ Nothing → entryHas place (L .entries) ≡ false
-place-new place L f e h = sym (place-lacks place (entryPlaces (L .entries)) f e h)
+pub found-none : (place : ResourceBinding) (L : Layout) (f : Found) → f ≡ findEntry place L → f ≡ Nothing → findEntry place L ≡ Nothing
+found-none place L f q e = sym q ∙ e
 
-pub entry-within : (L : Layout) (f : Found) (i : ℕ) → foundBelow (length (L .entries)) f ≡ true → f ≡ At i → i < length (L .entries)
-entry-within L f i h e = ltb-true i (length (L .entries)) (rw e at h)
+module _ (p t s v : ℕ) (L : Layout) where
+  pub entry-fits : entryFiled p t s v ≡ true → bits 26 23 p < L .groups → entryFits (L .groups) (entryOf p t s v) ≡ true
+  unfolding entryOf
+  entry-fits h n =
+      both (entryHeld (entryOf p t s v)) (ltb (bits 26 23 p) (L .groups)) (entry-held p t s v h) (lt-ltb (bits 26 23 p) (L .groups) n)
+
+  pub place-new : findEntry (placeOf p) L ≡ Nothing → entryHas (entryOf p t s v .bind) (L .entries) ≡ false
+  unfolding entryOf
+  place-new h = sym (place-lacks (placeOf p) (entryPlaces (L .entries)) (findEntry (placeOf p) L) refl h)
+
+-- ---- sizes
+
+pub place-passed : (place : ℕ) → placeFiled (0x20000000 + place % 0x800_0000) ≡ true
+place-passed place = eq-eqb (kindOf (0x20000000 + place % 0x800_0000)) 4 (omega arith)
+
+pub size-passed : (size : ℕ) → (size ≡ 0 → ⊥) → size < 0x800_0000 → sizeFiled (0x30000000 + size) ≡ true
+size-passed size n h =
+    let k : kindOf (0x30000000 + size) ≡ 6 = omega arith in
+    rw (k, ne-eqb (contentOf (0x30000000 + size)) 0 (λ z. n (omega arith)))
 
 -- ---- the list out
 
@@ -82,6 +102,12 @@ module _ (l : List ℕ) (h : hasRoom l ≡ true) where
   roomy : 2 ≤ length (decodeStage l .room)
   unfolding decodeStage
   roomy = omega (arith, long, room-length 2 (countOf l) (drop 2 l), length-drop 2 l)
+
+pub stage-out : (l : List ℕ) (b : Bool) → b ≡ stageFiled l → not b ≡ false → outFiled l ≡ true
+stage-out l b e h = second (leb (length l) 1024) (outFiled l) (passed b (stageFiled l) e h)
+
+pub out-there : (l : List ℕ) (b : Bool) → b ≡ outFiled l → not b ≡ false → 1 ≤ length l
+out-there l b e h = first-there l (passed b (outFiled l) e h)
 
 -- what has room, with its own head
 module _ (l : List ℕ) (b : Bool) (q : b ≡ hasRoom l) (t : not b ≡ false) where

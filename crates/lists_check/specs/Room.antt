@@ -4,7 +4,8 @@ use mathlib.Core.Bool.{Bool, _&&_}
 use mathlib.Core.List.{List}
 use lib.Dec.{leb, ltb}
 use lib.ListN.{length}
-use Rattle.lists.specs.Format.{countOf, outFiled}
+use Rattle.lists.specs.Records.{countOf}
+use Rattle.lists.specs.StageListFormat.{outFiled}
 
 -- well formed, with less than 63 variables and two words behind them
 unfoldable pub hasRoom : List ℕ → Bool

@@ -1,23 +1,27 @@
 // What is asked of layout lists.
 ghost use mathlib.Core.Path.{_≡_};
 ghost use mathlib.Core.Bool.{true};
-ghost use Rattle.resource.specs.Format.{entryHeld};
-ghost use Rattle.lists.specs.Format.{layoutFiled};
+ghost use Prim.Native.Nat.{_<_};
+ghost use Rattle.word.specs.Words.{bits};
+ghost use Rattle.resource.specs.Format.{placeOf, entryFiled};
+ghost use Rattle.lists.specs.Layouts.{findEntry};
+ghost use Rattle.lists.specs.LayoutFormat.{layoutFiled, decodeLayout};
+ghost use Rattle.lists.specs.declared.found.Found.the-variants.{Nothing};
 use crate::print;
-use lists::heads::count;
-use lists::layout::entry;
-use lists::layout::find_entry;
+use lists::found::Found;
+use lists::heads::counted;
+use lists::layout::entry_word;
+use lists::layout::find_entry_near;
+use lists::layout::find_entry_word;
 use lists::layout::group_count;
 use lists::layout::join_visibility;
 use lists::layout::layout_filed;
-use lists::layout::push_entry;
-use lists::types::Found;
+use lists::layout::push_words;
 use lists::visibility::sees;
 use resource::binding_codes::binding_code;
 use resource::binding_codes::least_size;
 use resource::entry_words::entry_of;
 use resource::entry_words::words_filed;
-use resource::resource_words::place_of;
 use resource::types::BindGroupLayoutEntry;
 
 // An entry: its place, type and least size, and whether each stage sees it.
@@ -40,17 +44,27 @@ fn position(found: Found) {
     }
 }
 
-// The groups, the position of a place, and the entry at a position.
+// The entry at a position, from its words.
+fn show_at(l: &[u32], index: usize)
+    requires { ⌜ layoutFiled (now l) ≡ true ⌝ }
+{
+    if counted(l) <= index {
+        return print::nothing();
+    }
+    let place = entry_word(l, index, 0);
+    let ty = entry_word(l, index, 1);
+    let least = entry_word(l, index, 2);
+    show(entry_of(place, ty, least, entry_word(l, index, 3)))
+}
+
+// The groups, the position of a place, sought at another first, and the entry at that one.
 pub(crate) fn look(l: &[u32], place: u32, index: u32) {
     if !layout_filed(l) {
         return print::nothing();
     }
     print::number(group_count(l) as u64);
-    position(find_entry(l, place_of(place)));
-    if (index as usize) < count(l) {
-        return show(entry(l, index as usize));
-    }
-    print::nothing()
+    position(find_entry_near(l, place, index as usize));
+    show_at(l, index as usize)
 }
 
 // A stage joined to the entry at a place.
@@ -61,7 +75,7 @@ pub(crate) fn join(l: &mut [u32], place: u32, stage: u32) {
     if 4 < stage {
         return print::nothing();
     }
-    match find_entry(l, place_of(place)) {
+    match find_entry_word(l, place) {
         Found::At { index } => {
             join_visibility(l, index, stage);
             print::number(index as u64)
@@ -70,22 +84,40 @@ pub(crate) fn join(l: &mut [u32], place: u32, stage: u32) {
     }
 }
 
-// A new entry, where its group is one of the list's and no entry has its place; then whether there was room.
-fn push_new(l: &mut [u32], e: BindGroupLayoutEntry)
+// A new entry; then whether there was room.
+fn push_new(l: &mut [u32], place: u32, ty: u32, least: u32, visibility: u32)
     requires { ⌜ layoutFiled (now l) ≡ true ⌝ }
-    requires { ⌜ entryHeld e ≡ true ⌝ }
+    requires { ⌜ entryFiled place ty least visibility ≡ true ⌝ }
+    requires { ⌜ bits 26 23 place < decodeLayout (now l) .groups ⌝ }
+    requires { ⌜ findEntry (placeOf place) (decodeLayout (now l)) ≡ Nothing ⌝ }
 {
-    let bind = e.bind;
-    if group_count(l) <= bind.group {
-        return print::nothing();
-    }
-    match find_entry(l, bind) {
+    print::yes_no(push_words(l, place, ty, least, visibility))
+}
+
+// The same where no entry has its place.
+fn push_vacant(l: &mut [u32], place: u32, ty: u32, least: u32, visibility: u32)
+    requires { ⌜ layoutFiled (now l) ≡ true ⌝ }
+    requires { ⌜ entryFiled place ty least visibility ≡ true ⌝ }
+    requires { ⌜ bits 26 23 place < decodeLayout (now l) .groups ⌝ }
+{
+    match find_entry_word(l, place) {
         Found::At { index: _ } => print::nothing(),
-        Found::Nothing => print::yes_no(push_entry(l, e)),
+        Found::Nothing => push_new(l, place, ty, least, visibility),
     }
 }
 
-// The same from the entry's four words.
+// The same where its group is one of the list's.
+fn push_grouped(l: &mut [u32], place: u32, ty: u32, least: u32, visibility: u32)
+    requires { ⌜ layoutFiled (now l) ≡ true ⌝ }
+    requires { ⌜ entryFiled place ty least visibility ≡ true ⌝ }
+{
+    if group_count(l) <= place / 0x80_0000 % 16 {
+        return print::nothing();
+    }
+    push_vacant(l, place, ty, least, visibility)
+}
+
+// The same where the words are an entry's.
 pub fn push(l: &mut [u32], place: u32, ty: u32, least: u32, visibility: u32) {
     if !layout_filed(l) {
         return print::nothing();
@@ -93,5 +125,5 @@ pub fn push(l: &mut [u32], place: u32, ty: u32, least: u32, visibility: u32) {
     if !words_filed(place, ty, least, visibility) {
         return print::nothing();
     }
-    push_new(l, entry_of(place, ty, least, visibility))
+    push_grouped(l, place, ty, least, visibility)
 }

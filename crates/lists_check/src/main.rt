@@ -1,7 +1,7 @@
 // Does what a case of standard input asks of a list, and prints the answer and the words of the list that changed, a line for each case.
 // Input is words, low byte first: how many cases; then for each what is asked, four arguments, how many words the list has, and the list.
 // Asked is 0 whether it is a layout, a size or a stage list; of a layout 1 to look, 2 to join a stage, 3 to push an entry; 4 to record a
-// size; of a stage list 5 to look, 6 to begin a list out, 7 to insert a variable.
+// size; of a stage list 5 to look, 6 to begin a list out, 7 to insert a variable. The last argument of 1, 4 and 5 is a position to try first.
 // Input and stored output are from tools/lists_expected.py, a model of document 01's text.
 ghost use mathlib.Core.Path.{_≡_};
 ghost use Prim.Native.Nat.{_<_, _≤_};
@@ -63,8 +63,8 @@ fn answer(list: &mut [u32], asked: u32, a: u32, b: u32, c: u32, d: u32) {
         1 => layouts::look(list, a, b),
         2 => layouts::join(list, a, b),
         3 => layouts::push(list, a, b, c, d),
-        4 => sizes::record(list, a, b),
-        5 => stages::look(list, a),
+        4 => sizes::record(list, a, b, c),
+        5 => stages::look(list, a, b),
         6 => stages::begin(list, a, b),
         _ => stages::insert(list, a, b),
     }

@@ -1,11 +1,10 @@
 // What is asked of size lists.
 use crate::print;
-use lists::sizes::record_size;
+use lists::sizes::record_words;
 use lists::sizes::sizes_filed;
-use resource::resource_words::place_of;
 
-// A size recorded at a place, where it is one; then whether there was room.
-pub fn record(l: &mut [u32], place: u32, size: u32) {
+// A size recorded at a place, where it is one, with a position noted; then whether there was room.
+pub fn record(l: &mut [u32], place: u32, size: u32, near: u32) {
     if !sizes_filed(l) {
         return print::nothing();
     }
@@ -15,5 +14,12 @@ pub fn record(l: &mut [u32], place: u32, size: u32) {
     if 0x800_0000 <= size {
         return print::nothing();
     }
-    print::yes_no(record_size(l, place_of(place), size as u64))
+    let mut next: [u16; 1] = [0; 1];
+    next[0] = (near % 0x1_0000) as u16;
+    print::yes_no(record_words(
+        l,
+        0x2000_0000 + place % 0x800_0000,
+        0x3000_0000 + size,
+        &mut next,
+    ))
 }

@@ -2,22 +2,24 @@
 ghost use mathlib.Core.Path.{_≡_};
 ghost use Rattle.lists_check.specs.Room.{hasRoom};
 use crate::print;
-use lists::heads::count;
+use lists::found::Found;
+use lists::heads::counted;
 use lists::list_out::begin_out;
 use lists::list_out::insert_words;
+use lists::stage_io::find_location;
 use lists::stage_io::out_filed;
 use lists::stage_io::payload;
 use lists::stage_io::primitive_index;
 use lists::stage_io::stage_filed;
-use lists::stage_io::varying_at;
-use lists::types::PrimitiveIndex;
-use lists::types::Provided;
+use lists::stage_types::PrimitiveIndex;
 use numeric::type_words::type_word;
 use varying::InterfaceVar;
 use varying::Payload;
 use varying::payload_filed;
 use varying::payload_of;
 use varying::var_filed;
+use varying::var_of;
+use word::word;
 
 fn show_variable(v: InterfaceVar) {
     let ty = v.ty;
@@ -27,10 +29,11 @@ fn show_variable(v: InterfaceVar) {
     print::yes_no(v.per_primitive);
 }
 
-fn show_provided(p: Provided) {
-    match p {
-        Provided::Var { var } => show_variable(var),
-        Provided::Missing => print::nothing(),
+// The variable whose word was found at a position.
+fn show_found(l: &[u32], found: Found) {
+    match found {
+        Found::At { index } => show_variable(var_of(word(l, index))),
+        Found::Nothing => print::nothing(),
     }
 }
 
@@ -49,14 +52,14 @@ fn show_payload(p: Payload) {
     }
 }
 
-// The primitive index, the payload and the variable at a location.
-pub fn look(l: &[u32], location: u32) {
+// The primitive index, the payload and the variable at a location, sought at a position first.
+pub fn look(l: &[u32], location: u32, near: u32) {
     if !stage_filed(l) {
         return print::nothing();
     }
     show_primitive(primitive_index(l));
     show_payload(payload(l));
-    show_provided(varying_at(l, location));
+    show_found(l, find_location(l, location, near as usize));
 }
 
 fn primitive_of(code: u32) -> PrimitiveIndex {
@@ -86,7 +89,7 @@ fn has_room(l: &[u32]) -> bool
     if !out_filed(l) {
         return false;
     }
-    let n = count(l);
+    let n = counted(l);
     n < 63 && 2 + 2 * n + 2 <= l.len()
 }
 

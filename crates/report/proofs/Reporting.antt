@@ -10,7 +10,9 @@ use Rattle.word.specs.Words.{wordAt}
 use Rattle.word.specs.Answers.{refused}
 use Rattle.word.specs.declared.answer.Answer.{Answer}
 use Rattle.varying.specs.Format.{payloadWord}
-use Rattle.lists.specs.Format.{encodeLayout, encodeStage, flat, countOf}
+use Rattle.lists.specs.LayoutFormat.{encodeLayout}
+use Rattle.lists.specs.StageListFormat.{encodeStage}
+use Rattle.lists.specs.Records.{flat, countOf}
 use Rattle.interface.specs.Format.{Decoded, Torn, Misfiled, Pack, decode, decodedNumber}
 use Rattle.interface.specs.Reads.{interfaceOf}
 use Rattle.report.specs.Text.{wordsOf, hexLines, line}

@@ -14,7 +14,9 @@ use Rattle.interface.specs.Reads.{standing, nameAt}
 use Rattle.interface.specs.Parts.{partsAt, entryAt, entryEnd}
 use Rattle.interface.specs.declared.types.ShaderStage.{ShaderStage}
 use Rattle.varying.specs.Format.{payloadWord}
-use Rattle.lists.specs.Format.{encodeSizes, encodeStage, flat}
+use Rattle.lists.specs.SizeFormat.{encodeSizes}
+use Rattle.lists.specs.StageListFormat.{encodeStage}
+use Rattle.lists.specs.Records.{flat}
 use Rattle.stage.specs.Meaning.{Outcome, outcome}
 use Rattle.stage.specs.Stage.{checkStage}
 use Rattle.word.specs.declared.answer.Answer.{Answer}

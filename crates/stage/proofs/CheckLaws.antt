@@ -12,8 +12,12 @@ use Rattle.word.specs.Answers.{refused}
 use Rattle.word.specs.declared.answer.Answer.{Answer}
 use Rattle.word.proofs.Tests.{yes-true, yes-false}
 use Rattle.word.proofs.Truth.{first, second}
-use Rattle.lists.specs.Meaning.{Layout, Sizes, every}
-use Rattle.lists.specs.Format.{layoutFiled, sizesFiled, outFiled}
+use Rattle.lists.specs.Layouts.{Layout}
+use Rattle.lists.specs.Sizes.{Sizes}
+use Rattle.lists.specs.Records.{every}
+use Rattle.lists.specs.LayoutFormat.{layoutFiled}
+use Rattle.lists.specs.SizeFormat.{sizesFiled}
+use Rattle.lists.specs.StageListFormat.{outFiled}
 use Rattle.interface.specs.Meaning.{EntryPoint, Interface}
 use Rattle.interface.specs.Format.{decode, decodedNumber, stageAt, contents, pairsOf}
 use Rattle.interface.specs.Reads.{interfaceOf, entryNth, standing}

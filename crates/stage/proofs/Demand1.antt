@@ -8,7 +8,9 @@ use lib.ListN.{length}
 use native.Mathlib.Omega.{arith}
 use borrow.Author.Tests.{eqb-true, ne-eqb, not-true}
 use Rattle.word.specs.Choice.{pick}
-use Rattle.lists.specs.Format.{decodeLayout, decodeSizes, decodeStage, encodeLayout, encodeSizes}
+use Rattle.lists.specs.LayoutFormat.{decodeLayout, encodeLayout}
+use Rattle.lists.specs.SizeFormat.{decodeSizes, encodeSizes}
+use Rattle.lists.specs.StageListFormat.{decodeStage}
 use Rattle.interface.specs.Meaning.{EntryPoint, Interface}
 use Rattle.interface.specs.Format.{Decoded, Torn, Misfiled, Pack, decode}
 use Rattle.interface.specs.Reads.{entryNth}

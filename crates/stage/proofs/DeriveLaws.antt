@@ -27,12 +27,13 @@ use Rattle.resource.proofs.ReadLaws.{place-held}
 use Rattle.resource.proofs.EntryFormat.{type-read, entry-filed, entry-read}
 use Rattle.resource.proofs.HandBack.{derived-held}
 use Rattle.resource.proofs.WordLaws.{derived-least, same-by-words}
-use Rattle.lists.specs.Meaning.{Layout, entryPlaces, findEntry, entryHas, entryNth, fits, pushed, joined}
-use Rattle.lists.specs.Format.{entryFits, layoutFiled, decodeLayout}
+use Rattle.lists.specs.Layouts.{Layout, entryPlaces, findEntry, entryHas, entryNth, pushed, joined}
+use Rattle.lists.specs.Records.{fits}
+use Rattle.lists.specs.LayoutFormat.{entryFits, layoutFiled, decodeLayout}
 use Rattle.lists.proofs.PlaceWays.{place-lacks}
 use Rattle.lists.proofs.LayoutStores.{entry-there, entry-filed-there}
-use Rattle.lists.specs.declared.types.Found.{Found}
-use Rattle.lists.specs.declared.types.Found.the-variants.{At, Nothing}
+use Rattle.lists.specs.declared.found.Found.{Found}
+use Rattle.lists.specs.declared.found.Found.the-variants.{At, Nothing}
 use Rattle.interface.specs.Format.{stageCode, contents, pairsOf}
 use Rattle.interface.specs.declared.types.ShaderStage.{ShaderStage}
 use Rattle.interface.specs.declared.types.SamplingPair.{SamplingPair}

@@ -10,7 +10,7 @@ use lib.ListN.{length}
 use Rattle.resource.specs.Format.{resourceHeld}
 use Rattle.resource.specs.declared.types.Resource.{Resource}
 use Rattle.word.proofs.Truth.{first, second}
-use Rattle.lists.specs.Meaning.{every}
+use Rattle.lists.specs.Records.{every}
 use Rattle.interface.specs.Meaning.{EntryPoint, Interface}
 use Rattle.interface.specs.Format.{Decoded, Torn, Misfiled, Pack, decode, decodedNumber, isTexture, isSampler, ofType, pairGood}
 use Rattle.interface.specs.Held.{every as everyHeld, varyingHeld}

@@ -14,9 +14,10 @@ use Rattle.word.specs.declared.answer.Answer.{Answer}
 use Rattle.resource.specs.declared.types.Resource.{Resource}
 use Rattle.varying.specs.Format.{payloadOf}
 use Rattle.varying.specs.declared.Payload.{Payload}
-use Rattle.lists.specs.Meaning.{Layout, StageIo}
-use Rattle.lists.specs.declared.types.PrimitiveIndex.{PrimitiveIndex}
-use Rattle.lists.specs.Format.{encodeStage}
+use Rattle.lists.specs.Layouts.{Layout}
+use Rattle.lists.specs.StageLists.{StageIo}
+use Rattle.lists.specs.declared.stage_types.PrimitiveIndex.{PrimitiveIndex}
+use Rattle.lists.specs.StageListFormat.{encodeStage}
 use Rattle.interface.specs.Meaning.{EntryPoint, Interface}
 use Rattle.interface.specs.Format.{topologyAt, pairsOf}
 use Rattle.interface.specs.Reads.{standing, varyings}

@@ -28,13 +28,16 @@ use Rattle.varying.specs.declared.InterfaceVar.{InterfaceVar}
 use Rattle.varying.specs.declared.Located.{Located}
 use Rattle.varying.specs.declared.Payload.{Payload}
 use Rattle.varying.specs.declared.Payload.the-variants as Pay
-use Rattle.lists.specs.Meaning.{Layout, Sizes, StageIo, findEntry, sizeFits, fits, varyingAt, entryNth, seesBit}
-use Rattle.lists.specs.declared.types.Found.{Found}
-use Rattle.lists.specs.declared.types.Found.the-variants.{At, Nothing}
-use Rattle.lists.specs.declared.types.Provided.{Provided}
-use Rattle.lists.specs.declared.types.Provided.the-variants as Pro
-use Rattle.lists.specs.declared.types.PrimitiveIndex.{PrimitiveIndex}
-use Rattle.lists.specs.declared.types.PrimitiveIndex.the-variants as Index
+use Rattle.lists.specs.Layouts.{Layout, findEntry, entryNth, seesBit}
+use Rattle.lists.specs.Sizes.{Sizes, sizeFits}
+use Rattle.lists.specs.StageLists.{StageIo, varyingAt}
+use Rattle.lists.specs.Records.{fits}
+use Rattle.lists.specs.declared.found.Found.{Found}
+use Rattle.lists.specs.declared.found.Found.the-variants.{At, Nothing}
+use Rattle.lists.specs.declared.stage_types.Provided.{Provided}
+use Rattle.lists.specs.declared.stage_types.Provided.the-variants as Pro
+use Rattle.lists.specs.declared.stage_types.PrimitiveIndex.{PrimitiveIndex}
+use Rattle.lists.specs.declared.stage_types.PrimitiveIndex.the-variants as Index
 use Rattle.interface.specs.Meaning.{EntryPoint, Interface}
 use Rattle.interface.specs.Format.{stageCode, topologyCode}
 use Rattle.interface.specs.declared.types.ShaderStage.{ShaderStage}

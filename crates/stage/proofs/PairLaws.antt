@@ -19,16 +19,18 @@ use Rattle.resource.specs.declared.types.BindGroupLayoutEntry.{BindGroupLayoutE
 use Rattle.word.proofs.Truth.{first, second, by-test}
 use Rattle.lists.proofs.Records.{first-passes, rest-passes}
 use Rattle.lists.proofs.LayoutStores.{entry-there}
-use Rattle.lists.specs.Meaning.{every, Layout, findEntry, foundBelow, entryNth}
-use Rattle.lists.specs.Format.{decodeLayout}
-use Rattle.lists.specs.declared.types.Found.{Found}
-use Rattle.lists.specs.declared.types.Found.the-variants.{At, Nothing}
+use Rattle.lists.specs.Records.{every}
+use Rattle.lists.specs.Layouts.{Layout, findEntry, entryNth}
+use Rattle.lists.specs.Places.{foundBelow}
+use Rattle.lists.specs.LayoutFormat.{decodeLayout}
+use Rattle.lists.specs.declared.found.Found.{Found}
+use Rattle.lists.specs.declared.found.Found.the-variants.{At, Nothing}
 use Rattle.interface.specs.Format.{pairOf, pairsOf}
 use Rattle.interface.specs.declared.types.SamplingPair.{SamplingPair}
 use Rattle.stage.specs.Given.{resourceTable, pairBelow, pairsBelow, wordMeans}
 use Rattle.stage.specs.Resources.{resourceNth, filtering, sampleNumber, pairNumber, typeAt, pairAnswer, pairUse, pairUses}
 use Rattle.stage.proofs.ResourceParts.{pairs-cons, pairs-none, nth-at}
-use Rattle.stage.proofs.ResourceLaws.{found-within}
+use Rattle.lists.proofs.PlaceWays.{found-inside}
 
 -- ---- type words
 
@@ -123,7 +125,7 @@ pub type-found : (l : List ℕ) (place : ℕ) (f : Found) (i w : ℕ) → foundB
 unfolding entryOf
 type-found l place f i w b n q e =
     let t : entryNth (decodeLayout l .entries) i .ty ≡ bindingTypeOf (wordAt l (1 + 4 * i + 1)) (contentOf (wordAt l (1 + 4 * i + 2)))
-    = ap (λ (e : BindGroupLayoutEntry). e .ty) (entry-there l i (found-within (decodeLayout l) f i b n)) in
+    = ap (λ (e : BindGroupLayoutEntry). e .ty) (entry-there l i (found-inside (length (decodeLayout l .entries)) i f b n)) in
     (contentOf (wordAt l (1 + 4 * i + 2)), rw (← q, n, e) t)
 
 pub type-none : (l : List ℕ) (place : ℕ) (f : Found) → f ≡ findEntry (placeOf place) (decodeLayout l) → f ≡ Nothing

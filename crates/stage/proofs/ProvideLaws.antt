@@ -17,11 +17,13 @@ use Rattle.resource.specs.declared.types.ResourceBinding.{ResourceBinding}
 use Rattle.resource.specs.declared.types.Resource.{Resource}
 use Rattle.resource.specs.declared.types.ResourceType.{ResourceType}
 use Rattle.word.proofs.Truth.{second, by-test}
-use Rattle.lists.specs.Meaning.{Layout, Sizes, findEntry, entryNth, seesBit, fits, sizeHas, sizeFits, recorded}
-use Rattle.lists.specs.Format.{decodeLayout}
+use Rattle.lists.specs.Layouts.{Layout, findEntry, entryNth, seesBit}
+use Rattle.lists.specs.Sizes.{Sizes, sizeHas, sizeFits, recorded}
+use Rattle.lists.specs.Records.{fits}
+use Rattle.lists.specs.LayoutFormat.{decodeLayout}
 use Rattle.lists.proofs.LayoutStores.{entry-there}
-use Rattle.lists.specs.declared.types.Found.{Found}
-use Rattle.lists.specs.declared.types.Found.the-variants.{At, Nothing}
+use Rattle.lists.specs.declared.found.Found.{Found}
+use Rattle.lists.specs.declared.found.Found.the-variants.{At, Nothing}
 use Rattle.interface.specs.Format.{stageCode, contents}
 use Rattle.interface.specs.declared.types.ShaderStage.{ShaderStage}
 use Rattle.stage.specs.Given.{resourceTable}

@@ -10,11 +10,12 @@ use Rattle.word.specs.declared.answer.Answer.{Answer}
 use Rattle.resource.specs.Format.{placeOf}
 use Rattle.resource.specs.Answers.{bindingAnswer}
 use Rattle.resource.specs.declared.types.ResourceBinding.{ResourceBinding}
-use Rattle.lists.specs.Meaning.{Layout, foundBelow}
-use Rattle.lists.specs.Format.{layoutFiled, decodeLayout}
+use Rattle.lists.specs.Places.{foundBelow}
+use Rattle.lists.specs.LayoutFormat.{layoutFiled, decodeLayout}
 use Rattle.lists.proofs.LayoutStores.{layout-few}
-use Rattle.lists.specs.declared.types.Found.{Found}
-use Rattle.lists.specs.declared.types.Found.the-variants.{At, Nothing}
+use Rattle.lists.specs.declared.found.Found.{Found}
+use Rattle.lists.specs.declared.found.Found.the-variants.{At, Nothing}
+use Rattle.lists.specs.Records.{fits}
 
 pub answer-there : (number place : ℕ) (bind : ResourceBinding) (a : Answer) → bind ≡ placeOf place → a ≡ bindingAnswer number bind
     → a ≡ bindingAnswer number (placeOf place)
@@ -22,11 +23,7 @@ answer-there number place bind a e h = h ∙ ap (bindingAnswer number) e
 
 -- ---- positions that were found
 
--- the position that was found is one of an entry
-pub found-within : (L : Layout) (f : Found) (i : ℕ) → foundBelow (length (L .entries)) f ≡ true → f ≡ At i → i < length (L .entries)
-found-within L f i h e = ltb-true i (length (L .entries)) (rw e at h)
-
--- and fits into a byte
+-- the position that was found fits into a byte
 pub found-few : (l : List ℕ) (f : Found) → layoutFiled l ≡ true → foundBelow (length (decodeLayout l .entries)) f ≡ true → foundBelow 256 f ≡ true
 found-few l (At i) h b = lt-ltb i 256 (omega (arith, layout-few l h, ltb-true i (length (decodeLayout l .entries)) b))
 found-few l Nothing h b = refl

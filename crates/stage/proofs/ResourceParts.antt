@@ -10,7 +10,7 @@ use lib.Seq.{drop-cons, getD-take}
 use Rattle.word.specs.Words.{wordAt, contentOf}
 use Rattle.resource.specs.Format.{resourceAt, resourceHeld, typeHeld}
 use Rattle.resource.specs.declared.types.Resource.{Resource}
-use Rattle.lists.specs.Meaning.{every}
+use Rattle.lists.specs.Records.{every}
 use Rattle.lists.proofs.Records.{first-passes, rest-passes}
 use Rattle.interface.specs.Format.{contents, pairOf, pairsOf}
 use Rattle.interface.specs.Reads.{resourcesAt}

@@ -9,8 +9,8 @@ use lib.ListN.{length, take, drop}
 use borrow.Author.Tests.{ltb-true}
 use Rattle.word.specs.Words.{wordAt, contentOf}
 use Rattle.word.proofs.Truth.{second}
-use Rattle.resource.specs.Format.{placeOf, placeHeld, resourceTypeOf, typeHeld}
-use Rattle.lists.specs.Meaning.{every}
+use Rattle.resource.specs.Format.{placeOf, placeHeld, resourceTypeOf, typeHeld, resource}
+use Rattle.lists.specs.Records.{every}
 use Rattle.lists.proofs.Records.{first-passes, rest-passes}
 use Rattle.interface.specs.Format.{contents}
 use Rattle.stage.specs.Given.{resourceTable, Inside, eachHeld, eachBelow}

@@ -8,10 +8,14 @@ use borrow.Author.Tests.{eq-eqb, ne-eqb}
 use Rattle.word.specs.declared.answer.Answer.{Answer}
 use Rattle.word.specs.Answers.{refused}
 use Rattle.word.proofs.Truth.{by-test}
-use Rattle.lists.specs.Meaning.{Layout, Sizes, StageIo}
+use Rattle.lists.specs.Layouts.{Layout}
+use Rattle.lists.specs.Sizes.{Sizes}
+use Rattle.lists.specs.StageLists.{StageIo}
 use lib.Dec.{eqb}
 use Rattle.stage_steps.specs.Meaning.{both}
-use Rattle.lists.specs.Format.{layoutFiled, sizesFiled, decodeLayout, decodeSizes, decodeStage}
+use Rattle.lists.specs.LayoutFormat.{layoutFiled, decodeLayout}
+use Rattle.lists.specs.SizeFormat.{sizesFiled, decodeSizes}
+use Rattle.lists.specs.StageListFormat.{decodeStage}
 use Rattle.lists.proofs.LayoutLists as layouts
 use Rattle.lists.proofs.SizeLists as sizes
 use Rattle.interface.specs.Meaning.{EntryPoint, Interface}

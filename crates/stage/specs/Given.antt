@@ -9,7 +9,7 @@ use Rattle.word.specs.Words.{wordAt, ofKind}
 use Rattle.resource.specs.Format.{resourceHeld, bindingTypeOf, bindingCode, leastSize, formatHeld}
 use Rattle.resource.specs.declared.types.Resource.{Resource}
 use Rattle.resource.specs.declared.types.BindingType.{BindingType}
-use Rattle.lists.specs.Meaning.{every}
+use Rattle.lists.specs.Records.{every}
 use Rattle.interface.specs.Meaning.{EntryPoint, Interface}
 use Rattle.interface.specs.Reads.{resourcesAt}
 use Rattle.interface.specs.Parts.{resourceCount}

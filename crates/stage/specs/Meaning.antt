@@ -4,7 +4,8 @@ use mathlib.Core.List.{List}
 use lib.Dec.{eqb}
 use Rattle.word.specs.Choice.{pick}
 use Rattle.word.specs.declared.answer.Answer.{Answer}
-use Rattle.lists.specs.Meaning.{Layout, Sizes}
+use Rattle.lists.specs.Layouts.{Layout}
+use Rattle.lists.specs.Sizes.{Sizes}
 use Rattle.stage.specs.declared.types.Codes.{Codes}
 
 -- the lists that a call lends

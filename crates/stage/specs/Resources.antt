@@ -22,9 +22,11 @@ use Rattle.resource.specs.declared.types.TextureSampleType.the-variants as Samp
 use Rattle.resource.specs.declared.types.BindGroupLayoutEntry.{BindGroupLayoutEntry}
 use Rattle.resource.specs.declared.types.Derived.{Derived}
 use Rattle.resource.specs.declared.types.Derived.the-variants as Der
-use Rattle.lists.specs.Meaning.{Layout, Sizes, findEntry, entryNth, seesBit, fits, pushed, joined, sizeFits, recorded}
-use Rattle.lists.specs.declared.types.Found.{Found}
-use Rattle.lists.specs.declared.types.Found.the-variants.{At, Nothing}
+use Rattle.lists.specs.Layouts.{Layout, findEntry, entryNth, seesBit, pushed, joined}
+use Rattle.lists.specs.Sizes.{Sizes, sizeFits, recorded}
+use Rattle.lists.specs.Records.{fits}
+use Rattle.lists.specs.declared.found.Found.{Found}
+use Rattle.lists.specs.declared.found.Found.the-variants.{At, Nothing}
 use Rattle.interface.specs.Format.{stageCode}
 use Rattle.interface.specs.declared.types.ShaderStage.{ShaderStage}
 use Rattle.interface.specs.declared.types.SamplingPair.{SamplingPair}

@@ -8,8 +8,12 @@ use Rattle.word.specs.Choice.{pick, yes}
 use Rattle.word.specs.Answers.{answer, accepted, refused}
 use Rattle.word.specs.declared.answer.Answer.{Answer}
 use Rattle.resource.specs.declared.types.Resource.{Resource}
-use Rattle.lists.specs.Meaning.{Layout, Sizes, StageIo}
-use Rattle.lists.specs.Format.{layoutFiled, sizesFiled, stageFiled, decodeLayout, decodeSizes, decodeStage, encodeLayout, encodeSizes, encodeStage}
+use Rattle.lists.specs.Layouts.{Layout}
+use Rattle.lists.specs.Sizes.{Sizes}
+use Rattle.lists.specs.StageLists.{StageIo}
+use Rattle.lists.specs.LayoutFormat.{layoutFiled, decodeLayout, encodeLayout}
+use Rattle.lists.specs.SizeFormat.{sizesFiled, decodeSizes, encodeSizes}
+use Rattle.lists.specs.StageListFormat.{stageFiled, decodeStage, encodeStage}
 use Rattle.interface.specs.Meaning.{EntryPoint, Interface}
 use Rattle.interface.specs.Format.{Decoded, Torn, Misfiled, Pack, decode, stageAt}
 use Rattle.interface.specs.Reads.{entryNth}

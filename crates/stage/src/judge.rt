@@ -2,7 +2,8 @@
 ghost use mathlib.Core.Path.{_≡_};
 ghost use mathlib.Core.Bool.{true, false};
 ghost use Prim.Native.Nat.{_+_};
-ghost use Rattle.lists.specs.Format.{layoutFiled, outFiled, decodeLayout, decodeStage};
+ghost use Rattle.lists.specs.LayoutFormat.{layoutFiled, decodeLayout};
+ghost use Rattle.lists.specs.StageListFormat.{outFiled, decodeStage};
 ghost use Rattle.interface.specs.Format.{decode, decodedNumber};
 ghost use Rattle.interface.specs.Reads.{interfaceOf, standing};
 ghost use Rattle.interface.specs.Parts.{Placed};

@@ -5,16 +5,16 @@ ghost use Prim.Native.Nat.{_+_, _<_, _≤_};
 ghost use lib.ListN.{length, take, drop};
 ghost use Rattle.word.specs.Words.{bits};
 ghost use Rattle.resource.specs.Format.{placeOf, sampleAt, bindingTypeOf};
-ghost use Rattle.lists.specs.Format.{layoutFiled, decodeLayout};
+ghost use Rattle.lists.specs.LayoutFormat.{layoutFiled, decodeLayout};
 ghost use Rattle.interface.specs.Format.{pairOf, pairsOf};
 ghost use Rattle.stage.specs.Given.{resourceTable, Inside, pairBelow, pairsBelow, wordMeans};
 ghost use Rattle.stage.specs.Resources.{resourceNth, filtering, sampleNumber, pairNumber, typeAt, pairAnswer, pairUse, pairUses};
 use crate::resources::noted;
 use interface::reads::pair_of;
 use interface::reads::position_at;
+use lists::found::Found;
 use lists::layout::entry_word;
 use lists::layout::find_entry_near;
-use lists::types::Found;
 use word::answer::Answer;
 use word::content;
 

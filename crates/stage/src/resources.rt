@@ -4,9 +4,10 @@ ghost use mathlib.Core.Bool.{true};
 ghost use Prim.Native.Nat.{_<_};
 ghost use Rattle.resource.specs.Format.{placeOf};
 ghost use Rattle.resource.specs.Answers.{bindingAnswer};
-ghost use Rattle.lists.specs.Meaning.{foundBelow};
-use lists::types::Found;
+ghost use Rattle.lists.specs.Places.{foundBelow};
+use lists::found::Found;
 use resource::answers::binding_answer;
+ghost use Rattle.lists.specs.declared.found.Found.the-variants.{Nothing};
 use resource::resource_words::place_of;
 use word::answer::Answer;
 

@@ -21,12 +21,12 @@ use Rattle.varying.specs.Format.{locationFiled, varOf}
 use Rattle.varying.specs.declared.InterfaceVar.{InterfaceVar}
 use Rattle.varying.specs.declared.Located.{Located}
 use Rattle.varying.proofs.Joined.{kind-back}
-use Rattle.lists.specs.Meaning.{varyingAt}
-use Rattle.lists.specs.Format.{variableFound}
-use Rattle.lists.specs.declared.types.Found.{Found}
-use Rattle.lists.specs.declared.types.Found.the-variants.{At, Nothing}
-use Rattle.lists.specs.declared.types.Provided.{Provided}
-use Rattle.lists.specs.declared.types.Provided.the-variants as Pro
+use Rattle.lists.specs.StageLists.{varyingAt}
+use Rattle.lists.specs.StageListFormat.{variableFound}
+use Rattle.lists.specs.declared.found.Found.{Found}
+use Rattle.lists.specs.declared.found.Found.the-variants.{At, Nothing}
+use Rattle.lists.specs.declared.stage_types.Provided.{Provided}
+use Rattle.lists.specs.declared.stage_types.Provided.the-variants as Pro
 use Rattle.interface.specs.Format.{builtInOf}
 use Rattle.interface.specs.Reads.{varying, varyingWidth, varyings}
 use Rattle.interface.specs.declared.types.ShaderStage.{ShaderStage}

@@ -10,7 +10,7 @@ use Rattle.word.specs.declared.answer.Answer.{Answer}
 use Rattle.varying.specs.Rules.{samePayload}
 use Rattle.varying.specs.declared.Payload.{Payload}
 use Rattle.varying.specs.declared.Payload.the-variants as Pay
-use Rattle.lists.specs.declared.types.PrimitiveIndex.{PrimitiveIndex}
+use Rattle.lists.specs.declared.stage_types.PrimitiveIndex.{PrimitiveIndex}
 use Rattle.interface.specs.Format.{topologyCode}
 use Rattle.interface.specs.declared.types.PrimitiveTopology.{PrimitiveTopology}
 use Rattle.interface.specs.declared.types.MeshRecord.{MeshRecord}

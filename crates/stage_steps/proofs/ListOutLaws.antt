@@ -14,10 +14,11 @@ use Rattle.varying.specs.Format.{varOf, locatedHeld, payloadOf, payloadHeld}
 use Rattle.varying.proofs.Joined.{payload-held}
 use Rattle.varying.specs.declared.Located.{Located}
 use Rattle.varying.specs.declared.Payload.{Payload}
-use Rattle.lists.specs.Meaning.{StageIo, every, rising, varyingAt, isProvided, insert, inserted}
-use Rattle.lists.specs.Format.{outFiled, decodeStage, encodeStage}
-use Rattle.lists.specs.declared.types.PrimitiveIndex.{PrimitiveIndex}
-use Rattle.lists.specs.declared.types.PrimitiveIndex.the-variants as Index
+use Rattle.lists.specs.StageLists.{StageIo, rising, varyingAt, isProvided, insert, inserted}
+use Rattle.lists.specs.Records.{every}
+use Rattle.lists.specs.StageListFormat.{outFiled, decodeStage, encodeStage}
+use Rattle.lists.specs.declared.stage_types.PrimitiveIndex.{PrimitiveIndex}
+use Rattle.lists.specs.declared.stage_types.PrimitiveIndex.the-variants as Index
 use Rattle.lists.proofs.Records.{first-passes, rest-passes}
 use Rattle.lists.proofs.InsertLaws.{rising-insert, insert-length, longer}
 use Rattle.lists.proofs.StageLists.{good, good-decode, encode-decode}

@@ -15,11 +15,11 @@ use Rattle.varying.specs.declared.InterfaceVar.{InterfaceVar}
 use Rattle.varying.specs.declared.Located.{Located}
 use Rattle.varying.specs.declared.Payload.{Payload}
 use Rattle.varying.specs.declared.Payload.the-variants as Pay
-use Rattle.lists.specs.Meaning.{StageIo, varyingAt, insert}
-use Rattle.lists.specs.declared.types.Provided.{Provided}
-use Rattle.lists.specs.declared.types.Provided.the-variants as Pro
-use Rattle.lists.specs.declared.types.PrimitiveIndex.{PrimitiveIndex}
-use Rattle.lists.specs.declared.types.PrimitiveIndex.the-variants as Index
+use Rattle.lists.specs.StageLists.{StageIo, varyingAt, insert}
+use Rattle.lists.specs.declared.stage_types.Provided.{Provided}
+use Rattle.lists.specs.declared.stage_types.Provided.the-variants as Pro
+use Rattle.lists.specs.declared.stage_types.PrimitiveIndex.{PrimitiveIndex}
+use Rattle.lists.specs.declared.stage_types.PrimitiveIndex.the-variants as Index
 use Rattle.interface.specs.Meaning.{EntryPoint}
 use Rattle.interface.specs.Format.{topologyCode}
 use Rattle.interface.specs.declared.types.ShaderStage.{ShaderStage}

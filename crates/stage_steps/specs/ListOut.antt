@@ -1,7 +1,7 @@
 -- One output handed on: a step of what a stage writes into the list out.
 use mathlib.Core.Bool.{Bool, true}
 use Rattle.varying.specs.Format.{locatedHeld}
-use Rattle.lists.specs.Meaning.{StageIo, inserted}
+use Rattle.lists.specs.StageLists.{StageIo, inserted}
 use Rattle.interface.specs.declared.types.Varying.{Varying}
 use Rattle.interface.specs.declared.types.Varying.the-variants as Var
 

@@ -9,7 +9,7 @@ use interface::types::Limits;
 use interface::types::MeshRecord;
 use interface::types::PrimitiveTopology;
 use interface::types::ShaderStage;
-use lists::types::PrimitiveIndex;
+use lists::stage_types::PrimitiveIndex;
 use varying::Payload;
 use word::answer::Answer;
 

@@ -1,4 +1,4 @@
-use Rattle.lists.specs.Format.{countOf}
+use Rattle.lists.specs.Records.{countOf}
 use borrow.Author.Needs.{needs}
 use Rattle.lists.proofs.heads.counted.Statement.{statement}
 use Rattle.lists.proofs.heads.counted.Tie as tie

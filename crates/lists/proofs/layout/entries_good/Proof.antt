@@ -1,7 +1,8 @@
 use Prim.Native.Nat.{_+_, _*_, _≤_}
 use mathlib.Core.Path.{_≡_}
 use lib.ListN.{length, drop}
-use Rattle.lists.specs.Format.{groupsOf, countOf, each, entryGood}
+use Rattle.lists.specs.LayoutFormat.{groupsOf, entryGood}
+use Rattle.lists.specs.Records.{countOf, each}
 use Rattle.lists.proofs.LayoutWays.{good-begins}
 use Rattle.lists.proofs.Ways.{each-fails, each-onward, each-ended}
 use borrow.Author.Needs.{needs}

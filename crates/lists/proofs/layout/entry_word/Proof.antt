@@ -1,4 +1,4 @@
-use Rattle.lists.proofs.LayoutStores.{index-scaled, entry-placed, word-inside, word-placed, word-bytes}
+use Rattle.lists.proofs.LayoutStores.{entry-scaled, entry-placed, word-placed, word-bytes, word-inside}
 use borrow.Author.Needs.{needs}
 use Rattle.lists.proofs.layout.entry_word.Statement.{statement}
 use Rattle.lists.proofs.layout.entry_word.Tie as tie
@@ -7,7 +7,7 @@ pub entry-word-spec : {M : Type 1} → statement M
 entry-word-spec =
     tie.close
     (tie.spec
-    (λ c. search index-scaled)  -- mul-result
+    (λ c. search entry-scaled)  -- mul-result
     (λ c. search entry-placed)  -- add-result
     (λ c. search word-placed)  -- add-result-2
     (λ c. search word-bytes)  -- mul-result-2

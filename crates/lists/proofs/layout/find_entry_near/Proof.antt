@@ -1,6 +1,6 @@
-use Rattle.lists.proofs.LayoutWays.{entry-below, near-found}
-use Rattle.lists.proofs.LayoutStores.{head-there, near-inside}
-use borrow.Author.Tests.{lt-ltb}
+use Rattle.lists.proofs.PlaceWays.{content-tells}
+use Rattle.lists.proofs.LayoutWays.{entry-found, entries-differ, entry-below}
+use Rattle.lists.proofs.LayoutStores.{head-there, entries-within}
 use borrow.Author.Needs.{needs}
 use Rattle.lists.proofs.layout.find_entry_near.Statement.{statement}
 use Rattle.lists.proofs.layout.find_entry_near.Tie as tie
@@ -10,11 +10,6 @@ find-entry-near-spec =
     tie.close
     (tie.spec
     (λ c κs. search head-there)  -- counted-requires
-    (λ c. search needs)  -- mul-if2
-    (λ c. search needs)  -- add-if2
-    (λ c. search needs)  -- mul-if2-2
-    (λ c. search near-inside)  -- shared-slice-read-if2
     (λ c κs. search needs)  -- content-requires
-    (λ c. (search near-found, search (entry-below, lt-ltb)))  -- returns
-    (λ c κs. search needs)  -- find-entry-word-requires
-    (λ c. search needs))  -- returns-2
+    (λ c κs. ((search needs, search needs, search needs, search entries-within, search needs), search entries-differ))  -- find-near-requires
+    (λ c. (search (entry-found, content-tells), search entry-below)))  -- returns

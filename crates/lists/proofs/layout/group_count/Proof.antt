@@ -7,5 +7,5 @@ pub group-count-spec : {M : Type 1} → statement M
 group-count-spec =
     tie.close
     (tie.spec
-    (λ c κs. search needs)  -- groups-requires
+    (λ c κs. search needs)  -- word-requires
     (λ c. search groups-decoded))  -- returns

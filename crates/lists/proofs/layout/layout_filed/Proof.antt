@@ -1,5 +1,5 @@
 use Rattle.lists.proofs.Ways.{short-passes, test-fails, test-passes}
-use Rattle.lists.specs.Format.{layoutFiled}
+use Rattle.lists.specs.LayoutFormat.{layoutFiled}
 use Rattle.lists.proofs.LayoutWays.{head-holds, entries-distinct}
 use Rattle.word.proofs.Tests.{tests}
 use borrow.Author.Needs.{needs}

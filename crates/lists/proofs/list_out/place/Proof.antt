@@ -3,10 +3,10 @@ use mathlib.Core.Path.{_≡_}
 use mathlib.Core.Bool.{true}
 use lib.ListN.{length, drop}
 use Rattle.varying.specs.Format.{varOf, locatedWords}
-use Rattle.lists.specs.Meaning.{insert}
-use Rattle.lists.specs.Format.{put, each, flat, locatedGood, readVaryings}
-use Rattle.lists.proofs.OutStores.{var-again, good-onward, place-ended, place-before, place-over, place-onward}
-use Rattle.lists.proofs.OutStores.{count-ended, count-before, count-over, count-onward}
+use Rattle.lists.specs.StageLists.{insert}
+use Rattle.lists.specs.Records.{put, each, flat}
+use Rattle.lists.specs.StageListFormat.{locatedGood, readVaryings}
+use Rattle.lists.proofs.OutStores.{var-again, good-onward, place-ended, place-before, place-over, place-onward, count-ended, count-before, count-over, count-onward}
 use borrow.Author.Needs.{needs}
 use Rattle.lists.proofs.list_out.place.Statement.{statement}
 use Rattle.lists.proofs.list_out.place.Tie as tie

@@ -2,7 +2,7 @@ use Prim.Native.Nat.{_+_, _*_, _<_, _≤_, _^_}
 use mathlib.Core.Path.{_≡_}
 use mathlib.Core.List.{_∷_}
 use lib.ListN.{length, take, drop}
-use Rattle.lists.specs.Format.{put}
+use Rattle.lists.specs.Records.{put}
 use Rattle.lists.proofs.OutStores.{shift-onward, shift-ended}
 use borrow.Author.Needs.{needs}
 use Rattle.lists.proofs.list_out.shift.Statement.{statement}

@@ -2,9 +2,9 @@ use Prim.Native.Nat.{_+_, _-_, _*_, _<_, _≤_, _^_}
 use mathlib.Core.Path.{_≡_}
 use mathlib.Core.Bool.{true}
 use lib.ListN.{length, drop}
-use Rattle.lists.specs.Meaning.{distinctPlaces, every}
+use Rattle.lists.specs.Places.{distinctPlaces, places}
+use Rattle.lists.specs.Records.{every}
 use Rattle.lists.specs.Marks.{marked}
-use Rattle.lists.specs.Format.{places}
 use Rattle.lists.proofs.MarkLaws.{records-fit, end-fits, record-fits, record-within, behind-within, record-starts, marks-begin, marked-begins, marks-onward, marked-twice, marked-onward, marked-ended}
 use borrow.Author.Needs.{needs}
 use Rattle.lists.proofs.places.distinct_marked.Statement.{statement}

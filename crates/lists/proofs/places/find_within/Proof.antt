@@ -2,9 +2,8 @@ use Prim.Native.Nat.{_+_, _-_, _*_, _<_, _≤_, _^_}
 use mathlib.Core.Path.{_≡_}
 use lib.ListN.{length, drop}
 use Rattle.resource.specs.Format.{placeOf}
-use Rattle.lists.specs.Meaning.{placeFrom}
-use Rattle.lists.specs.Format.{places}
-use Rattle.lists.proofs.PlaceWays.{sought-begins, sought-nowhere, content-found, content-onward, within-begins, within, within-onward}
+use Rattle.lists.specs.Places.{placeFrom, places}
+use Rattle.lists.proofs.PlaceWays.{sought-begins, content-nowhere, content-found, content-onward, within-begins, within, within-onward}
 use borrow.Author.Tests.{lt-ltb}
 use borrow.Author.Needs.{needs}
 use Rattle.lists.proofs.places.find_within.Statement.{statement}
@@ -32,4 +31,4 @@ find-within-spec =
     (λ c. search needs)  -- add-i
     (λ c. search needs)  -- loop-less
     (λ c. (search needs, search needs, search within-onward, search content-onward))  -- loop-again
-    (λ c. (search sought-nowhere, search needs)))  -- returns-2
+    (λ c. (search content-nowhere, search needs)))  -- returns-2

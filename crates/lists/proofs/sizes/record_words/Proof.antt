@@ -1,5 +1,5 @@
 use Rattle.lists.proofs.PlaceWays.{content-tells}
-use Rattle.lists.proofs.SizeStores.{head-there, records-within, sizes-differ, index-next, index-few, index-inside, index-scaled, index-placed, size-lacks, size-fits, size-raised, record-decoded, record-filed, raised-filed}
+use Rattle.lists.proofs.SizeStores.{head-there, records-within, sizes-differ, index-inside, index-scaled, index-placed, index-next, size-lacks, size-fits, size-raised, record-decoded, record-filed, raised-filed}
 use borrow.Author.Needs.{needs}
 use Rattle.lists.proofs.sizes.record_words.Statement.{statement}
 use Rattle.lists.proofs.sizes.record_words.Tie as tie
@@ -12,10 +12,10 @@ record-words-spec =
     (λ c κs. search needs)  -- content-requires
     (λ c κs. search needs)  -- noted-requires
     (λ c. search needs)  -- cast-find-near
-    (λ c κs. ((search needs, search records-within, search needs), search sizes-differ))  -- find-near-requires
+    (λ c κs. ((search needs, search needs, search needs, search records-within, search needs), search sizes-differ))  -- find-near-requires
     (λ c. search needs)  -- enum-known-index
-    (λ c. search index-next)  -- add-next
-    (λ c. search index-few)  -- cast-next
+    (λ c. search (index-next, needs))  -- add-next
+    (λ c. search (index-next, needs))  -- cast-next
     (λ c. search needs)  -- element-write-next
     (λ c. search index-scaled)  -- mul-raise-word
     (λ c. search index-placed)  -- add-raise-word

@@ -1,5 +1,5 @@
 use Rattle.lists.proofs.Ways.{short-passes, test-fails, test-passes}
-use Rattle.lists.specs.Format.{sizesFiled}
+use Rattle.lists.specs.SizeFormat.{sizesFiled}
 use Rattle.lists.proofs.SizeWays.{head-holds, sizes-distinct}
 use Rattle.word.proofs.Tests.{tests}
 use borrow.Author.Needs.{needs}

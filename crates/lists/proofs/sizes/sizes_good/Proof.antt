@@ -1,7 +1,8 @@
 use Prim.Native.Nat.{_+_, _*_, _≤_}
 use mathlib.Core.Path.{_≡_}
 use lib.ListN.{length, drop}
-use Rattle.lists.specs.Format.{countOf, each, sizeGood}
+use Rattle.lists.specs.Records.{countOf, each}
+use Rattle.lists.specs.SizeFormat.{sizeGood}
 use Rattle.lists.proofs.Ways.{each-begins, each-fails, each-onward, each-ended}
 use borrow.Author.Needs.{needs}
 use Rattle.lists.proofs.sizes.sizes_good.Statement.{statement}

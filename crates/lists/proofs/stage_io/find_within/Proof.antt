@@ -1,9 +1,9 @@
 use Prim.Native.Nat.{_<_, _≤_, _+_, _*_, _^_}
 use mathlib.Core.Path.{_≡_}
 use lib.ListN.{length, drop}
-use Rattle.lists.specs.Meaning.{varyingAt}
-use Rattle.lists.specs.Format.{readVaryings}
-use Rattle.lists.proofs.StageWays.{within-hit, within-miss, within-below, varying-ended}
+use Rattle.lists.specs.StageLists.{varyingAt}
+use Rattle.lists.specs.StageListFormat.{readVaryings}
+use Rattle.lists.proofs.StageWays.{varying-hit, varying-miss, within-below, varying-ended}
 use borrow.Author.Needs.{needs}
 use Rattle.lists.proofs.stage_io.find_within.Statement.{statement}
 use Rattle.lists.proofs.stage_io.find_within.Tie as tie
@@ -25,9 +25,9 @@ find-within-spec =
     (λ c. search needs)  -- mul-if1
     (λ c. search needs)  -- shared-slice-read-if1
     (λ c. search needs)  -- add-t11
-    (λ c. (search within-hit, search within-below))  -- returns
+    (λ c. (search varying-hit, search within-below))  -- returns
     (λ c. search needs)  -- add-at
     (λ c. search needs)  -- sub-left
     (λ c. search needs)  -- loop-less
-    (λ c. (search needs, search needs, search within-miss))  -- loop-again
+    (λ c. (search needs, search needs, search varying-miss))  -- loop-again
     (λ c. (search varying-ended, search needs)))  -- returns-2

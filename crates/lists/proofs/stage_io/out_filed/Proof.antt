@@ -1,5 +1,5 @@
 use Rattle.lists.proofs.Ways.{test-fails, test-passes}
-use Rattle.lists.specs.Format.{outFiled}
+use Rattle.lists.specs.StageListFormat.{outFiled}
 use Rattle.lists.proofs.StageWays.{head-holds, head-there, rising-counted}
 use borrow.Author.Needs.{needs}
 use Rattle.lists.proofs.stage_io.out_filed.Statement.{statement}

@@ -1,8 +1,8 @@
 use Prim.Native.Nat.{_≤_, _+_, _*_}
 use mathlib.Core.Path.{_≡_}
 use lib.ListN.{length, drop}
-use Rattle.lists.specs.Meaning.{rising}
-use Rattle.lists.specs.Format.{readVaryings}
+use Rattle.lists.specs.StageLists.{rising}
+use Rattle.lists.specs.StageListFormat.{readVaryings}
 use Rattle.lists.proofs.StageWays.{rising-falls, rising-onward, rising-ended}
 use borrow.Author.Needs.{needs}
 use Rattle.lists.proofs.stage_io.rises.Statement.{statement}

@@ -3,7 +3,8 @@ use mathlib.Core.Path.{_≡_}
 use mathlib.Core.Bool.{true}
 use lib.ListN.{length, drop}
 use Rattle.varying.specs.Format.{varFiled}
-use Rattle.lists.specs.Format.{countOf, each, locatedGood}
+use Rattle.lists.specs.Records.{countOf, each}
+use Rattle.lists.specs.StageListFormat.{locatedGood}
 use Rattle.lists.proofs.Ways.{each-begins, each-fails, each-onward, each-ended}
 use Rattle.varying.proofs.Ways.{var-vector}
 use Rattle.lists.proofs.StageWays.{located-var}

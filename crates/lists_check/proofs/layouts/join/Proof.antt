@@ -1,4 +1,5 @@
-use Rattle.lists_check.proofs.Tested.{passed, entry-within}
+use Rattle.lists_check.proofs.Tested.{passed}
+use Rattle.lists.proofs.PlaceWays.{found-inside}
 use borrow.Author.Needs.{needs}
 use Rattle.lists_check.proofs.layouts.join.Statement.{statement}
 use Rattle.lists_check.proofs.layouts.join.Tie as tie
@@ -14,10 +15,9 @@ join-spec =
     (λ c κs. search needs)  -- nothing-requires-2
     (λ c. search needs)  -- same-length-2
     (λ c. search needs)  -- returns-2
-    (λ c κs. search needs)  -- place-of-requires
-    (λ c κs. search needs)  -- find-entry-requires
+    (λ c κs. search passed)  -- find-entry-word-requires
     (λ c. search needs)  -- enum-known-index
-    (λ c κs. (search passed, (search entry-within, search needs)))  -- join-visibility-requires
+    (λ c κs. (search passed, (search found-inside, search needs)))  -- join-visibility-requires
     (λ c κs. search needs)  -- number-requires
     (λ c. search needs)  -- enum-told
     (λ c κs. search needs)  -- nothing-requires-3

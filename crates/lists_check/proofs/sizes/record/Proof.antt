@@ -1,4 +1,4 @@
-use Rattle.lists_check.proofs.Tested.{passed}
+use Rattle.lists_check.proofs.Tested.{passed, place-passed, size-passed}
 use borrow.Author.Needs.{needs}
 use Rattle.lists_check.proofs.sizes.record.Statement.{statement}
 use Rattle.lists_check.proofs.sizes.record.Tie as tie
@@ -17,8 +17,11 @@ record-spec =
     (λ c κs. search needs)  -- nothing-requires-3
     (λ c. search needs)  -- same-length-3
     (λ c. search needs)  -- returns-3
-    (λ c κs. search needs)  -- place-of-requires
-    (λ c κs. (search passed, (search needs, (search needs, search needs))))  -- record-size-requires
+    (λ c. search needs)  -- cast-next
+    (λ c. search needs)  -- array-write-next
+    (λ c. search needs)  -- add-record-words
+    (λ c. search needs)  -- add-record-words-2
+    (λ c κs. (search passed, (search place-passed, search size-passed)))  -- record-words-requires
     (λ c κs. search needs)  -- yes-no-requires
     (λ c. search needs)  -- same-length-4
     (λ c. search needs))  -- returns-4

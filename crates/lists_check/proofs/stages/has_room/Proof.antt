@@ -1,4 +1,4 @@
-use Rattle.lists_check.proofs.Tested.{no-list, full, rest-decides}
+use Rattle.lists_check.proofs.Tested.{out-there, no-list, full, rest-decides}
 use borrow.Author.Needs.{needs}
 use Rattle.lists_check.proofs.stages.has_room.Statement.{statement}
 use Rattle.lists_check.proofs.stages.has_room.Tie as tie
@@ -9,7 +9,7 @@ has-room-spec =
     (tie.spec
     (λ c κs. search needs)  -- out-filed-requires
     (λ c. search no-list)  -- returns
-    (λ c κs. search needs)  -- count-requires
+    (λ c κs. search out-there)  -- counted-requires
     (λ c. search needs)  -- mul-result
     (λ c. search needs)  -- add-result
     (λ c. search needs)  -- add-result-2

@@ -2,7 +2,7 @@ use Prim.Native.Nat.{_+_, _-_, _≤_}
 use mathlib.Core.Path.{_≡_}
 use lib.ListN.{length, take, drop}
 use mathlib.Core.Bool.{true}
-use Rattle.lists.specs.Format.{layoutFiled, decodeLayout}
+use Rattle.lists.specs.LayoutFormat.{layoutFiled, decodeLayout}
 use Rattle.interface.specs.Format.{contents, pairsOf}
 use Rattle.stage.specs.Given.{resourceTable, eachBelow}
 use Rattle.stage.specs.Resources.{deriveSteps}

@@ -1,5 +1,5 @@
-use Rattle.stage.proofs.ResourceLaws.{found-within}
 use Rattle.stage.proofs.DeriveLaws.{found-none, place-occupied, place-vacant}
+use Rattle.lists.proofs.PlaceWays.{found-inside}
 use borrow.Author.Needs.{needs}
 use Rattle.stage.proofs.derive.place_step.Statement.{statement}
 use Rattle.stage.proofs.derive.place_step.Tie as tie
@@ -10,7 +10,7 @@ place-step-spec =
     (tie.spec
     (λ c κs. search needs)  -- find-entry-word-requires
     (λ c. search needs)  -- enum-known-found
-    (λ c κs. (search needs, (search needs, search found-within)))  -- occupied-requires
+    (λ c κs. (search needs, (search needs, search found-inside)))  -- occupied-requires
     (λ c. search needs)  -- enum-told
     (λ c κs. (search needs, (search needs, (search needs, search found-none))))  -- vacant-requires
     (λ c. search needs)  -- same-length

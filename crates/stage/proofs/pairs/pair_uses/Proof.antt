@@ -2,7 +2,7 @@ use Prim.Native.Nat.{_+_, _≤_}
 use mathlib.Core.Path.{_≡_}
 use lib.ListN.{length, take, drop}
 use mathlib.Core.Bool.{true}
-use Rattle.lists.specs.Format.{decodeLayout}
+use Rattle.lists.specs.LayoutFormat.{decodeLayout}
 use Rattle.interface.specs.Format.{pairsOf}
 use Rattle.stage.specs.Given.{resourceTable, pairsBelow}
 use Rattle.stage.specs.Resources.{pairUses}

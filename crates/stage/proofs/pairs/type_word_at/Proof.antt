@@ -1,4 +1,4 @@
-use Rattle.stage.proofs.ResourceLaws.{found-within}
+use Rattle.lists.proofs.PlaceWays.{found-inside}
 use Rattle.stage.proofs.PairLaws.{type-found, type-none}
 use borrow.Author.Needs.{needs}
 use Rattle.stage.proofs.pairs.type_word_at.Statement.{statement}
@@ -10,7 +10,7 @@ type-word-at-spec =
     (tie.spec
     (λ c κs. search needs)  -- find-entry-near-requires
     (λ c. search needs)  -- enum-known-index
-    (λ c κs. (search needs, (search found-within, search needs)))  -- entry-word-requires
+    (λ c κs. (search needs, (search found-inside, search needs)))  -- entry-word-requires
     (λ c. search needs)  -- enum-told
     (λ c. search type-found)  -- returns
     (λ c. search type-none))  -- returns-2

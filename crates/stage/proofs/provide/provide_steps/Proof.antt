@@ -2,7 +2,8 @@ use Prim.Native.Nat.{_+_, _-_, _≤_}
 use mathlib.Core.Path.{_≡_}
 use lib.ListN.{length, take, drop}
 use mathlib.Core.Bool.{true}
-use Rattle.lists.specs.Format.{sizesFiled, decodeLayout, decodeSizes}
+use Rattle.lists.specs.SizeFormat.{sizesFiled, decodeSizes}
+use Rattle.lists.specs.LayoutFormat.{decodeLayout}
 use Rattle.interface.specs.Format.{contents}
 use Rattle.stage.specs.Given.{resourceTable, eachBelow}
 use Rattle.stage.specs.Resources.{provideSteps}

@@ -1,5 +1,6 @@
-use Rattle.stage.proofs.ResourceLaws.{found-within, found-few}
+use Rattle.stage.proofs.ResourceLaws.{found-few}
 use Rattle.stage.proofs.ProvideLaws.{provided-none, provided-at}
+use Rattle.lists.proofs.PlaceWays.{found-inside}
 use borrow.Author.Needs.{needs}
 use Rattle.stage.proofs.provide.provided_use.Statement.{statement}
 use Rattle.stage.proofs.provide.provided_use.Tie as tie
@@ -13,7 +14,7 @@ provided-use-spec =
     (λ c. search needs)  -- enum-told
     (λ c κs. search needs)  -- place-answer-requires
     (λ c. search needs)  -- enum-known-found
-    (λ c κs. (search needs, search found-within))  -- entry-use-requires
+    (λ c κs. (search needs, search found-inside))  -- entry-use-requires
     (λ c κs. search needs)  -- place-answer-requires-2
     (λ c. search provided-none)  -- returns
     (λ c. search provided-at))  -- returns-2

@@ -1,4 +1,4 @@
-use Rattle.lists.proofs.StageWays.{found-inside, found-bytes}
+use Rattle.lists.proofs.PlaceWays.{found-inside, found-bytes}
 use Rattle.stage_steps.proofs.InputLaws.{number-found, number-missing}
 use borrow.Author.Needs.{needs}
 use Rattle.stage_steps.proofs.inputs.input_number.Statement.{statement}

@@ -46,7 +46,7 @@ use denote.Exit.{yes}
 use denote.Triple.Clauses.{ensured, lasts}
 use Rattle.word.proofs.answer.Answer as R
 use Rattle.word.proofs.answer.Answer.Laws as R′
-use Rattle.lists.specs.Format.{outFiled, decodeStage}
+use Rattle.lists.specs.StageListFormat.{outFiled, decodeStage}
 use Rattle.interface.specs.Reads.{varying}
 use Rattle.interface.specs.declared.types.ShaderStage.{ShaderStage}
 use Rattle.interface.proofs.types.ShaderStage as G

@@ -58,7 +58,7 @@ use Rattle.word.specs.declared.answer.Answer.{Answer}
 use Rattle.word.proofs.answer.Answer as R
 use Rattle.word.proofs.answer.Answer.Laws as R′
 use Rattle.varying.specs.declared.Located.{Located}
-use Rattle.lists.specs.Format.{outFiled, decodeStage}
+use Rattle.lists.specs.StageListFormat.{outFiled, decodeStage}
 use Rattle.interface.specs.Reads.{varying, varyingWidth, varyings}
 use Rattle.interface.specs.Parts.{varyingsEnd}
 use Rattle.interface.proofs.ReadsParts.{varying-there, varyings-left}

@@ -1,7 +1,7 @@
 use mathlib.Core.Path.{_≡_}
 use mathlib.Core.Bool.{true}
 use lib.ListN.{length, drop, set}
-use Rattle.lists.specs.Format.{outFiled, decodeStage}
+use Rattle.lists.specs.StageListFormat.{outFiled, decodeStage}
 use Rattle.interface.specs.Reads.{varyings}
 use Rattle.stage_steps.proofs.VaryingLaws.{Ahead, ahead, second-there}
 use Rattle.stage_steps.proofs.OutputLaws.{ahead-by}
