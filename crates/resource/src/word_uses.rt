@@ -70,7 +70,7 @@ fn sampler_number(w: u32, entry: u32) -> u32
     28
 }
 
-// Whether an entry serves an acceleration structure.
+// Whether an entry serves an acceleration structure: codes that are no other type's, 3 and those above 5, are read as one.
 fn acceleration_number(w: u32, entry: u32) -> u32
     ensures { λ r. ⌜ ((least : ℕ) → useNumber (accelerationUse (bitSet 0 w) (bindingTypeOf entry least)) ≡ r) ⌝ }
 {
