@@ -4,6 +4,7 @@
 // A line has number and three details, and for a stage check what changed in layout, sizes and list out, as position:word.
 use interface::choose::finalize_entry_point_name;
 use stage::check::check_stage;
+use stage::types::Codes;
 use word::word;
 
 mod print;
@@ -28,19 +29,14 @@ fn answer_stage(
     old_sizes: &[u32],
     old_out: &[u32],
 ) {
-    let answer = check_stage(
-        pack,
-        layout,
-        sizes,
-        inputs,
-        out,
-        word(head, 7),
-        name,
-        word(head, 8),
-        word(head, 9),
-        word(head, 10),
-        word(head, 11),
-    );
+    let codes = Codes {
+        stage: word(head, 7),
+        topology: word(head, 8),
+        mode: word(head, 9),
+        dual_source: word(head, 10),
+        depth: word(head, 11),
+    };
+    let answer = check_stage(pack, layout, sizes, inputs, out, name, codes);
     print::answer(answer);
     print::changes(old_layout, layout);
     print::changes(old_sizes, sizes);
