@@ -6,6 +6,7 @@ ghost use Rattle.interface.specs.Format.{decode};
 ghost use Rattle.interface.specs.Rules.{finalizeName};
 ghost use Rattle.stage.specs.Stage.{checkStage};
 ghost use Rattle.stage.specs.Meaning.{call};
+ghost use Rattle.stage.specs.Meaning.{codes, lent, call};
 ghost use Rattle.bokwingi.specs.Details.{Handed};
 use interface::choose::finalize_entry_point_name;
 use numeric::formats::check_texture_format;
@@ -14,6 +15,7 @@ use numeric::formats::vertex_format;
 use numeric::type_words::is_subtype_of;
 use numeric::type_words::subtype_number;
 use stage::check::check_stage;
+use stage::types::Codes;
 use word::answer::Answer;
 
 // Hands an answer's details out, as many as there is room for, and its number back.
@@ -51,28 +53,23 @@ pub extern "C" fn bokwingi_check_stage(
     depth: u32,
     details: &mut [u32],
 ) -> u32
-    ensures { λ r. ⌜ Handed (checkStage (call (now (pack .entry)) (now (layout .entry)) (now (sizes .entry)) (now (inputs .entry)) (now (out .entry))
-        stage (now (name .entry)) topology mode «dual_source» depth) .answer) r (now (details .entry)) (now (details .exit)) ⌝ }
-    ensures { λ r. ⌜ now (layout .exit) ≡ checkStage (call (now (pack .entry)) (now (layout .entry)) (now (sizes .entry)) (now (inputs .entry)) (now (out .entry))
-        stage (now (name .entry)) topology mode «dual_source» depth) .layout ⌝ }
-    ensures { λ r. ⌜ now (sizes .exit) ≡ checkStage (call (now (pack .entry)) (now (layout .entry)) (now (sizes .entry)) (now (inputs .entry)) (now (out .entry))
-        stage (now (name .entry)) topology mode «dual_source» depth) .sizes ⌝ }
-    ensures { λ r. ⌜ now (out .exit) ≡ checkStage (call (now (pack .entry)) (now (layout .entry)) (now (sizes .entry)) (now (inputs .entry)) (now (out .entry))
-        stage (now (name .entry)) topology mode «dual_source» depth) .out ⌝ }
+    ensures { λ r. ⌜ Handed (checkStage (call (now (pack .entry)) (now (name .entry)) (codes stage topology mode «dual_source» depth)
+        (lent (now (layout .entry)) (now (sizes .entry)) (now (inputs .entry)) (now (out .entry)))) .answer) r (now (details .entry)) (now (details .exit)) ⌝ }
+    ensures { λ r. ⌜ now (layout .exit) ≡ checkStage (call (now (pack .entry)) (now (name .entry)) (codes stage topology mode «dual_source» depth)
+        (lent (now (layout .entry)) (now (sizes .entry)) (now (inputs .entry)) (now (out .entry)))) .layout ⌝ }
+    ensures { λ r. ⌜ now (sizes .exit) ≡ checkStage (call (now (pack .entry)) (now (name .entry)) (codes stage topology mode «dual_source» depth)
+        (lent (now (layout .entry)) (now (sizes .entry)) (now (inputs .entry)) (now (out .entry)))) .sizes ⌝ }
+    ensures { λ r. ⌜ now (out .exit) ≡ checkStage (call (now (pack .entry)) (now (name .entry)) (codes stage topology mode «dual_source» depth)
+        (lent (now (layout .entry)) (now (sizes .entry)) (now (inputs .entry)) (now (out .entry)))) .out ⌝ }
 {
-    let a = check_stage(
-        pack,
-        layout,
-        sizes,
-        inputs,
-        out,
+    let codes = Codes {
         stage,
-        name,
         topology,
         mode,
         dual_source,
         depth,
-    );
+    };
+    let a = check_stage(pack, layout, sizes, inputs, out, name, codes);
     hand_out(a, details)
 }
 

@@ -25,10 +25,10 @@ use Rattle.interface.specs.Reads.{varyings as interface-varyings, standing as i
 use Rattle.interface.specs.Rules.{findFrom as interface-findFrom, onlyFrom as interface-onlyFrom, finalizeName as interface-finalizeName}
 use Rattle.stage_steps.specs.Interfaces.{workgroupUse as steps-workgroupUse, workgroupStep as steps-workgroupStep, vertexInput as steps-vertexInput, fragmentInput as steps-fragmentInput, inputNumber as steps-inputNumber, inputStep as steps-inputStep, inputSteps as steps-inputSteps, clipPlaces as steps-clipPlaces, builtInPlaces as steps-builtInPlaces, localCount as steps-localCount, locationUses as steps-locationUses, vertexOutputs as steps-vertexOutputs, anyOf as steps-anyOf, attachmentUse as steps-attachmentUse, fragmentPlaces as steps-fragmentPlaces, fragmentOutputs as steps-fragmentOutputs, placesStep as steps-placesStep, meshUse as steps-meshUse, payloadMatch as steps-payloadMatch, primitiveUse as steps-primitiveUse, drawUse as steps-drawUse, perVertexUse as steps-perVertexUse, lastStep as steps-lastStep, localsOf as steps-localsOf, stageOut as steps-stageOut, summaryOf as steps-summaryOf}
 use Rattle.stage.specs.Resources.{resourceNth as stage-resourceNth, recordSize as stage-recordSize, providedUse as stage-providedUse, provideStep as stage-provideStep, provideSteps as stage-provideSteps, occupied as stage-occupied, vacant as stage-vacant, deriveStep as stage-deriveStep, namedTexture as stage-namedTexture, deriveSteps as stage-deriveSteps, resourceSteps as stage-resourceSteps, pairNumber as stage-pairNumber, pairUse as stage-pairUse, pairUses as stage-pairUses}
-use Rattle.stage.specs.Stage.{judgement as stage-judgement, stageBody as stage-stageBody, callGood as stage-callGood, finish as stage-finish, runBody as stage-runBody, checkStage as stage-checkStage}
+use Rattle.stage.specs.Stage.{behindInputs as stage-behindInputs, judgement as stage-judgement, stageBody as stage-stageBody, listsGood as stage-listsGood, callGood as stage-callGood, finish as stage-finish, runBody as stage-runBody, checkStage as stage-checkStage}
 use Rattle.deliveries.specs.Deliveries.{locals, deliveries}
 use Rattle.deliveries.specs.Kinds.{startsWith, allHold}
 
 pub deliveries-hold : allHold deliveries ≡ true
-unfolding word-yes word-several word-sumOf word-closingSum numeric-typeFiled numeric-typeOf numeric-readType numeric-typeWord numeric-compareTypes numeric-checkTextureFormat numeric-shapeFits numeric-subtypeOf numeric-floatVertexFormat numeric-vertexFormat numeric-otherTextureFormat numeric-textureFormat resource-checkWords resource-deriveWords resource-resourceTypeFiled resource-resourceTypeOf resource-readResource resource-resourceWords resource-typeHeld resource-bindingTypeFiled resource-bindingTypeOf resource-entryFiled resource-entryOf resource-bindingCode resource-entryWords resource-sameSpace resource-bufferUse resource-samplerUse resource-viewFits resource-sampledFits resource-storageFits resource-textureUse resource-accelerationUse resource-checkBindingUse resource-derivedTexture resource-deriveBindingType resource-handBack varying-varFiled varying-varOf varying-varWord varying-payloadFiled varying-payloadOf varying-payloadWord varying-samePayload lists-past lists-records lists-each lists-flat lists-put lists-groupsOf lists-countOf lists-layoutHead lists-layoutFiled lists-decodeLayout lists-encodeLayout lists-layoutGood lists-sizesHead lists-sizesFiled lists-decodeSizes lists-encodeSizes lists-sizesGood lists-stageHead lists-outFiled lists-decodeStage lists-encodeStage lists-outGood lists-placeFrom lists-placeIn lists-distinctPlaces lists-every lists-entryNth lists-pushed lists-joinAt lists-joined lists-sizeAt lists-raiseAt lists-recorded lists-varyingAt lists-rising lists-insert lists-inserted interface-readVarying interface-clips interface-bytesOf interface-noZero interface-allZero interface-readName interface-readWorkgroup interface-readMesh interface-contents interface-member interface-ofType interface-pairsOf interface-readEntryPoint interface-sameBytes interface-hasName interface-distinctNames interface-readPack interface-torn interface-decode interface-concat interface-packName interface-entryPointWords interface-recordWords interface-encode interface-varyings interface-standing interface-resourcesAt interface-entryNth interface-findFrom interface-onlyFrom interface-finalizeName steps-workgroupUse steps-workgroupStep steps-vertexInput steps-fragmentInput steps-inputNumber steps-inputStep steps-inputSteps steps-clipPlaces steps-builtInPlaces steps-localCount steps-locationUses steps-vertexOutputs steps-anyOf steps-attachmentUse steps-fragmentPlaces steps-fragmentOutputs steps-placesStep steps-meshUse steps-payloadMatch steps-primitiveUse steps-drawUse steps-perVertexUse steps-lastStep steps-localsOf steps-stageOut steps-summaryOf stage-resourceNth stage-recordSize stage-providedUse stage-provideStep stage-provideSteps stage-occupied stage-vacant stage-deriveStep stage-namedTexture stage-deriveSteps stage-resourceSteps stage-pairNumber stage-pairUse stage-pairUses stage-judgement stage-stageBody stage-callGood stage-finish stage-runBody stage-checkStage locals deliveries startsWith allHold
+unfolding word-yes word-several word-sumOf word-closingSum numeric-typeFiled numeric-typeOf numeric-readType numeric-typeWord numeric-compareTypes numeric-checkTextureFormat numeric-shapeFits numeric-subtypeOf numeric-floatVertexFormat numeric-vertexFormat numeric-otherTextureFormat numeric-textureFormat resource-checkWords resource-deriveWords resource-resourceTypeFiled resource-resourceTypeOf resource-readResource resource-resourceWords resource-typeHeld resource-bindingTypeFiled resource-bindingTypeOf resource-entryFiled resource-entryOf resource-bindingCode resource-entryWords resource-sameSpace resource-bufferUse resource-samplerUse resource-viewFits resource-sampledFits resource-storageFits resource-textureUse resource-accelerationUse resource-checkBindingUse resource-derivedTexture resource-deriveBindingType resource-handBack varying-varFiled varying-varOf varying-varWord varying-payloadFiled varying-payloadOf varying-payloadWord varying-samePayload lists-past lists-records lists-each lists-flat lists-put lists-groupsOf lists-countOf lists-layoutHead lists-layoutFiled lists-decodeLayout lists-encodeLayout lists-layoutGood lists-sizesHead lists-sizesFiled lists-decodeSizes lists-encodeSizes lists-sizesGood lists-stageHead lists-outFiled lists-decodeStage lists-encodeStage lists-outGood lists-placeFrom lists-placeIn lists-distinctPlaces lists-every lists-entryNth lists-pushed lists-joinAt lists-joined lists-sizeAt lists-raiseAt lists-recorded lists-varyingAt lists-rising lists-insert lists-inserted interface-readVarying interface-clips interface-bytesOf interface-noZero interface-allZero interface-readName interface-readWorkgroup interface-readMesh interface-contents interface-member interface-ofType interface-pairsOf interface-readEntryPoint interface-sameBytes interface-hasName interface-distinctNames interface-readPack interface-torn interface-decode interface-concat interface-packName interface-entryPointWords interface-recordWords interface-encode interface-varyings interface-standing interface-resourcesAt interface-entryNth interface-findFrom interface-onlyFrom interface-finalizeName steps-workgroupUse steps-workgroupStep steps-vertexInput steps-fragmentInput steps-inputNumber steps-inputStep steps-inputSteps steps-clipPlaces steps-builtInPlaces steps-localCount steps-locationUses steps-vertexOutputs steps-anyOf steps-attachmentUse steps-fragmentPlaces steps-fragmentOutputs steps-placesStep steps-meshUse steps-payloadMatch steps-primitiveUse steps-drawUse steps-perVertexUse steps-lastStep steps-localsOf steps-stageOut steps-summaryOf stage-resourceNth stage-recordSize stage-providedUse stage-provideStep stage-provideSteps stage-occupied stage-vacant stage-deriveStep stage-namedTexture stage-deriveSteps stage-resourceSteps stage-pairNumber stage-pairUse stage-pairUses stage-behindInputs stage-judgement stage-stageBody stage-listsGood stage-callGood stage-finish stage-runBody stage-checkStage locals deliveries startsWith allHold
 deliveries-hold = refl

@@ -40,7 +40,8 @@ use Rattle.interface.specs.declared.types.Varying.the-variants as Var
 use Rattle.interface.specs.declared.types.MeshRecord.the-variants as Mesh
 use Rattle.interface.specs.declared.types.WorkgroupSize.{WorkgroupSize}
 use Rattle.interface.specs.declared.types.Limits.{Limits}
-use Rattle.stage.specs.Meaning.{Call}
+use Rattle.stage.specs.Meaning.{Call, codes, lent}
+use Rattle.stage.specs.Meaning as Calls
 use Rattle.deliveries.specs.Kinds.{Delivery, on-entry, below, checked}
 
 -- ---- what the deliveries are made of
@@ -142,19 +143,7 @@ seen least visibility = record { bind = record { group = 0; binding = 3 }; ty = 
 -- a call in derived mode with depth attached
 abbrev pub call : ShaderStage → List ℕ → List ℕ → List ℕ → ℕ → Call
 call stage words over inputs topology =
-    record {
-      pack = words;
-      layout = over;
-      sizes = encodeSizes (record { records = []; room = [] });
-      inputs = inputs;
-      out = replicate 40 7;
-      stage = stageCode stage;
-      name = main;
-      topology = topology;
-      mode = 1;
-      dual = 0;
-      depth = 1;
-    }
+    Calls.call words main (codes (stageCode stage) topology 1 0 1) (lent over (encodeSizes (record { records = []; room = [] })) inputs (replicate 40 7))
 
 abbrev pub noRoom : List ℕ
 noRoom = layout [] []

@@ -2,16 +2,15 @@
 use Prim.Native.Nat.{ℕ, _+_, _*_, _^_}
 use native.Mathlib.Omega.{arith}
 use mathlib.Core.Path.{_≡_, refl, sym, _∙_}
-use mathlib.Core.Bool.{true, _&&_}
+use mathlib.Core.Bool.{true, false, _&&_}
 use mathlib.Core.List.{List, [], _∷_}
-use lib.Dec.{eqb, ltb}
 use lib.ListN.{length, take}
 use lib.Seq.{take-append-le}
 use borrow.Author.Tests.{leb-true}
 use Rattle.word.specs.Answers.{accepted}
 use Rattle.word.specs.Words.{ofKind}
 use Rattle.resource.specs.Format.{placeHeld, typeHeld}
-use Rattle.word.proofs.Truth.{second}
+use Rattle.word.proofs.Truth.{first, second}
 use Rattle.varying.specs.Format.{locatedWords, payloadWord}
 use Rattle.varying.specs.declared.Located.{Located}
 use Rattle.lists.specs.StageLists.{StageIo}
@@ -21,13 +20,13 @@ use Rattle.lists.specs.StageListFormat.{stageFiled, decodeStage, encodeStage, p
 use Rattle.lists.specs.Records.{flat, countOf}
 use Rattle.lists.proofs.LayoutLists.{good, good-decode}
 use Rattle.interface.specs.Meaning.{Interface, EntryPoint}
-use Rattle.interface.specs.Format.{stageAt, member}
+use Rattle.interface.specs.Format.{member}
 use Rattle.interface.specs.declared.types.ShaderStage.{ShaderStage}
 use Rattle.stage_steps.specs.Interfaces.{stageOut}
 use Rattle.stage_steps.specs.declared.types.InputWalk.{InputWalk}
 use Rattle.stage.specs.Meaning.{Call}
 use Rattle.stage.specs.Resources.{resourceNth, namedTexture, providedUse, provideSteps, pairUses}
-use Rattle.stage.specs.Stage.{callGood, requestOf, inputWalk, judgement, runBody, checkStage}
+use Rattle.stage.specs.Stage.{listsGood, codesGood, callGood, requestOf, inputWalk, checkStage}
 use Rattle.stage.proofs.GivenLaws.{resource-held, entry-pairs}
 use Rattle.handback.specs.HandBack.{derivedOver, putAgain, packKept, interfaceOfCall, entryOfCall, lacking, RoomEnough, used, Again}
 use Rattle.handback.proofs.Growth.{Grows}
@@ -35,8 +34,8 @@ use Rattle.handback.proofs.Derives.{Placed, placed-grows}
 use Rattle.handback.proofs.Packs.{resource-kept, pairs-kept}
 use Rattle.handback.proofs.Provides.{placed-serves, provide-steps}
 use Rattle.handback.proofs.Pairs.{pairs-accepted}
-use Rattle.handback.proofs.Bodies.{provided-accepts, provided-judged, others-mode}
-use Rattle.handback.proofs.Calls.{Runs, runs-on}
+use Rattle.handback.proofs.Bodies.{provided-accepts}
+use Rattle.handback.proofs.Calls.{runOf, Runs, runs-on}
 use Rattle.handback.proofs.Runs.{Leaves, entryOf, run-answer, run-out}
 
 -- ---- the same list out
@@ -77,11 +76,13 @@ module _ (l final sizes out : List ℕ) (c : Call) (x : Leaves l c) (f : layoutF
   entry-is : entryOfCall c ≡ e
   entry-is = rw (x .runs .decoded, x .runs .chosen)
 
-  good-again : callGood again ≡ true
-  unfolding callGood
+  good-again : callGood (again .lent) (again .codes) ≡ true
+  unfolding callGood listsGood
   good-again =
-      let behind = stageFiled (c .inputs) && (ltb (c .stage) 5 && (ltb (c .topology) 6 && (ltb (c .dual) 2 && ltb (c .depth) 2))) in
-      rw (f, r .passes3) (second (sizesFiled (c .sizes)) behind (second (layoutFiled l) (sizesFiled (c .sizes) && behind) (x .runs .good)))
+      let lists = listsGood l (c .lent .sizes) (c .lent .inputs) in
+      let codes = codesGood (again .codes) in
+      let inputs = second (sizesFiled (c .lent .sizes)) (stageFiled (c .lent .inputs)) (second (layoutFiled l) (sizesFiled (c .lent .sizes) && stageFiled (c .lent .inputs)) (first lists codes (x .runs .good))) in
+      rw (f, r .passes3, inputs) (second lists codes (x .runs .good))
 
   runs-again : Runs again
   runs-again =
@@ -95,45 +96,40 @@ module _ (l final sizes out : List ℕ) (c : Call) (x : Leaves l c) (f : layoutF
       }
 
   -- every resource is served over the finished list
-  placed-again : (j : ℕ) → member j (e .resources) ≡ true → Placed (stageAt (c .stage)) (namedTexture j (e .pairs)) (resourceNth (i .resources) j) (decodeLayout final)
+  placed-again : (j : ℕ) → member j (e .resources) ≡ true → Placed (requestOf (c .codes) .stage) (namedTexture j (e .pairs)) (resourceNth (i .resources) j) (decodeLayout final)
   placed-again j m =
-      placed-grows (stageAt (c .stage)) (namedTexture j (e .pairs)) (resourceNth (i .resources) j) (decodeLayout (checkStage (derivedOver l c) .layout)) (decodeLayout final) g
+      placed-grows (requestOf (c .codes) .stage) (namedTexture j (e .pairs)) (resourceNth (i .resources) j) (decodeLayout (checkStage (derivedOver l c) .layout)) (decodeLayout final) g
       (x .placed j m)
 
-  served-again : (j : ℕ) → member j (e .resources) ≡ true → providedUse (stageAt (c .stage)) (decodeLayout final) (resourceNth (i .resources) j) ≡ accepted
+  served-again : (j : ℕ) → member j (e .resources) ≡ true → providedUse (requestOf (c .codes) .stage) (decodeLayout final) (resourceNth (i .resources) j) ≡ accepted
   served-again j m =
       let s = resourceNth (i .resources) j in
-      placed-serves (stageAt (c .stage)) (namedTexture j (e .pairs)) s (decodeLayout final) (good (decodeLayout final) (good-decode final f) .distinct) (placed-again j m)
+      placed-serves (requestOf (c .codes) .stage) (namedTexture j (e .pairs)) s (decodeLayout final) (good (decodeLayout final) (good-decode final f) .distinct) (placed-again j m)
       (second (placeHeld (s .bind)) (typeHeld (s .ty)) (resource-held (c .pack) i (x .runs .decoded) j))
       (resource-kept i (rw interface-is at k) j)
 
-  steps-again : provideSteps (stageAt (c .stage)) (decodeLayout final) (i .resources) (e .resources) (decodeSizes sizes) .answer ≡ accepted
+  steps-again : provideSteps (requestOf (c .codes) .stage) (decodeLayout final) (i .resources) (e .resources) (decodeSizes sizes) .answer ≡ accepted
   steps-again =
-      provide-steps (stageAt (c .stage)) (decodeLayout final) (i .resources) (e .resources) (decodeSizes sizes) served-again
+      provide-steps (requestOf (c .codes) .stage) (decodeLayout final) (i .resources) (e .resources) (decodeSizes sizes) served-again
       (leb-true (2 * lacking (i .resources) (e .resources) (decodeSizes sizes .records)) (length (decodeSizes sizes .room)) (rw (entry-is, interface-is) at (r .free)))
 
   pairs-again : pairUses (decodeLayout final) (i .resources) (e .pairs) ≡ accepted
   pairs-again =
-      pairs-accepted (stageAt (c .stage)) (i .resources) (e .pairs) (decodeLayout final) (good (decodeLayout final) (good-decode final f) .distinct) (e .resources) placed-again
+      pairs-accepted (requestOf (c .codes) .stage) (i .resources) (e .pairs) (decodeLayout final) (good (decodeLayout final) (good-decode final f) .distinct) (e .resources) placed-again
       (entry-pairs (c .pack) i (x .runs .decoded) (x .runs .position)) (pairs-kept i (rw interface-is at k) (x .runs .position))
 
-  judged-again : judgement (requestOf again) i e (decodeStage (c .inputs)) (decodeLayout final) ≡ accepted
-  judged-again =
-      provided-judged (requestOf again) i e (decodeStage (c .inputs)) (decodeLayout final) refl pairs-again
-      ∙ (sym (others-mode (stageAt (c .stage)) (c .topology) (eqb (c .dual) 1) (eqb (c .depth) 1) i e (decodeStage (c .inputs))) ∙ x .passed)
-
-  answered-again : runBody again i e .answer ≡ accepted
+  answered-again : runOf again i e .answer ≡ accepted
   answered-again =
-      run-answer again i e
-      ∙ provided-accepts (requestOf again) i e (decodeStage (c .inputs)) (decodeLayout final) (decodeSizes sizes) refl steps-again judged-again
+      run-answer false (requestOf (c .codes)) (again .lent) i e
+      ∙ provided-accepts (requestOf (c .codes)) i e (decodeStage (c .lent .inputs)) (decodeLayout final) (decodeSizes sizes) steps-again pairs-again (x .passed)
 
   pub put-again : Again (checkStage (derivedOver l c)) (checkStage again)
   unfolding runs-again
   put-again =
-      let w = inputWalk (requestOf again) e (decodeStage (c .inputs)) .walk in
+      let w = inputWalk (requestOf (c .codes)) e (decodeStage (c .lent .inputs)) .walk in
       record {
         passes = rw (runs-on again runs-again) answered-again;
         same =
-            rw (runs-on again runs-again, run-out again i e answered-again, x .written)
-            (used-same (stageAt (c .stage)) e w out (c .out));
+            rw (runs-on again runs-again, run-out false (requestOf (c .codes)) (again .lent) i e answered-again, x .written)
+            (used-same (requestOf (c .codes) .stage) e w out (c .lent .out));
       }

@@ -32,6 +32,8 @@ use Rattle.stage_steps.specs.Interfaces.{anyOf, attachmentUse, fragmentPlaces, 
 use Rattle.stage_steps.specs.Interfaces.{perVertexUse, lastStep, localsOf, stageOut}
 use Rattle.stage.specs.Meaning.{Call}
 use Rattle.handback.specs.HandBack.{derivedOver, putAgain, packKept, interfaceOfCall, RoomEnough, Again, runOver, pairsKept, entriesKept, resourcesKept, lacking}
+use Rattle.stage.specs.Meaning.{codes, lent, Call, call}
+use Rattle.handback.specs.HandBack.{derivedOver, putAgain, packKept, interfaceOfCall, RoomEnough, Again}
 use Rattle.handback.proofs.HandBack.{hand-back}
 use Rattle.word.specs.Parse.{several}
 use Rattle.numeric.specs.Format.{typeFiled, typeOf, typeWord}
@@ -55,6 +57,8 @@ use Rattle.interface.specs.Rules.{findFrom}
 use Rattle.stage.specs.Resources.{resourceNth, recordSize, providedUse, provideStep, provideSteps, occupied, vacant, deriveStep, namedTexture, deriveSteps, resourceSteps}
 use Rattle.stage.specs.Resources.{pairNumber, pairUse, pairUses}
 use Rattle.stage.specs.Stage.{judgement, stageBody, callGood, finish, runBody, checkStage}
+use Rattle.stage.specs.Stage.{behindInputs, judgement, stageBody, listsGood, callGood, finish, runBody, checkStage}
+use Rattle.handback.specs.HandBack.{runOver, pairsKept, entriesKept, resourcesKept, lacking}
 
 -- ---- packs and calls
 
@@ -110,20 +114,7 @@ abbrev start : List ℕ
 start = ofKind 17 (2 ^ 16 * 1) ∷ replicate 16 0
 
 abbrev calls : ShaderStage → Interface → List ℕ → Call
-calls stage i out =
-    record {
-      pack = encode i;
-      layout = [];
-      sizes = ofKind 20 0 ∷ [];
-      inputs = nothing;
-      out = out;
-      stage = stageCode stage;
-      name = name;
-      topology = 3;
-      mode = 1;
-      dual = 0;
-      depth = 0;
-    }
+calls stage i out = call (encode i) name (codes (stageCode stage) 3 1 0 0) (lent [] (ofKind 20 0 ∷ []) nothing out)
 
 abbrev at : ℕ → ResourceType → Resource
 at binding ty = record { bind = record { group = 0; binding = binding }; ty = ty }
@@ -183,7 +174,7 @@ unfolding yes sumOf closingSum several typeFiled typeOf typeWord sameSpace buffe
     entryPointWords recordWords encode interface-entryNth findFrom workgroupUse workgroupStep inputStep inputSteps clipPlaces builtInPlaces localCount
     locationUses vertexOutputs anyOf attachmentUse fragmentPlaces fragmentOutputs placesStep meshUse payloadMatch primitiveUse drawUse perVertexUse
     lastStep localsOf stageOut resourceNth recordSize providedUse provideStep provideSteps occupied vacant deriveStep namedTexture deriveSteps resourceSteps
-    pairNumber pairUse pairUses judgement stageBody callGood finish runBody checkStage runOver pairsKept entriesKept resourcesKept lacking
+    pairNumber pairUse pairUses behindInputs judgement stageBody listsGood callGood finish runBody checkStage runOver pairsKept entriesKept resourcesKept lacking
 met =
     record {
       filed = refl;
@@ -274,5 +265,5 @@ unfolding allRight cases yes sumOf closingSum several typeFiled typeOf typeWord 
     entryPointWords recordWords encode interface-entryNth findFrom workgroupUse workgroupStep inputStep inputSteps clipPlaces builtInPlaces localCount
     locationUses vertexOutputs anyOf attachmentUse fragmentPlaces fragmentOutputs placesStep meshUse payloadMatch primitiveUse drawUse perVertexUse
     lastStep localsOf stageOut resourceNth recordSize providedUse provideStep provideSteps occupied vacant deriveStep namedTexture deriveSteps resourceSteps
-    pairNumber pairUse pairUses judgement stageBody callGood finish runBody checkStage runOver pairsKept entriesKept resourcesKept lacking
+    pairNumber pairUse pairUses behindInputs judgement stageBody listsGood callGood finish runBody checkStage runOver pairsKept entriesKept resourcesKept lacking
 cases-right = refl

@@ -1,7 +1,7 @@
 -- A call in derived mode: the layout list stays well formed and loses nothing; where it is accepted, the list it leaves serves every resource.
 use Prim.Native.Nat.{ℕ}
 use mathlib.Core.Path.{_≡_, refl, sym, _∙_, ap}
-use mathlib.Core.Bool.{true}
+use mathlib.Core.Bool.{Bool, true}
 use mathlib.Core.List.{List, [], _∷_, _++_}
 use lib.Dec.{eqb}
 use Rattle.word.specs.Answers.{accepted}
@@ -12,18 +12,19 @@ use Rattle.lists.specs.SizeFormat.{decodeSizes}
 use Rattle.lists.specs.StageListFormat.{decodeStage, encodeStage}
 use Rattle.lists.proofs.LayoutLists.{good-decode, filed-encode, decode-encode}
 use Rattle.interface.specs.Meaning.{Interface, EntryPoint}
-use Rattle.interface.specs.Format.{stageAt, member}
+use Rattle.interface.specs.Format.{member}
 use Rattle.interface.specs.Reads.{entryNth}
 use Rattle.stage_steps.specs.Interfaces.{stageOut}
-use Rattle.stage.specs.Meaning.{Call}
+use Rattle.stage_steps.specs.declared.types.Request.{Request}
+use Rattle.stage.specs.Meaning.{Lent, Call}
 use Rattle.stage.specs.Resources.{resourceNth, namedTexture, DeriveResult, deriveSteps}
-use Rattle.stage.specs.Stage.{requestOf, inputWalk, stageBody, finish, runBody, checkStage}
+use Rattle.stage.specs.Stage.{requestOf, inputWalk, behindPairs, stageBody, finish, runBody, checkStage}
 use Rattle.stage.proofs.GivenLaws.{resource-held}
 use Rattle.handback.specs.HandBack.{derivedOver, runOver}
 use Rattle.handback.proofs.Growth.{Grows, grows-refl, grows-trans}
 use Rattle.handback.proofs.Derives.{Placed, Folded, derive-steps}
-use Rattle.handback.proofs.Bodies.{derived-layout, derived-parts, derived-judged, others}
-use Rattle.handback.proofs.Calls.{Runs, runs-on, by-call}
+use Rattle.handback.proofs.Bodies.{derived-layout, derived-parts}
+use Rattle.handback.proofs.Calls.{runOf, Runs, runs-on, by-call}
 
 -- ---- one list after another
 
@@ -45,17 +46,17 @@ ran-encoded l X g h = record { filed = filed-encode X g; grows = rw (decode-enco
 module _ (l : List ℕ) (c : Call) where
   -- what its resources come to
   abbrev pub stepsOf : Interface → EntryPoint → DeriveResult
-  stepsOf i e = deriveSteps (stageAt (c .stage)) (i .resources) (e .pairs) (e .resources) (decodeLayout l)
+  stepsOf i e = deriveSteps (requestOf (c .codes) .stage) (i .resources) (e .pairs) (e .resources) (decodeLayout l)
 
-  run-layout : (i : Interface) (e : EntryPoint) → runBody (derivedOver l c) i e .layout ≡ encodeLayout (stepsOf i e .layout)
+  run-layout : (i : Interface) (e : EntryPoint) → runOf (derivedOver l c) i e .layout ≡ encodeLayout (stepsOf i e .layout)
   unfolding runBody finish
-  run-layout i e = ap encodeLayout (derived-layout (requestOf (derivedOver l c)) i e (decodeStage (c .inputs)) (decodeLayout l) (decodeSizes (c .sizes)) refl)
+  run-layout i e = ap encodeLayout (derived-layout (requestOf (c .codes)) i e (decodeStage (c .lent .inputs)) (decodeLayout l) (decodeSizes (c .lent .sizes)))
 
   module _ (f : layoutFiled l ≡ true) where
     folded : (b : Runs (derivedOver l c)) (e : EntryPoint)
-        → Folded (stageAt (c .stage)) (b .interface .resources) (e .pairs) (e .resources) (decodeLayout l) (stepsOf (b .interface) e)
+        → Folded (requestOf (c .codes) .stage) (b .interface .resources) (e .pairs) (e .resources) (decodeLayout l) (stepsOf (b .interface) e)
     folded b e =
-        derive-steps (stageAt (c .stage)) (b .interface .resources) (e .pairs) (resource-held (c .pack) (b .interface) (b .decoded)) (e .resources) (decodeLayout l)
+        derive-steps (requestOf (c .codes) .stage) (b .interface .resources) (e .pairs) (resource-held (c .pack) (b .interface) (b .decoded)) (e .resources) (decodeLayout l)
         (good-decode l f)
 
     pub ran-call : Ran l (checkStage (derivedOver l c) .layout)
@@ -76,39 +77,36 @@ entryOf c b = entryNth (b .interface .entries) (b .position)
 pub record Leaves (l : List ℕ) (c : Call) : Type 0 where
   pub runs : Runs (derivedOver l c)
   pub placed : (i : ℕ) → member i (entryOf (derivedOver l c) runs .resources) ≡ true
-      → Placed (stageAt (c .stage)) (namedTexture i (entryOf (derivedOver l c) runs .pairs)) (resourceNth (runs .interface .resources) i)
+      → Placed (requestOf (c .codes) .stage) (namedTexture i (entryOf (derivedOver l c) runs .pairs)) (resourceNth (runs .interface .resources) i)
       (decodeLayout (checkStage (derivedOver l c) .layout))
-  pub passed : others (requestOf (derivedOver l c)) (runs .interface) (entryOf (derivedOver l c) runs) (decodeStage (c .inputs)) ≡ accepted
+  pub passed : behindPairs (requestOf (c .codes)) (runs .interface) (entryOf (derivedOver l c) runs) (decodeStage (c .lent .inputs)) ≡ accepted
   pub written :
       checkStage (derivedOver l c) .out
       ≡ encodeStage
-      (stageOut (stageAt (c .stage)) (entryOf (derivedOver l c) runs)
-      (inputWalk (requestOf (derivedOver l c)) (entryOf (derivedOver l c) runs) (decodeStage (c .inputs)) .walk) (c .out))
+      (stageOut (requestOf (c .codes) .stage) (entryOf (derivedOver l c) runs)
+      (inputWalk (requestOf (c .codes)) (entryOf (derivedOver l c) runs) (decodeStage (c .lent .inputs)) .walk) (c .lent .out))
 
-pub run-answer : (c : Call) (i : Interface) (e : EntryPoint)
-    → runBody c i e .answer ≡ stageBody (requestOf c) i e (decodeStage (c .inputs)) (decodeLayout (c .layout)) (decodeSizes (c .sizes)) .answer
-unfolding runBody finish
-run-answer c i e = refl
+module _ (derived : Bool) (q : Request) (t : Lent) (i : Interface) (e : EntryPoint) where
+  pub run-answer : runBody derived q t i e .answer ≡ stageBody derived q i e (decodeStage (t .inputs)) (decodeLayout (t .layout)) (decodeSizes (t .sizes)) .answer
+  unfolding runBody finish
+  run-answer = refl
 
-pub run-out : (c : Call) (i : Interface) (e : EntryPoint) → runBody c i e .answer ≡ accepted
-    → runBody c i e .out ≡ encodeStage (stageOut (stageAt (c .stage)) e (inputWalk (requestOf c) e (decodeStage (c .inputs)) .walk) (c .out))
-unfolding runBody finish
-run-out c i e h = rw h
+  pub run-out : runBody derived q t i e .answer ≡ accepted
+      → runBody derived q t i e .out ≡ encodeStage (stageOut (q .stage) e (inputWalk q e (decodeStage (t .inputs)) .walk) (t .out))
+  unfolding runBody finish
+  run-out h = rw h
 
 module _ (l : List ℕ) (c : Call) (f : layoutFiled l ≡ true) (b : Runs (derivedOver l c)) (h : checkStage (derivedOver l c) .answer ≡ accepted) where
   abbrev entry : EntryPoint
   entry = entryOf (derivedOver l c) b
 
-  answered : runBody (derivedOver l c) (b .interface) entry .answer ≡ accepted
+  answered : runOf (derivedOver l c) (b .interface) entry .answer ≡ accepted
   answered = rw (runs-on (derivedOver l c) b) at h
 
-  parts : (eqb (stepsOf l c (b .interface) entry .answer .number) 0 ≡ true) × (others (requestOf (derivedOver l c)) (b .interface) entry (decodeStage (c .inputs)) ≡ accepted)
+  parts : (eqb (stepsOf l c (b .interface) entry .answer .number) 0 ≡ true) × (behindPairs (requestOf (c .codes)) (b .interface) entry (decodeStage (c .lent .inputs)) ≡ accepted)
   parts =
-      let q = requestOf (derivedOver l c) in
-      let inputs = decodeStage (c .inputs) in
-      let x = stepsOf l c (b .interface) entry in
-      let p = derived-parts q (b .interface) entry inputs (decodeLayout l) (decodeSizes (c .sizes)) x refl refl (sym (run-answer (derivedOver l c) (b .interface) entry) ∙ answered) in
-      (p .0, sym (derived-judged q (b .interface) entry inputs (x .layout) refl) ∙ p .1)
+      derived-parts (requestOf (c .codes)) (b .interface) entry (decodeStage (c .lent .inputs)) (decodeLayout l) (decodeSizes (c .lent .sizes))
+      (stepsOf l c (b .interface) entry) refl (sym (run-answer true (requestOf (c .codes)) (derivedOver l c .lent) (b .interface) entry) ∙ answered)
 
   left-layout : decodeLayout (checkStage (derivedOver l c) .layout) ≡ stepsOf l c (b .interface) entry .layout
   left-layout =
@@ -121,7 +119,7 @@ module _ (l : List ℕ) (c : Call) (f : layoutFiled l ≡ true) (b : Runs (deriv
         runs = b;
         placed = λ i m. rw left-layout (folded l c f b entry .placed (parts .0) i m);
         passed = parts .1;
-        written = rw (runs-on (derivedOver l c) b) (run-out (derivedOver l c) (b .interface) entry answered);
+        written = rw (runs-on (derivedOver l c) b) (run-out true (requestOf (c .codes)) (derivedOver l c .lent) (b .interface) entry answered);
       }
 
 -- ---- a list of calls in derived mode

@@ -20,35 +20,28 @@ use Rattle.lists.specs.SizeFormat.{sizesFiled, decodeSizes}
 use Rattle.lists.specs.Records.{countOf}
 use Rattle.lists.specs.declared.size_record.SizeRecord.{SizeRecord}
 use Rattle.interface.specs.Meaning.{EntryPoint, Interface}
-use Rattle.interface.specs.Format.{decode, stageAt}
+use Rattle.interface.specs.Format.{decode}
 use Rattle.interface.specs.Reads.{interfaceOf}
 use Rattle.interface.specs.Reads as Packs
 use Rattle.interface.specs.Rules.{findEntryPoint}
 use Rattle.interface.specs.declared.types.Chosen.{Chosen}
 use Rattle.interface.specs.declared.types.Chosen.the-variants as Ch
 use Rattle.interface.specs.declared.types.SamplingPair.{SamplingPair}
-use Rattle.stage.specs.Meaning.{Call, Outcome}
+use Rattle.stage.specs.Meaning.{codes, lent, Call, call, Outcome}
 use Rattle.stage.specs.Resources.{resourceNth}
-use Rattle.stage.specs.Stage.{checkStage, outWords}
+use Rattle.stage.specs.Stage.{requestOf, checkStage, outWords}
 
 -- ---- running and putting again
 
+-- a call in a mode over a layout list, with a size list and a list out
+abbrev pub overLayout : ℕ → List ℕ → List ℕ → List ℕ → Call → Call
+overLayout mode layout sizes out c =
+    call (c .pack) (c .name) (codes (c .codes .stage) (c .codes .topology) mode (c .codes .«dual_source») (c .codes .depth))
+    (lent layout sizes (c .lent .inputs) out)
+
 -- a call in derived mode over a layout list
 abbrev pub derivedOver : List ℕ → Call → Call
-derivedOver layout c =
-    record {
-      pack = c .pack;
-      layout = layout;
-      sizes = c .sizes;
-      inputs = c .inputs;
-      out = c .out;
-      stage = c .stage;
-      name = c .name;
-      topology = c .topology;
-      mode = 1;
-      dual = c .dual;
-      depth = c .depth;
-    }
+derivedOver layout c = overLayout 1 layout (c .lent .sizes) (c .lent .out) c
 
 -- 'run over it any list of stage checks in derived mode …, each … with the layout list as the one before left it'
 unfoldable pub runOver : List ℕ → List Call → List ℕ
@@ -57,20 +50,7 @@ runOver layout (c ∷ cs) = let next = checkStage (derivedOver layout c) .layout
 
 -- 'Put again is the call as made, but in mode 0 over the finished list', with room enough: a size list and a list out of its own
 abbrev pub putAgain : List ℕ → List ℕ → List ℕ → Call → Call
-putAgain layout sizes out c =
-    record {
-      pack = c .pack;
-      layout = layout;
-      sizes = sizes;
-      inputs = c .inputs;
-      out = out;
-      stage = c .stage;
-      name = c .name;
-      topology = c .topology;
-      mode = 0;
-      dual = c .dual;
-      depth = c .depth;
-    }
+putAgain layout sizes out c = overLayout 0 layout sizes out c
 
 -- ---- what stands
 
@@ -138,7 +118,7 @@ chosenEntry i Ch.Several = Packs.emptyEntryPoint
 
 -- the entry point that a call means
 abbrev pub entryOfCall : Call → EntryPoint
-entryOfCall c = chosenEntry (interfaceOfCall c) (findEntryPoint (stageAt (c .stage)) (c .name) (interfaceOfCall c .entries))
+entryOfCall c = chosenEntry (interfaceOfCall c) (findEntryPoint (requestOf (c .codes) .stage) (c .name) (interfaceOfCall c .entries))
 
 abbrev pub isBuffer : ResourceType → Bool
 isBuffer (Res.Buffer size space) = true

@@ -6,6 +6,7 @@ use interface::choose::finalize_entry_point_name;
 use stage::check::check_stage;
 use test_text::print;
 use test_text::read;
+use stage::types::Codes;
 use word::word;
 
 // Words for the longest lent list, a little past what document 01 takes.
@@ -33,19 +34,14 @@ fn answer_stage(
     old_sizes: &[u32],
     old_out: &[u32],
 ) {
-    let answer = check_stage(
-        pack,
-        layout,
-        sizes,
-        inputs,
-        out,
-        word(head, 7),
-        name,
-        word(head, 8),
-        word(head, 9),
-        word(head, 10),
-        word(head, 11),
-    );
+    let codes = Codes {
+        stage: word(head, 7),
+        topology: word(head, 8),
+        mode: word(head, 9),
+        dual_source: word(head, 10),
+        depth: word(head, 11),
+    };
+    let answer = check_stage(pack, layout, sizes, inputs, out, name, codes);
     print::answer(answer);
     changes(old_layout, layout);
     changes(old_sizes, sizes);

@@ -18,6 +18,8 @@ use Rattle.lists.specs.SizeFormat.{encodeSizes}
 use Rattle.lists.specs.StageListFormat.{encodeStage}
 use Rattle.lists.specs.Records.{flat}
 use Rattle.stage.specs.Meaning.{Outcome, outcome}
+use Rattle.lists.specs.Format.{encodeSizes, encodeStage, flat}
+use Rattle.stage.specs.Meaning.{codes, lent, call, Outcome, outcome}
 use Rattle.stage.specs.Stage.{checkStage}
 use Rattle.word.specs.declared.answer.Answer.{Answer}
 use Rattle.interface.proofs.ReadsRecords.{records-left, records-none}
@@ -44,7 +46,7 @@ stage-read ws head w r s e f g = rw (g, f, e)
 
 module _ (ws L I l s o name : List ℕ) (a : Answer) (head stage : ℕ)
     (e : outcome a l s o
-    ≡ checkStage (record { pack = ws; layout = L; sizes = 2684354560 ∷ []; inputs = I; out = 1476395008 ∷ 1207959552 ∷ replicate 126 0; stage = stage; name = name; topology = 3; mode = 1; dual = 0; depth = 1 }))
+    ≡ checkStage (call ws name (codes stage 3 1 0 1) (lent L (2684354560 ∷ []) I (1476395008 ∷ 1207959552 ∷ replicate 126 0))))
     (g : stage ≡ stageCode (entryAt ws head .stage)) (h : name ≡ nameAt ws head) where
   is-derived : outcome a l s o ≡ derived ws (entryAt ws head) L I
   unfolding derived standing partsAt encodeSizes encodeStage flat payloadWord

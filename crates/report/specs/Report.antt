@@ -14,7 +14,7 @@ use Rattle.lists.specs.Records.{countOf}
 use Rattle.lists.specs.declared.stage_types.PrimitiveIndex.the-variants as Index
 use Rattle.interface.specs.Meaning.{EntryPoint}
 use Rattle.interface.specs.Format.{Decoded, Torn, Misfiled, Pack, decode, stageCode}
-use Rattle.stage.specs.Meaning.{Call, Outcome}
+use Rattle.stage.specs.Meaning.{codes, lent, Call, call, Outcome}
 use Rattle.stage.specs.Stage.{checkStage}
 use Rattle.report.specs.Text.{wordsOf, line, hexLines}
 
@@ -42,20 +42,7 @@ ran layout io text = record { layout = layout; io = io; text = text }
 
 -- 'derives each entry point …, triangles, no dual source, depth attached'
 abbrev pub stageCall : List ℕ → EntryPoint → List ℕ → List ℕ → Call
-stageCall pack e layout io =
-    record {
-      pack = pack;
-      layout = layout;
-      sizes = emptySizes;
-      inputs = io;
-      out = emptyStage;
-      stage = stageCode (e .stage);
-      name = e .name;
-      topology = 3;
-      mode = 1;
-      dual = 0;
-      depth = 1;
-    }
+stageCall pack e layout io = call pack (e .name) (codes (stageCode (e .stage)) 3 1 0 1) (lent layout emptySizes io emptyStage)
 
 -- what the stage check of one entry point comes to
 unfoldable pub derived : List ℕ → EntryPoint → List ℕ → List ℕ → Outcome

@@ -17,6 +17,7 @@ use interface::reads::entry_count;
 use interface::reads::stage_at;
 use interface::reads::stage_code;
 use stage::check::check_stage;
+use stage::types::Codes;
 use word::answer::Answer;
 use word::word;
 
@@ -61,19 +62,14 @@ fn derive(pack: &[u32], head: usize, stage: u32, layout: &mut [u32], io: &mut [u
     out[1] = 0x4800_0000;
     let mut name = [0u8; 128];
     let n = name_at(pack, head, &mut name);
-    let a = check_stage(
-        pack,
-        layout,
-        &mut sizes,
-        io,
-        &mut out,
+    let codes = Codes {
         stage,
-        &name[..n],
-        3,
-        1,
-        0,
-        1,
-    );
+        topology: 3,
+        mode: 1,
+        dual_source: 0,
+        depth: 1,
+    };
+    let a = check_stage(pack, layout, &mut sizes, io, &mut out, &name[..n], codes);
     feed(a.number, &out, io);
     a
 }

@@ -8,6 +8,10 @@ use Rattle.lists.specs.Layouts.{Layout}
 use Rattle.lists.specs.Sizes.{Sizes}
 use Rattle.stage.specs.declared.types.Codes.{Codes}
 
+-- the numbers of a call by themselves
+abbrev pub codes : ℕ → ℕ → ℕ → ℕ → ℕ → Codes
+codes stage topology mode dual depth = record { stage = stage; topology = topology; mode = mode; «dual_source» = dual; depth = depth }
+
 -- the lists that a call lends
 pub record Lent : Type 0 where
   pub layout : List ℕ
