@@ -6,7 +6,7 @@ ghost use lib.ListN.{length, drop};
 ghost use Rattle.word.specs.Choice.{pick};
 ghost use Rattle.word.specs.Words.{wordAt};
 ghost use Rattle.resource.specs.Format.{placeOf, entryFiled, entryOf};
-ghost use Rattle.lists.specs.Layouts.{findEntry, entryNth, entryHas, pushed, joined};
+ghost use Rattle.lists.specs.Layouts.{findEntry, entryHas, pushed, joined};
 ghost use Rattle.lists.specs.Places.{foundBelow};
 ghost use Rattle.lists.specs.Records.{fits, countOf, each};
 ghost use Rattle.lists.specs.LayoutFormat.{groupsOf, entryGood, entryFits, layoutHead, layoutFiled, decodeLayout, encodeLayout};
