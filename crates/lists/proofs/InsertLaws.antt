@@ -33,15 +33,17 @@ module _ (v w : Located) (vs : List Located) where
   unfolding insert
   insert-behind h n = rw (le-ltb (v .location) (w .location) h, ne-eqb (v .location) (w .location) n)
 
-  -- by which of them it is
-  pub insert-cases : {P : Type 0} → (v .location < w .location → P) → (v .location ≡ w .location → P)
-      → (w .location < v .location → P) → P
-  insert-cases below equal above =
+  -- what holds of the list in each of them holds of it
+  insert-cases : (P : List Located → Type 0) → (v .location < w .location → P (v ∷ w ∷ vs)) → (v .location ≡ w .location → P (v ∷ vs))
+      → (w .location < v .location → P (w ∷ insert v vs)) → P (insert v (w ∷ vs))
+  insert-cases P below equal above =
       by-test (ltb (v .location) (w .location))
-      (λ t. below (ltb-true (v .location) (w .location) t))
+      (λ t. let h = ltb-true (v .location) (w .location) t in rw (insert-before h) (below h))
       (λ f. by-test (eqb (v .location) (w .location))
-      (λ t. equal (eqb-true (v .location) (w .location) t))
-      (λ g. above (omega (arith, ltb-false (v .location) (w .location) f, eqb-false (v .location) (w .location) g))))
+      (λ t. let h = eqb-true (v .location) (w .location) t in rw (insert-over h) (equal h))
+      (λ g.
+      let h : w .location < v .location = omega (arith, ltb-false (v .location) (w .location) f, eqb-false (v .location) (w .location) g) in
+      rw (insert-behind (omega arith) (λ e. omega arith)) (above h)))
 
 -- ---- the order stays
 
@@ -65,20 +67,16 @@ starts-insert : (n : ℕ) (v : Located) (vs : List Located) → starts n vs ≡ 
 unfolding insert
 starts-insert n v [] h k = lt-ltb n (v .location) k
 starts-insert n v (w ∷ vs) h k =
-    insert-cases v w vs
-    (λ b. rw (insert-before v w vs b) (lt-ltb n (v .location) k))
-    (λ e. rw (insert-over v w vs e) (lt-ltb n (v .location) k))
-    (λ a. rw (insert-behind v w vs (omega arith) (λ e. omega arith)) h)
+    insert-cases v w vs (λ l. starts n l ≡ true) (λ b. lt-ltb n (v .location) k) (λ e. lt-ltb n (v .location) k) (λ a. h)
 
 pub rising-insert : (v : Located) (vs : List Located) → rising vs ≡ true → rising (insert v vs) ≡ true
 unfolding insert
 rising-insert v [] h = rising-cons v [] ∙ h
 rising-insert v (w ∷ vs) h =
-    insert-cases v w vs
-    (λ b. rw (insert-before v w vs b) (rising-cons v (w ∷ vs) ∙ rw (lt-ltb (v .location) (w .location) b, h)))
-    (λ e. rw (insert-over v w vs e) (rising-cons v vs ∙ rw (e, rising-first w vs h, rising-rest w vs h)))
-    (λ a. rw (insert-behind v w vs (omega arith) (λ e. omega arith))
-    (rising-cons w (insert v vs) ∙ rw (starts-insert (w .location) v vs (rising-first w vs h) a, rising-insert v vs (rising-rest w vs h))))
+    insert-cases v w vs (λ l. rising l ≡ true)
+    (λ b. rising-cons v (w ∷ vs) ∙ rw (lt-ltb (v .location) (w .location) b, h))
+    (λ e. rising-cons v vs ∙ rw (e, rising-first w vs h, rising-rest w vs h))
+    (λ a. rising-cons w (insert v vs) ∙ rw (starts-insert (w .location) v vs (rising-first w vs h) a, rising-insert v vs (rising-rest w vs h)))
 
 -- ---- a location above the last goes to the end
 
@@ -122,10 +120,10 @@ pub insert-length : (v : Located) (vs : List Located) → rising vs ≡ true
 unfolding insert varyingAt
 insert-length v [] h = refl
 insert-length v (w ∷ vs) h =
-    insert-cases v w vs
-    (λ b. rw (insert-before v w vs b, ne-eqb (w .location) (v .location) (λ e. omega arith), missing-below (v .location) w vs h b))
-    (λ e. rw (insert-over v w vs e, eq-eqb (w .location) (v .location) (sym e)))
-    (λ a. rw (insert-behind v w vs (omega arith) (λ e. omega arith), ne-eqb (w .location) (v .location) (λ e. omega arith))
+    insert-cases v w vs (λ l. length l ≡ longer (isProvided (varyingAt (v .location) (w ∷ vs))) (suc (length vs)))
+    (λ b. rw (ne-eqb (w .location) (v .location) (λ e. omega arith), missing-below (v .location) w vs h b))
+    (λ e. rw (eq-eqb (w .location) (v .location) (sym e)))
+    (λ a. rw (ne-eqb (w .location) (v .location) (λ e. omega arith))
     (ap suc (insert-length v vs (rising-rest w vs h)) ∙ longer-over (isProvided (varyingAt (v .location) vs)) (length vs)))
 
 longer-most : (b : Bool) (n : ℕ) → longer b n ≤ n + 1
@@ -139,10 +137,10 @@ unfolding insert varyingAt
 insert-found v [] = rw (eq-eqb (v .location) (v .location) refl)
 insert-found v (w ∷ vs) =
     let same = eq-eqb (v .location) (v .location) refl in
-    insert-cases v w vs
-    (λ b. rw (insert-before v w vs b, same))
-    (λ e. rw (insert-over v w vs e, same))
-    (λ a. rw (insert-behind v w vs (omega arith) (λ e. omega arith), ne-eqb (w .location) (v .location) (λ e. omega arith)) (insert-found v vs))
+    insert-cases v w vs (λ l. varyingAt (v .location) l ≡ Pro.Var (v .var))
+    (λ b. rw same)
+    (λ e. rw same)
+    (λ a. rw (ne-eqb (w .location) (v .location) (λ e. omega arith)) (insert-found v vs))
 
 pub insert-beside : (v : Located) (location : ℕ) (vs : List Located) → (v .location ≡ location → ⊥)
     → varyingAt location (insert v vs) ≡ varyingAt location vs
@@ -150,10 +148,10 @@ unfolding insert varyingAt
 insert-beside v location [] n = rw (ne-eqb (v .location) location n)
 insert-beside v location (w ∷ vs) n =
     let other = ne-eqb (v .location) location n in
-    insert-cases v w vs
-    (λ b. rw (insert-before v w vs b, other))
-    (λ e. rw (insert-over v w vs e, other, ne-eqb (w .location) location (λ q. n (e ∙ q))))
-    (λ a. rw (insert-behind v w vs (omega arith) (λ e. omega arith), insert-beside v location vs n))
+    insert-cases v w vs (λ l. varyingAt location l ≡ varyingAt location (w ∷ vs))
+    (λ b. rw other)
+    (λ e. rw (other, ne-eqb (w .location) location (λ q. n (e ∙ q))))
+    (λ a. rw (insert-beside v location vs n))
 
 -- ---- of rising locations, each is found at its position
 
@@ -180,10 +178,7 @@ every-insert test v [] t h = rw t
 every-insert test v (w ∷ vs) t h =
     let p = first-passes (test w) (every test vs) h in
     let q = rest-passes (test w) (every test vs) h in
-    insert-cases v w vs
-    (λ b. rw (insert-before v w vs b, t, p, q))
-    (λ e. rw (insert-over v w vs e, t, q))
-    (λ a. rw (insert-behind v w vs (omega arith) (λ e. omega arith), p, every-insert test v vs t q))
+    insert-cases v w vs (λ l. every test l ≡ true) (λ b. rw (t, p, q)) (λ e. rw (t, q)) (λ a. rw (p, every-insert test v vs t q))
 
 pub good-inserted : (v : Located) (S : StageIo) → outGood S ≡ true → locatedHeld v ≡ true → length (S .varyings) < 63 → outGood (inserted v S) ≡ true
 unfolding inserted

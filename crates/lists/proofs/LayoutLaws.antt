@@ -18,7 +18,7 @@ use Rattle.lists.specs.Places.{samePlace}
 use Rattle.lists.specs.LayoutFormat.{entryFits, layoutGood}
 use Rattle.lists.specs.declared.found.Found.the-variants.{At}
 use Rattle.lists.proofs.Records.{every-more, every-set, every-nth}
-use Rattle.lists.proofs.PlaceLaws.{distinct-more, found-last, found-kept}
+use Rattle.lists.proofs.PlaceLaws.{distinct-last, found-last, found-kept}
 use Rattle.lists.proofs.LayoutLists.{Good, good, is-good}
 
 -- ---- entries by position
@@ -63,7 +63,7 @@ module _ (s v : ℕ) (hs : s ≤ 4) (hv : v < 32) where
       same-bool (pick (eqb t s) true (seesBit t v)) (seesBit t (joinBit s v))
       (first (pick (pick (eqb t s) true (seesBit t v)) (seesBit t (joinBit s v)) (not (seesBit t (joinBit s v)))) (ltb (joinBit s v) 32) (joins t ht))
 
-  pub join-short : joinBit s v < 32
+  join-short : joinBit s v < 32
   unfolding joinsRight
   join-short =
       ltb-true (joinBit s v) 32
@@ -81,7 +81,7 @@ module _ (s : ℕ) (es : List BindGroupLayoutEntry) (i : ℕ) where
   pub length-join : length (joinAt s es i) ≡ length es
   length-join = rw (joined-set s es i) (length-set es i (seenBy s (entryNth es i)))
 
-  pub places-join : entryPlaces (joinAt s es i) ≡ entryPlaces es
+  places-join : entryPlaces (joinAt s es i) ≡ entryPlaces es
   places-join =
       rw (joined-set s es i)
       (map-set-same (λ e. e .bind) es i (seenBy s (entryNth es i)) emptyEntry (ap (λ (e : BindGroupLayoutEntry). e .bind) (nth-getD es i)))
@@ -95,7 +95,7 @@ nth-beside s es i k h =
 
 -- ---- rules that stay
 
-pub fits-joined : (g s : ℕ) (e : BindGroupLayoutEntry) → s ≤ 4 → entryFits g e ≡ true → entryFits g (seenBy s e) ≡ true
+fits-joined : (g s : ℕ) (e : BindGroupLayoutEntry) → s ≤ 4 → entryFits g e ≡ true → entryFits g (seenBy s e) ≡ true
 fits-joined g s e hs h =
     let v : e .visibility < 32 = search (ltb-true, first, second) depth 6 in
     let p : placeHeld (e .bind) ≡ true = search (first, second) depth 6 in
@@ -115,7 +115,7 @@ module _ (L : Layout) (h : layoutGood L ≡ true) where
         short = omega (arith, g .short, length-append (L .entries) (e ∷ []), length-drop 4 (L .room));
         groups = g .groups;
         held = every-more (entryFits (L .groups)) (L .entries) e (g .held) f;
-        distinct = rw (map-append (λ e. e .bind) (L .entries) (e ∷ [])) (distinct-more (entryPlaces (L .entries)) (e .bind) (g .distinct) n);
+        distinct = distinct-last (λ e. e .bind) (L .entries) e (g .distinct) n;
       })
 
   -- and by a stage joined

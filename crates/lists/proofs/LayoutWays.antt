@@ -51,7 +51,7 @@ good-begins ws n l e = rw e
 
 -- ---- places
 
-pub entry-places : (n : ℕ) (ws : List ℕ) → entryPlaces (readEntries n ws) ≡ places 4 n ws
+entry-places : (n : ℕ) (ws : List ℕ) → entryPlaces (readEntries n ws) ≡ places 4 n ws
 unfolding entryOf
 entry-places n ws = read-mapped 4 readEntry (λ e. e .bind) n ws
 

@@ -70,7 +70,7 @@ bit-is w =
     let v : w / 0x10_0000 ≡ 128 * (w / 0x800_0000) + (8 * bits 26 23 w + bits 22 0 w / 2 ^ 20) = omega arith in
     ap₂ (λ x y. (x + y) % 64) u v ∙ turned (bits 22 0 w % 64) (8 * bits 26 23 w + bits 22 0 w / 2 ^ 20) (w / 0x800_0000)
 
-pub bit-lacks : (mask : ℕ) (p : ResourceBinding) (b : ℕ) → b ≡ bitOf p → (mask / 2 ^ b % 2 ≡ 1 → ⊥) → taken mask p ≡ false
+bit-lacks : (mask : ℕ) (p : ResourceBinding) (b : ℕ) → b ≡ bitOf p → (mask / 2 ^ b % 2 ≡ 1 → ⊥) → taken mask p ≡ false
 unfolding taken
 bit-lacks mask p b e z = rw (← e) (ne-eqb (mask / 2 ^ b % 2) 1 z)
 

@@ -19,7 +19,7 @@ use Rattle.lists.specs.Records.{every, put, past, each, flat, countOf, r
 use Rattle.lists.specs.StageListFormat.{primitiveCode, readLocated, locatedGood, readVaryings, outFiled, decodeStage, encodeStage, outGood}
 use Rattle.lists.specs.declared.stage_types.PrimitiveIndex.{PrimitiveIndex}
 use Rattle.lists.proofs.Words.{here, there, two-at, drop-put, put-put, put-after, put-own, put-kept}
-use Rattle.lists.proofs.Records.{read-length, room-length, left-cons, left-none, each-cons, each-nth, first-passes, rest-passes, past-drop, flat-append, flat-length, take-read}
+use Rattle.lists.proofs.Records.{read-length, room-left, left-cons, left-none, each-cons, each-nth, first-passes, rest-passes, past-drop, flat-append, flat-length, take-read}
 use Rattle.lists.proofs.StageLists.{located-form, Filed, filed, is-good, code-back, decode-encode, filed-encode, good-decode}
 use Rattle.lists.proofs.InsertLaws.{lastFrom, insert-last, insert-before, insert-over, insert-behind, insert-length, longer, good-inserted}
 
@@ -215,15 +215,7 @@ module _ (s : List ℕ) (head : ℕ) (f : outFiled (set s 0 head) ≡ true) wher
 
     pub out-fits : 2 ≤ length (decodeStage (set s 0 head) .room) → 2 + 2 * n + 2 ≤ length s
     unfolding decodeStage
-    out-fits h =
-        omega (
-          arith,
-          count-is,
-          filed (set s 0 head) f .holds,
-          room-length 2 (countOf (set s 0 head)) (drop 2 (set s 0 head)),
-          length-drop 2 (set s 0 head),
-          length-set s 0 head,
-        )
+    out-fits h = omega (arith, count-is, room-left 2 2 (countOf (set s 0 head)) (set s 0 head) (filed (set s 0 head) f .holds), length-set s 0 head)
 
 room-after : (b : Bool) (n r : ℕ) (ws : List ℕ) → longer b n ≡ n + r → drop (2 * (n + r)) ws ≡ pick b (past 2 n ws) (drop 2 (past 2 n ws))
 room-after true n r ws e = let z : 2 * (n + r) ≡ 2 * n = omega arith in rw (z, past-drop 2 n ws)

@@ -3,7 +3,7 @@ use Prim.Native.Nat.{ℕ, zero, suc, _+_, _-_, _<_, _≤_}
 use native.Mathlib.Omega.{arith}
 use mathlib.Core.Path.{_≡_, refl}
 use mathlib.Core.Bool.{Bool, true, false}
-use mathlib.Core.List.{List, [], _∷_, _++_}
+use mathlib.Core.List.{List, [], _∷_, _++_, map, map-append}
 use lib.ListN.{length, getD}
 use borrow.Author.Tests.{eqb-true, eq-eqb}
 use Rattle.word.specs.Choice.{pick}
@@ -21,7 +21,7 @@ same-place-eq a b h =
 pub same-place-refl : (a : ResourceBinding) → samePlace a a ≡ true
 same-place-refl a = rw (eq-eqb (a .group) (a .group) refl, eq-eqb (a .binding) (a .binding) refl)
 
-pub same-place-turned : (a b : ResourceBinding) → samePlace a b ≡ false → samePlace b a ≡ false
+same-place-turned : (a b : ResourceBinding) → samePlace a b ≡ false → samePlace b a ≡ false
 same-place-turned a b h =
     by-test (samePlace b a) (λ t. never (samePlace a b) (rw (same-place-eq b a t) (same-place-refl a)) h) (λ f. f)
 
@@ -37,20 +37,24 @@ passed-not false c h = (refl, h)
 -- ---- one more at the end
 
 module _ (place p : ResourceBinding) where
-  pub in-more : (ps : List ResourceBinding) → placeIn place ps ≡ false → samePlace p place ≡ false → placeIn place (ps ++ (p ∷ [])) ≡ false
+  in-more : (ps : List ResourceBinding) → placeIn place ps ≡ false → samePlace p place ≡ false → placeIn place (ps ++ (p ∷ [])) ≡ false
   unfolding placeIn
   in-more [] h s = rw s
   in-more (q ∷ ps) h s =
       let n = found-not (samePlace q place) (placeIn place ps) h in
       rw (n .0, in-more ps (n .1) s)
 
-pub distinct-more : (ps : List ResourceBinding) (p : ResourceBinding) → distinctPlaces ps ≡ true → placeIn p ps ≡ false → distinctPlaces (ps ++ (p ∷ [])) ≡ true
+distinct-more : (ps : List ResourceBinding) (p : ResourceBinding) → distinctPlaces ps ≡ true → placeIn p ps ≡ false → distinctPlaces (ps ++ (p ∷ [])) ≡ true
 unfolding distinctPlaces placeIn
 distinct-more [] p d h = refl
 distinct-more (q ∷ ps) p d h =
     let n = passed-not (placeIn q ps) (distinctPlaces ps) d in
     let m = found-not (samePlace q p) (placeIn p ps) h in
     rw (in-more q p ps (n .0) (same-place-turned q p (m .0)), distinct-more ps p (n .1) (m .1))
+
+pub distinct-last : {A : Type 0} (place : A → ResourceBinding) (p : List A) (a : A) → distinctPlaces (map place p) ≡ true → placeIn (place a) (map place p) ≡ false
+    → distinctPlaces (map place (p ++ (a ∷ []))) ≡ true
+distinct-last place p a d h = rw (map-append place p (a ∷ [])) (distinct-more (map place p) (place a) d h)
 
 pub in-last : (ps : List ResourceBinding) (p : ResourceBinding) → placeIn p (ps ++ (p ∷ [])) ≡ true
 unfolding placeIn

@@ -135,11 +135,11 @@ module _ (n i : ℕ) (f : Found) (h : foundBelow n f ≡ true) (e : f ≡ At i) 
 
 -- ---- a place among others
 
-abbrev pub isAt : Found → Bool
+abbrev isAt : Found → Bool
 isAt (At i) = true
 isAt Nothing = false
 
-pub sought-in : (place : ResourceBinding) (ps : List ResourceBinding) (i : ℕ) → placeIn place ps ≡ isAt (placeFrom place ps i)
+sought-in : (place : ResourceBinding) (ps : List ResourceBinding) (i : ℕ) → placeIn place ps ≡ isAt (placeFrom place ps i)
 unfolding placeIn placeFrom
 sought-in place [] i = refl
 sought-in place (p ∷ ps) i = go (samePlace p place) (sought-in place ps (i + 1))

@@ -17,7 +17,7 @@ use Rattle.lists.specs.SizeFormat.{sizeHeld, sizesGood}
 use Rattle.lists.specs.declared.size_record.SizeRecord.{SizeRecord}
 use Rattle.lists.specs.declared.found.Found.the-variants.{At}
 use Rattle.lists.proofs.Records.{first-passes, rest-passes, every-more}
-use Rattle.lists.proofs.PlaceLaws.{same-place-eq, same-place-refl, found-not, found-there, in-last, distinct-more}
+use Rattle.lists.proofs.PlaceLaws.{same-place-eq, same-place-refl, found-not, found-there, in-last, distinct-last}
 use Rattle.lists.proofs.SizeLists.{Good, good, is-good}
 
 abbrev pub raised : ℕ → SizeRecord → SizeRecord
@@ -71,7 +71,7 @@ module _ (place : ResourceBinding) (size : ℕ) where
       (λ t. let k : size ≤ s .size = rw t at h in let m : max (s .size) size ≡ s .size = omega arith in rw (t, m))
       (λ f. rw (f, size-kept ss (rw f at h)))
 
-  pub size-beside : (other : ResourceBinding) (ss : List SizeRecord) → samePlace place other ≡ false
+  size-beside : (other : ResourceBinding) (ss : List SizeRecord) → samePlace place other ≡ false
       → sizeAt other (raiseAt place size ss) ≡ sizeAt other ss
   unfolding raiseAt sizeAt
   size-beside other [] n = refl
@@ -177,8 +177,6 @@ good-recorded place size S h p o l =
     (record {
       short = omega (arith, g .short, leb-true 2 (length (S .room)) t, length-append (S .records) (sizeRecord place size ∷ []), length-drop 2 (S .room));
       held = every-more sizeHeld (S .records) (sizeRecord place size) (g .held) r;
-      distinct =
-          rw (map-append (λ (s : SizeRecord). s .bind) (S .records) (sizeRecord place size ∷ []))
-          (distinct-more (sizePlaces (S .records)) place (g .distinct) f);
+      distinct = distinct-last (λ (s : SizeRecord). s .bind) (S .records) (sizeRecord place size) (g .distinct) f;
     })))
     (λ n. rw (f, n) h))

@@ -45,7 +45,7 @@ module _ (s : List ℕ) (place : ResourceBinding) (n : ℕ) (r : Found) (en : n 
     size-there : placeFrom place (sizePlaces (decodeSizes s .records)) 0 ≡ At i
     size-there = sym sought ∙ h
 
-    pub size-has : sizeHas place (decodeSizes s .records) ≡ true
+    size-has : sizeHas place (decodeSizes s .records) ≡ true
     size-has = sym (place-found place (sizePlaces (decodeSizes s .records)) r sought i h)
 
     pub size-fits : true ≡ sizeFits place (decodeSizes s)

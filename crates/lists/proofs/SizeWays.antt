@@ -1,10 +1,12 @@
 -- The code's ways through a size list.
-use Prim.Native.Nat.{ℕ, _+_, _*_, _≤_}
+use Prim.Native.Nat.{ℕ, _+_, _*_, _<_, _≤_, max}
+use native.Mathlib.Omega.{arith}
 use mathlib.Core.Path.{_≡_, sym, _∙_}
 use mathlib.Core.Bool.{Bool, false, not, _&&_}
 use mathlib.Core.List.{List}
 use lib.Dec.{eqb, leb}
-use lib.ListN.{length, drop}
+use lib.ListN.{length, drop, set}
+use lib.Seq.{set-getD}
 use borrow.Author.Tests.{eq-eqb, ne-eqb, not-false, leb-true}
 use Rattle.word.specs.Words.{wordAt, kindOf, bits}
 use Rattle.resource.specs.Format.{sizeFiled}
@@ -41,3 +43,11 @@ size-places n ws = read-mapped 2 readSize (λ s. s .bind) n ws
 
 pub sizes-distinct : (n : ℕ) (ws : List ℕ) (r : Bool) → r ≡ distinctPlaces (places 2 n ws) → r ≡ distinctSizes (readSizes n ws)
 sizes-distinct n ws r h = rw (size-places n ws) h
+
+-- the larger of a word and the one at a position
+module _ (l : List ℕ) (at w : ℕ) where
+  pub word-raised : wordAt l at < w → set l at w ≡ set l at (max (wordAt l at) w)
+  word-raised h = let m : max (wordAt l at) w ≡ w = omega arith in rw m
+
+  pub word-kept : w ≤ wordAt l at → l ≡ set l at (max (wordAt l at) w)
+  word-kept h = let m : max (wordAt l at) w ≡ wordAt l at = omega arith in rw m (sym (set-getD l at 0))

@@ -1,12 +1,12 @@
 -- Words at a position, and words written there.
-use Prim.Native.Nat.{ℕ, suc, _+_, _<_, _≤_, max}
+use Prim.Native.Nat.{ℕ, suc, _+_, _≤_}
 use native.Mathlib.Omega.{arith}
 use native.Mathlib.Nat.{add-zero}
 use native.Mathlib.Numerals.{add-one}
 use mathlib.Core.Path.{_≡_, refl, sym, ap, _∙_}
 use mathlib.Core.List.{List, [], _∷_, _++_, append-assoc}
 use lib.ListN.{length, take, drop, set, length-append, length-drop, take-append-drop}
-use lib.Seq.{take-append-add, getD-drop, set-getD, sets-eq, take-at, drop-at, drop-drop, length-take-le}
+use lib.Seq.{take-append-add, getD-drop, sets-eq, take-at, drop-at, drop-drop, length-take-le}
 use Rattle.word.specs.Words.{wordAt}
 use Rattle.lists.specs.Records.{put}
 
@@ -48,7 +48,7 @@ module _ (l : List ℕ) (at : ℕ) (p : List ℕ) (h : at ≤ length l) where
   unfolding put
   whole = sym (append-assoc (take at l) p (drop (at + length p) l))
 
-  pub take-put : take (at + length p) (put l at p) ≡ take at l ++ p
+  take-put : take (at + length p) (put l at p) ≡ take at l ++ p
   take-put = rw whole (take-at (take at l ++ p) (drop (at + length p) l) (at + length p) before)
 
   pub drop-put : drop (at + length p) (put l at p) ≡ drop (at + length p) l
@@ -99,11 +99,3 @@ put-next w l at p =
 pub set-behind : {A : Type 0} (p q : List A) (n : ℕ) (a : A) → set (p ++ q) (length p + n) a ≡ p ++ set q n a
 set-behind [] q n a = let e : 0 + n ≡ n = omega arith in rw e
 set-behind (x ∷ p) q n a = let e : suc (length p) + n ≡ suc (length p + n) = omega arith in rw (e, set-behind p q n a)
-
--- the larger of a word and the one at a position
-module _ (l : List ℕ) (at w : ℕ) where
-  pub word-raised : wordAt l at < w → set l at w ≡ set l at (max (wordAt l at) w)
-  word-raised h = let m : max (wordAt l at) w ≡ w = omega arith in rw m
-
-  pub word-kept : w ≤ wordAt l at → l ≡ set l at (max (wordAt l at) w)
-  word-kept h = let m : max (wordAt l at) w ≡ wordAt l at = omega arith in rw m (sym (set-getD l at 0))

@@ -4,6 +4,9 @@ ghost use mathlib.Core.Bool.{true, false};
 ghost use Prim.Native.Nat.{_+_, _*_, _<_, _≤_};
 ghost use lib.ListN.{length, drop};
 ghost use Rattle.word.specs.Words.{contentOf};
+ghost use Prim.Native.Nat.{_+_, _*_, _<_, _≤_, max};
+ghost use lib.ListN.{length, drop, set};
+ghost use Rattle.word.specs.Words.{wordAt, contentOf};
 ghost use Rattle.resource.specs.Format.{placeFiled, placeOf, sizeFiled};
 ghost use Rattle.lists.specs.Sizes.{sizeHas, sizeFits, recorded};
 ghost use Rattle.lists.specs.Records.{countOf, each};
@@ -12,7 +15,6 @@ use crate::found::Found;
 use crate::heads::counted;
 use crate::places::distinct_places;
 use crate::places::find_near;
-use crate::stores::raise_word;
 use crate::stores::store_two;
 use word::content;
 use word::word;
@@ -92,6 +94,16 @@ fn push_size(s: &mut [u32], place: u32, size: u32) -> bool
     store_two(s, at, place, size);
     s[0] = head + 1;
     true
+}
+
+// The larger of a word and the one at a position stored there.
+fn raise_word(l: &mut [u32], at: usize, w: u32)
+    requires { ⌜ at < length (now l) ⌝ }
+    ensures { λ _. ⌜ now (l .exit) ≡ set (now (l .entry)) at (max (wordAt (now (l .entry)) at) w) ⌝ }
+{
+    if l[at] < w {
+        l[at] = w;
+    }
 }
 
 // The position that was noted.

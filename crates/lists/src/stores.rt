@@ -1,9 +1,8 @@
 // Records written into a list.
 ghost use mathlib.Core.Path.{_≡_};
 ghost use mathlib.Core.List.{[], _∷_};
-ghost use Prim.Native.Nat.{_+_, _<_, _≤_, max};
-ghost use lib.ListN.{length, set};
-ghost use Rattle.word.specs.Words.{wordAt};
+ghost use Prim.Native.Nat.{_+_, _≤_};
+ghost use lib.ListN.{length};
 ghost use Rattle.lists.specs.Records.{put};
 
 // Two words stored at a position.
@@ -22,14 +21,4 @@ pub fn store_four(l: &mut [u32], at: usize, a: u32, b: u32, c: u32, d: u32)
 {
     store_two(l, at, a, b);
     store_two(l, at + 2, c, d);
-}
-
-// The larger of a word and the one at a position stored there.
-pub fn raise_word(l: &mut [u32], at: usize, w: u32)
-    requires { ⌜ at < length (now l) ⌝ }
-    ensures { λ _. ⌜ now (l .exit) ≡ set (now (l .entry)) at (max (wordAt (now (l .entry)) at) w) ⌝ }
-{
-    if l[at] < w {
-        l[at] = w;
-    }
 }

@@ -1,7 +1,7 @@
-use Rattle.lists.proofs.Words.{word-raised, word-kept}
+use Rattle.lists.proofs.SizeWays.{word-raised, word-kept}
 use borrow.Author.Needs.{needs}
-use Rattle.lists.proofs.stores.raise_word.Statement.{statement}
-use Rattle.lists.proofs.stores.raise_word.Tie as tie
+use Rattle.lists.proofs.sizes.raise_word.Statement.{statement}
+use Rattle.lists.proofs.sizes.raise_word.Tie as tie
 
 pub raise-word-spec : {M : Type 1} → statement M
 raise-word-spec =
