@@ -17,9 +17,7 @@ use Rattle.varying.specs.Format.{payloadWord}
 use Rattle.lists.specs.SizeFormat.{encodeSizes}
 use Rattle.lists.specs.StageListFormat.{encodeStage}
 use Rattle.lists.specs.Records.{flat}
-use Rattle.stage.specs.Meaning.{Outcome, outcome}
-use Rattle.lists.specs.Format.{encodeSizes, encodeStage, flat}
-use Rattle.stage.specs.Meaning.{codes, lent, call, Outcome, outcome}
+use Rattle.stage.specs.Meaning.{Outcome, outcome, codes, lent, call}
 use Rattle.stage.specs.Stage.{checkStage}
 use Rattle.word.specs.declared.answer.Answer.{Answer}
 use Rattle.interface.proofs.ReadsRecords.{records-left, records-none}
