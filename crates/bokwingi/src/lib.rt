@@ -5,8 +5,7 @@ ghost use Rattle.numeric.specs.Format.{formatAnswer, readType, checkTextureForm
 ghost use Rattle.interface.specs.Format.{decode};
 ghost use Rattle.interface.specs.Rules.{finalizeName};
 ghost use Rattle.stage.specs.Stage.{checkStage};
-ghost use Rattle.stage.specs.Meaning.{call};
-ghost use Rattle.stage.specs.Meaning.{codes, lent, call};
+ghost use Rattle.stage.specs.Meaning.{call, codes, lent};
 ghost use Rattle.bokwingi.specs.Details.{Handed};
 use interface::choose::finalize_entry_point_name;
 use numeric::formats::check_texture_format;

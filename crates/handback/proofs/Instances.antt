@@ -30,10 +30,8 @@ use Rattle.interface.specs.declared.types.Limits.{Limits}
 use Rattle.stage_steps.specs.Interfaces.{workgroupUse, workgroupStep, inputStep, inputSteps, clipPlaces, builtInPlaces, localCount, locationUses, vertexOutputs}
 use Rattle.stage_steps.specs.Interfaces.{anyOf, attachmentUse, fragmentPlaces, fragmentOutputs, placesStep, meshUse, payloadMatch, primitiveUse, drawUse}
 use Rattle.stage_steps.specs.Interfaces.{perVertexUse, lastStep, localsOf, stageOut}
-use Rattle.stage.specs.Meaning.{Call}
+use Rattle.stage.specs.Meaning.{Call, codes, lent, call}
 use Rattle.handback.specs.HandBack.{derivedOver, putAgain, packKept, interfaceOfCall, RoomEnough, Again, runOver, pairsKept, entriesKept, resourcesKept, lacking}
-use Rattle.stage.specs.Meaning.{codes, lent, Call, call}
-use Rattle.handback.specs.HandBack.{derivedOver, putAgain, packKept, interfaceOfCall, RoomEnough, Again}
 use Rattle.handback.proofs.HandBack.{hand-back}
 use Rattle.word.specs.Parse.{several}
 use Rattle.numeric.specs.Format.{typeFiled, typeOf, typeWord}
@@ -46,8 +44,7 @@ use Rattle.lists.specs.Places.{placeFrom, placeIn, distinctPlaces}
 use Rattle.lists.specs.Layouts.{entryNth, pushed, joinAt, joined}
 use Rattle.lists.specs.Sizes.{raiseAt, recorded}
 use Rattle.lists.specs.StageLists.{varyingAt, rising, insert}
-use Rattle.lists.specs.Records.{past, each, flat, put, countOf}
-use Rattle.lists.specs.Records.{records}
+use Rattle.lists.specs.Records.{past, each, flat, put, countOf, records}
 use Rattle.lists.specs.LayoutFormat.{groupsOf, layoutHead, layoutFiled, decodeLayout, encodeLayout}
 use Rattle.lists.specs.SizeFormat.{sizesHead, sizesFiled, decodeSizes, encodeSizes}
 use Rattle.lists.specs.StageListFormat.{stageHead, outFiled, decodeStage, encodeStage}
@@ -56,9 +53,7 @@ use Rattle.interface.specs.Reads.{entryNth as interface-entryNth}
 use Rattle.interface.specs.Rules.{findFrom}
 use Rattle.stage.specs.Resources.{resourceNth, recordSize, providedUse, provideStep, provideSteps, occupied, vacant, deriveStep, namedTexture, deriveSteps, resourceSteps}
 use Rattle.stage.specs.Resources.{pairNumber, pairUse, pairUses}
-use Rattle.stage.specs.Stage.{judgement, stageBody, callGood, finish, runBody, checkStage}
-use Rattle.stage.specs.Stage.{behindInputs, judgement, stageBody, listsGood, callGood, finish, runBody, checkStage}
-use Rattle.handback.specs.HandBack.{runOver, pairsKept, entriesKept, resourcesKept, lacking}
+use Rattle.stage.specs.Stage.{judgement, stageBody, callGood, finish, runBody, checkStage, behindInputs, listsGood}
 
 -- ---- packs and calls
 

@@ -1,12 +1,9 @@
 // A size list: whether it is one, and a size recorded.
 ghost use mathlib.Core.Path.{_≡_};
 ghost use mathlib.Core.Bool.{true, false};
-ghost use Prim.Native.Nat.{_+_, _*_, _<_, _≤_};
-ghost use lib.ListN.{length, drop};
-ghost use Rattle.word.specs.Words.{contentOf};
 ghost use Prim.Native.Nat.{_+_, _*_, _<_, _≤_, max};
 ghost use lib.ListN.{length, drop, set};
-ghost use Rattle.word.specs.Words.{wordAt, contentOf};
+ghost use Rattle.word.specs.Words.{contentOf, wordAt};
 ghost use Rattle.resource.specs.Format.{placeFiled, placeOf, sizeFiled};
 ghost use Rattle.lists.specs.Sizes.{sizeHas, sizeFits, recorded};
 ghost use Rattle.lists.specs.Records.{countOf, each};

@@ -6,8 +6,7 @@ use lib.Dec.{eqb}
 use borrow.Author.Tests.{eq-eqb, ne-eqb}
 use Rattle.word.specs.Choice.{pick, yes}
 use Rattle.resource.specs.Rules.{spaceOf, sameSpace, sizeUse, bufferUse, comparing, sameBool, samplerUse, viewCode, viewFits}
-use Rattle.resource.specs.Rules.{classOf, kindCode, sampledFits, storageFits, accessOf, storable, isExternal, classUse, textureUse}
-use Rattle.resource.specs.Rules.{accelerationUse, checkBindingUse}
+use Rattle.resource.specs.Rules.{classOf, kindCode, sampledFits, storageFits, accessOf, storable, isExternal, classUse, textureUse, accelerationUse, checkBindingUse}
 use Rattle.resource.specs.declared.types.AddressSpace.{AddressSpace}
 use Rattle.resource.specs.declared.types.AddressSpace.the-variants as Space
 use Rattle.resource.specs.declared.types.ImageDimension.{ImageDimension}
