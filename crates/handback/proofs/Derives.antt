@@ -11,6 +11,7 @@ use borrow.Author.Tests.{eqb-true, leb-true, lt-ltb}
 use Rattle.word.specs.Choice.{pick, yes}
 use Rattle.word.specs.Answers.{accepted}
 use Rattle.word.specs.declared.answer.Answer.{Answer}
+use Rattle.word.specs.Lists.{among}
 use Rattle.resource.specs.Rules.{deriveBindingType}
 use Rattle.resource.specs.Format.{placeHeld, typeHeld, resourceHeld, sameBinding}
 use Rattle.resource.specs.Answers.{bindingAnswer}
@@ -28,7 +29,7 @@ use Rattle.lists.specs.declared.types.Found.the-variants.{At, Nothing}
 use Rattle.lists.proofs.PlaceLaws.{same-place-refl}
 use Rattle.lists.proofs.PlaceWays.{place-lacks}
 use Rattle.lists.proofs.LayoutLaws.{nth-last, length-join, nth-joined, good-pushed, good-joined}
-use Rattle.interface.specs.Format.{stageCode, member}
+use Rattle.interface.specs.Format.{stageCode}
 use Rattle.interface.specs.declared.types.ShaderStage.{ShaderStage}
 use Rattle.interface.specs.declared.types.ShaderStage.the-variants as Stage
 use Rattle.interface.specs.declared.types.SamplingPair.{SamplingPair}
@@ -176,17 +177,17 @@ module _ (stage : ShaderStage) (named : Bool) (r : Resource) (L : Layout) (S : S
 pub record Folded (stage : ShaderStage) (resources : List Resource) (pairs : List SamplingPair) (is : List ℕ) (L : Layout) (x : State) : Type 0 where
   pub good : layoutGood (x .layout) ≡ true
   pub grows : Grows L (x .layout)
-  pub placed : eqb (x .answer .number) 0 ≡ true → (i : ℕ) → member i is ≡ true → Placed stage (namedTexture i pairs) (resourceNth resources i) (x .layout)
+  pub placed : eqb (x .answer .number) 0 ≡ true → (i : ℕ) → among is i ≡ true → Placed stage (namedTexture i pairs) (resourceNth resources i) (x .layout)
 
 module _ (stage : ShaderStage) (resources : List Resource) (pairs : List SamplingPair) where
   fold-none : (L : Layout) (S : Sizes) (a : Answer) → layoutGood L ≡ true → Folded stage resources pairs [] L (state a L S)
-  unfolding member
+  unfolding among
   fold-none L S a g = record { good = g; grows = grows-refl L; placed = λ z i m. never false m refl }
 
   -- a step, and the others where it was accepted
   fold-cons : (i : ℕ) (is : List ℕ) (L : Layout) (x y : State) → Stepped stage (namedTexture i pairs) (resourceNth resources i) L x
       → Folded stage resources pairs is (x .layout) y → Folded stage resources pairs (i ∷ is) L (pick (eqb (x .answer .number) 0) y x)
-  unfolding member
+  unfolding among
   fold-cons i is L x y s rest =
       by-test (eqb (x .answer .number) 0)
       (λ t.

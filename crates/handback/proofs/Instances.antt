@@ -5,8 +5,8 @@ use mathlib.Core.Bool.{Bool, true, false, _&&_}
 use mathlib.Core.List.{List, [], _∷_}
 use lib.Dec.{eqb}
 use lib.ListN.{replicate}
-use Rattle.word.specs.Choice.{pick}
-use Rattle.word.specs.Words.{ofKind}
+use Rattle.word.specs.Choice.{pick, yes}
+use Rattle.word.specs.Words.{ofKind, sumOf, closingSum}
 use Rattle.word.specs.Answers.{answer, accepted}
 use Rattle.numeric.specs.declared.types.ScalarKind.the-variants as Kinds
 use Rattle.numeric.specs.declared.types.NumericDimension.the-variants as Dims
@@ -19,7 +19,7 @@ use Rattle.resource.specs.declared.types.ResourceType.{ResourceType}
 use Rattle.resource.specs.declared.types.ResourceType.the-variants as Res
 use Rattle.varying.specs.declared.Payload.the-variants as Pay
 use Rattle.interface.specs.Meaning.{Interface}
-use Rattle.interface.specs.Format.{stageCode}
+use Rattle.interface.specs.Format.{stageCode, readVarying, clips, bytesOf, noZero, allZero, readName, readWorkgroup, readMesh, contents, ofType, pairsOf}
 use Rattle.interface.specs.declared.types.ShaderStage.{ShaderStage}
 use Rattle.interface.specs.declared.types.ShaderStage.the-variants as Stage
 use Rattle.interface.specs.declared.types.MeshRecord.the-variants as Mesh
@@ -31,29 +31,25 @@ use Rattle.stage_steps.specs.Interfaces.{workgroupUse, workgroupStep, inputStep
 use Rattle.stage_steps.specs.Interfaces.{anyOf, attachmentUse, fragmentPlaces, fragmentOutputs, placesStep, meshUse, payloadMatch, primitiveUse, drawUse}
 use Rattle.stage_steps.specs.Interfaces.{perVertexUse, lastStep, localsOf, stageOut}
 use Rattle.stage.specs.Meaning.{Call}
-use Rattle.handback.specs.HandBack.{derivedOver, putAgain, packKept, interfaceOfCall, RoomEnough, Again}
+use Rattle.handback.specs.HandBack.{derivedOver, putAgain, packKept, interfaceOfCall, RoomEnough, Again, runOver, pairsKept, entriesKept, resourcesKept, lacking}
 use Rattle.handback.proofs.HandBack.{hand-back}
-use Rattle.word.specs.Choice.{yes}
-use Rattle.word.specs.Words.{sumOf, closingSum}
 use Rattle.word.specs.Parse.{several}
-use Rattle.numeric.specs.Format.{typeFiled, typeOf, typeWord}
+use Rattle.word.specs.Lists.{flat, among}
+use Rattle.numeric.specs.TypeWords.{typeFiled, typeOf, typeWord}
 use Rattle.resource.specs.Rules.{sameSpace, bufferUse, samplerUse, viewFits, sampledFits, storageFits, textureUse, checkBindingUse, derivedTexture}
 use Rattle.resource.specs.Rules.{deriveBindingType, handBack}
 use Rattle.resource.specs.Format.{resourceTypeFiled, resourceTypeOf, readResource, resourceWords, bindingTypeFiled, bindingTypeOf, entryFiled, entryOf}
 use Rattle.resource.specs.Format.{bindingCode, entryWords}
 use Rattle.varying.specs.Format.{varFiled, varOf, varWord, payloadFiled, payloadOf, payloadWord}
 use Rattle.lists.specs.Meaning.{placeFrom, placeIn, distinctPlaces, entryNth, pushed, joinAt, joined, raiseAt, recorded, varyingAt, rising, insert}
-use Rattle.lists.specs.Format.{past, records, each, flat, put, groupsOf, countOf, layoutHead, layoutFiled, decodeLayout, encodeLayout, sizesHead, sizesFiled}
+use Rattle.lists.specs.Format.{past, records, each, put, groupsOf, countOf, layoutHead, layoutFiled, decodeLayout, encodeLayout, sizesHead, sizesFiled}
 use Rattle.lists.specs.Format.{decodeSizes, encodeSizes, stageHead, outFiled, decodeStage, encodeStage}
-use Rattle.interface.specs.Format.{readVarying, clips, bytesOf, noZero, allZero, readName, readWorkgroup, readMesh, contents, member, ofType, pairsOf}
-use Rattle.interface.specs.Format.{readEntryPoint, sameBytes, hasName, distinctNames, readPack, torn, decode, concat, packName, entryPointWords, recordWords}
-use Rattle.interface.specs.Format.{encode}
+use Rattle.interface.specs.Format.{readEntryPoint, sameBytes, hasName, distinctNames, readPack, torn, decode, packName, entryPointWords, recordWords, encode}
 use Rattle.interface.specs.Reads.{entryNth as interface-entryNth}
 use Rattle.interface.specs.Rules.{findFrom}
 use Rattle.stage.specs.Resources.{resourceNth, recordSize, providedUse, provideStep, occupied, vacant, deriveStep, namedTexture, resourceStep, resourceSteps}
 use Rattle.stage.specs.Resources.{pairNumber, pairUse, pairUses}
 use Rattle.stage.specs.Stage.{judgement, stageBody, callGood, finish, runBody, checkStage}
-use Rattle.handback.specs.HandBack.{runOver, pairsKept, entriesKept, resourcesKept, lacking}
 
 -- ---- packs and calls
 
@@ -178,7 +174,7 @@ unfolding yes sumOf closingSum several typeFiled typeOf typeWord sameSpace buffe
     entryOf bindingCode entryWords varFiled varOf varWord payloadFiled payloadOf payloadWord placeFrom placeIn distinctPlaces entryNth pushed joinAt
     joined raiseAt recorded varyingAt rising insert past records each flat put groupsOf countOf layoutHead layoutFiled decodeLayout encodeLayout
     sizesHead sizesFiled decodeSizes encodeSizes stageHead outFiled decodeStage encodeStage readVarying clips bytesOf noZero allZero readName
-    readWorkgroup readMesh contents member ofType pairsOf readEntryPoint sameBytes hasName distinctNames readPack torn decode concat packName
+    readWorkgroup readMesh contents among ofType pairsOf readEntryPoint sameBytes hasName distinctNames readPack torn decode flat packName
     entryPointWords recordWords encode interface-entryNth findFrom workgroupUse workgroupStep inputStep inputSteps clipPlaces builtInPlaces localCount
     locationUses vertexOutputs anyOf attachmentUse fragmentPlaces fragmentOutputs placesStep meshUse payloadMatch primitiveUse drawUse perVertexUse
     lastStep localsOf stageOut resourceNth recordSize providedUse provideStep occupied vacant deriveStep namedTexture resourceStep resourceSteps
@@ -269,7 +265,7 @@ unfolding allRight cases yes sumOf closingSum several typeFiled typeOf typeWord 
     entryOf bindingCode entryWords varFiled varOf varWord payloadFiled payloadOf payloadWord placeFrom placeIn distinctPlaces entryNth pushed joinAt
     joined raiseAt recorded varyingAt rising insert past records each flat put groupsOf countOf layoutHead layoutFiled decodeLayout encodeLayout
     sizesHead sizesFiled decodeSizes encodeSizes stageHead outFiled decodeStage encodeStage readVarying clips bytesOf noZero allZero readName
-    readWorkgroup readMesh contents member ofType pairsOf readEntryPoint sameBytes hasName distinctNames readPack torn decode concat packName
+    readWorkgroup readMesh contents among ofType pairsOf readEntryPoint sameBytes hasName distinctNames readPack torn decode flat packName
     entryPointWords recordWords encode interface-entryNth findFrom workgroupUse workgroupStep inputStep inputSteps clipPlaces builtInPlaces localCount
     locationUses vertexOutputs anyOf attachmentUse fragmentPlaces fragmentOutputs placesStep meshUse payloadMatch primitiveUse drawUse perVertexUse
     lastStep localsOf stageOut resourceNth recordSize providedUse provideStep occupied vacant deriveStep namedTexture resourceStep resourceSteps

@@ -9,6 +9,7 @@ use lib.ListN.{length, drop, length-drop}
 use borrow.Author.Tests.{eq-eqb, le-leb}
 use Rattle.word.specs.Choice.{pick, yes}
 use Rattle.word.specs.Answers.{accepted}
+use Rattle.word.specs.Lists.{among}
 use Rattle.resource.specs.Rules.{handBack}
 use Rattle.resource.specs.Format.{typeHeld}
 use Rattle.resource.specs.declared.types.ResourceBinding.{ResourceBinding}
@@ -21,7 +22,6 @@ use Rattle.word.proofs.Truth.{by-test}
 use Rattle.lists.specs.Meaning.{Layout, Sizes, findEntry, distinctEntries, sizePlaces, sizeHas, raiseAt, samePlace, sizeRecord, fits, recorded}
 use Rattle.lists.specs.declared.types.SizeRecord.{SizeRecord}
 use Rattle.lists.specs.declared.types.Found.the-variants.{At}
-use Rattle.interface.specs.Format.{member}
 use Rattle.interface.specs.declared.types.ShaderStage.{ShaderStage}
 use Rattle.interface.specs.declared.types.SamplingPair.{SamplingPair}
 use Rattle.stage.specs.Meaning.{State, state}
@@ -137,9 +137,9 @@ module _ (stage : ShaderStage) (resources : List Resource) (pairs : List Samplin
   unfolding resourceSteps resourceStep yes
   steps-on i is L S T e = rw e
 
-  pub provide-steps : (is : List ℕ) (L : Layout) (S : Sizes) → ((i : ℕ) → member i is ≡ true → providedUse stage L (resourceNth resources i) ≡ accepted)
+  pub provide-steps : (is : List ℕ) (L : Layout) (S : Sizes) → ((i : ℕ) → among is i ≡ true → providedUse stage L (resourceNth resources i) ≡ accepted)
       → 2 * lacking resources is (S .records) ≤ length (S .room) → Accepts L (resourceSteps stage false resources pairs is L S)
-  unfolding resourceSteps lacking member
+  unfolding resourceSteps lacking among
   provide-steps [] L S u h = record { answer = refl; layout = refl }
   provide-steps (i ∷ is) L S u h =
       let r = resourceNth resources i in

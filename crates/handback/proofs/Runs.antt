@@ -5,12 +5,13 @@ use mathlib.Core.Bool.{true}
 use mathlib.Core.List.{List, [], _∷_, _++_}
 use lib.Dec.{eqb}
 use Rattle.word.specs.Answers.{accepted}
+use Rattle.word.specs.Lists.{among}
 use Rattle.word.proofs.Truth.{first}
 use Rattle.lists.specs.Meaning.{Layout}
 use Rattle.lists.specs.Format.{layoutFiled, layoutGood, decodeLayout, encodeLayout, decodeSizes, decodeStage, encodeStage}
 use Rattle.lists.proofs.LayoutLists.{good-decode, filed-encode, decode-encode}
 use Rattle.interface.specs.Meaning.{Interface, EntryPoint}
-use Rattle.interface.specs.Format.{stageAt, member}
+use Rattle.interface.specs.Format.{stageAt}
 use Rattle.interface.specs.Reads.{entryNth}
 use Rattle.stage_steps.specs.Interfaces.{stageOut}
 use Rattle.stage.specs.Meaning.{Call, State}
@@ -73,7 +74,7 @@ entryOf c b = entryNth (b .interface .entries) (b .position)
 -- what it leaves: every resource is served, what is judged behind the resources passed, and the list out is written
 pub record Leaves (l : List ℕ) (c : Call) : Type 0 where
   pub runs : Runs (derivedOver l c)
-  pub placed : (i : ℕ) → member i (entryOf (derivedOver l c) runs .resources) ≡ true
+  pub placed : (i : ℕ) → among (entryOf (derivedOver l c) runs .resources) i ≡ true
       → Placed (stageAt (c .stage)) (namedTexture i (entryOf (derivedOver l c) runs .pairs)) (resourceNth (runs .interface .resources) i)
       (decodeLayout (checkStage (derivedOver l c) .layout))
   pub passed : others (requestOf (derivedOver l c)) (runs .interface) (entryOf (derivedOver l c) runs) (decodeStage (c .inputs)) ≡ accepted

@@ -7,12 +7,13 @@ use lib.Dec.{eqb}
 use lib.ListN.{replicate}
 use Rattle.word.specs.Choice.{pick, yes}
 use Rattle.word.specs.Words.{ofKind}
-use Rattle.numeric.specs.Format.{typeFiled, typeOf, typeWord}
+use Rattle.word.specs.Lists.{flat}
+use Rattle.numeric.specs.TypeWords.{typeFiled, typeOf, typeWord}
 use Rattle.resource.specs.Format.{bindingTypeFiled, bindingTypeOf, entryFiled, entryOf, entryWords, bindingCode, leastSize}
 use Rattle.resource.specs.declared.types.BindGroupLayoutEntry.{BindGroupLayoutEntry}
 use Rattle.varying.specs.Format.{varFiled, varOf, varWord, payloadFiled, payloadOf, payloadWord}
 use Rattle.lists.specs.Meaning.{placeIn, distinctPlaces, rising}
-use Rattle.lists.specs.Format.{groupsOf, countOf, past, records, each, flat, layoutHead, layoutFiled, decodeLayout, encodeLayout, sizesHead, sizesFiled, decodeSizes, encodeSizes}
+use Rattle.lists.specs.Format.{groupsOf, countOf, past, records, each, layoutHead, layoutFiled, decodeLayout, encodeLayout, sizesHead, sizesFiled, decodeSizes, encodeSizes}
 use Rattle.lists.specs.Format.{stageHead, outFiled, stageFiled, decodeStage, encodeStage}
 
 sameWords : List ℕ → List ℕ → Bool

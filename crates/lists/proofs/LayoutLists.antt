@@ -7,10 +7,11 @@ use mathlib.Core.List.{List, [], _∷_}
 use lib.ListN.{length, drop, length-append}
 use borrow.Author.Tests.{eqb-true, leb-true, le-leb}
 use Rattle.word.specs.Words.{wordAt, kindOf, bits, ofKind}
+use Rattle.word.specs.Lists.{every, flat}
 use Rattle.resource.specs.Format.{entryWords}
 use Rattle.word.proofs.Truth.{first, second}
-use Rattle.lists.specs.Meaning.{Layout, every, distinctEntries}
-use Rattle.lists.specs.Format.{past, each, flat, groupsOf, countOf, readEntry, entryGood, entryFits, readEntries}
+use Rattle.lists.specs.Meaning.{Layout, distinctEntries}
+use Rattle.lists.specs.Format.{past, each, groupsOf, countOf, readEntry, entryGood, entryFits, readEntries}
 use Rattle.lists.specs.Format.{layoutHead, layoutFiled, decodeLayout, encodeLayout, layoutGood}
 use Rattle.lists.proofs.Records.{read-length, room-length, flat-length, flat-read, every-read, read-flat, past-flat, each-flat}
 use Rattle.lists.proofs.Forms.{entry-form}

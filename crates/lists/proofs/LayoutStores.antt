@@ -9,12 +9,13 @@ use lib.Seq.{drop-drop}
 use borrow.Author.Tests.{ltb-true, le-leb, lt-leb}
 use Rattle.word.specs.Words.{wordAt, kindOf, contentOf, bits, ofKind}
 use Rattle.word.specs.Choice.{pick}
+use Rattle.word.specs.Lists.{flat}
 use Rattle.resource.specs.Format.{placeWord, bindingCode, leastSize, entryFiled, entryWords, entryOf, entryHeld, entryFiledAt, entryAt}
 use Rattle.resource.specs.declared.types.BindGroupLayoutEntry.{BindGroupLayoutEntry}
 use Rattle.resource.proofs.EntryFormat.{entry-filed, entry-read as entry-again, entry-back}
 use Rattle.word.proofs.Truth.{first, second}
 use Rattle.lists.specs.Meaning.{Layout, entryHas, entryNth, emptyEntry, fits, pushed, joinBit, seenBy, joinAt, joined}
-use Rattle.lists.specs.Format.{put, past, each, flat, countOf, groupsOf, readEntry, readEntries, entryGood, entryFits}
+use Rattle.lists.specs.Format.{put, past, each, countOf, groupsOf, readEntry, readEntries, entryGood, entryFits}
 use Rattle.lists.specs.Format.{layoutFiled, decodeLayout, encodeLayout, layoutGood}
 use Rattle.lists.proofs.Words.{put-next, here, there}
 use Rattle.lists.proofs.Records.{read-length, room-length, each-nth, flat-read, put-last, set-flat}

@@ -7,14 +7,16 @@ use mathlib.Core.List.{List, [], _∷_, _++_, map-append}
 use lib.Dec.{eqb}
 use lib.ListN.{length, drop, getD, set, length-append, length-drop}
 use borrow.Author.Tests.{ltb-true, lt-ltb, leb-true, ne-eqb, eqb-false, not-true}
+use Rattle.word.specs.Lists.{every}
 use Rattle.resource.specs.Format.{placeHeld}
 use Rattle.resource.specs.declared.types.ResourceBinding.{ResourceBinding}
 use Rattle.word.proofs.Truth.{first, second, by-test, never}
-use Rattle.lists.specs.Meaning.{Sizes, every, samePlace, placeFrom, placeIn, sizePlaces, sizeHas, sizeAt, raiseAt, sizeRecord, sizeFits, recorded, fits}
+use Rattle.word.proofs.Lists.{first-passes, rest-passes}
+use Rattle.lists.specs.Meaning.{Sizes, samePlace, placeFrom, placeIn, sizePlaces, sizeHas, sizeAt, raiseAt, sizeRecord, sizeFits, recorded, fits}
 use Rattle.lists.specs.Format.{sizeHeld, sizesGood}
 use Rattle.lists.specs.declared.types.SizeRecord.{SizeRecord}
 use Rattle.lists.specs.declared.types.Found.the-variants.{At}
-use Rattle.lists.proofs.Records.{first-passes, rest-passes, every-more}
+use Rattle.lists.proofs.Records.{every-more}
 use Rattle.lists.proofs.PlaceLaws.{same-place-eq, same-place-refl, found-not, found-there, in-last, distinct-more}
 use Rattle.lists.proofs.SizeLists.{Good, good, is-good}
 

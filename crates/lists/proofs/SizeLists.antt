@@ -7,9 +7,10 @@ use mathlib.Core.List.{List, [], _∷_}
 use lib.ListN.{length, drop, length-append}
 use borrow.Author.Tests.{eqb-true, leb-true, le-leb}
 use Rattle.word.specs.Words.{wordAt, kindOf, bits, ofKind}
+use Rattle.word.specs.Lists.{every, flat}
 use Rattle.word.proofs.Truth.{first, second}
-use Rattle.lists.specs.Meaning.{Sizes, every, distinctSizes}
-use Rattle.lists.specs.Format.{past, records, each, flat, countOf, readSize, sizeGood, sizeWords, sizeHeld, readSizes}
+use Rattle.lists.specs.Meaning.{Sizes, distinctSizes}
+use Rattle.lists.specs.Format.{past, records, each, countOf, readSize, sizeGood, sizeWords, sizeHeld, readSizes}
 use Rattle.lists.specs.Format.{sizesHead, sizesFiled, decodeSizes, encodeSizes, sizesGood}
 use Rattle.lists.proofs.Records.{read-length, room-length, flat-length, flat-read, every-read, read-flat, past-flat, each-flat}
 use Rattle.lists.proofs.Forms.{size-form}

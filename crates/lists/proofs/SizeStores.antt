@@ -9,13 +9,14 @@ use lib.Seq.{drop-drop}
 use lib.Dec.{eqb}
 use borrow.Author.Tests.{eqb-true, eqb-false, ne-eqb, not-true, le-leb, lt-leb}
 use Rattle.word.specs.Words.{wordAt, kindOf, contentOf, bits, ofKind}
+use Rattle.word.specs.Lists.{flat}
 use Rattle.resource.specs.Format.{placeFiled, placeOf, placeWord, placeHeld, sizeFiled}
 use Rattle.resource.specs.declared.types.ResourceBinding.{ResourceBinding}
 use Rattle.resource.proofs.ReadLaws.{place-held}
 use Rattle.resource.proofs.EntryFormat.{place-filed, place-read, place-back}
 use Rattle.word.proofs.Truth.{first, second}
 use Rattle.lists.specs.Meaning.{Sizes, placeFrom, distinctPlaces, sizePlaces, sizeHas, sizeRecord, sizeFits, recorded}
-use Rattle.lists.specs.Format.{put, past, records, each, flat, countOf, places, readPlace, readSize, readSizes, sizeGood, sizeWords}
+use Rattle.lists.specs.Format.{put, past, records, each, countOf, places, readPlace, readSize, readSizes, sizeGood, sizeWords}
 use Rattle.lists.specs.Format.{sizesFiled, decodeSizes, encodeSizes, sizesGood}
 use Rattle.lists.specs.declared.types.SizeRecord.{SizeRecord}
 use Rattle.lists.specs.declared.types.Found.{Found}

@@ -8,11 +8,12 @@ use lib.Dec.{eqb, leb}
 use lib.ListN.{length, drop, length-append}
 use borrow.Author.Tests.{eqb-true, leb-true, ltb-true, le-leb, lt-ltb}
 use Rattle.word.specs.Words.{wordAt, kindOf, bits, ofKind}
+use Rattle.word.specs.Lists.{every, flat}
 use Rattle.varying.specs.Format.{locatedWords, locatedHeld, payloadFiled, payloadWord, payloadHeld}
 use Rattle.word.proofs.Truth.{first, second, both, below-all}
 use Rattle.varying.proofs.Joined.{payload-written, payload-held, payload-filed, payload-read}
-use Rattle.lists.specs.Meaning.{StageIo, every, rising}
-use Rattle.lists.specs.Format.{past, each, flat, countOf, primitiveAt, primitiveCode, readLocated, locatedGood, readVaryings}
+use Rattle.lists.specs.Meaning.{StageIo, rising}
+use Rattle.lists.specs.Format.{past, each, countOf, primitiveAt, primitiveCode, readLocated, locatedGood, readVaryings}
 use Rattle.lists.specs.Format.{stageHead, outFiled, stageFiled, decodeStage, encodeStage, outGood, stageGood}
 use Rattle.lists.specs.declared.types.PrimitiveIndex.{PrimitiveIndex}
 use Rattle.lists.specs.declared.types.PrimitiveIndex.the-variants as Index

@@ -6,12 +6,13 @@ use lib.Dec.{eqb, leb, ltb}
 use lib.ListN.{length, take, drop}
 use Rattle.word.specs.Choice.{pick}
 use Rattle.word.specs.Words.{wordAt, kindOf, contentOf, bits, ofKind}
+use Rattle.word.specs.Lists.{every, flat}
 use Rattle.resource.specs.Format.{placeOf, placeFiled, placeWord, placeHeld, sizeFiled, entryFiledAt, entryAt, entryWords, entryHeld}
 use Rattle.resource.specs.declared.types.ResourceBinding.{ResourceBinding}
 use Rattle.resource.specs.declared.types.BindGroupLayoutEntry.{BindGroupLayoutEntry}
 use Rattle.varying.specs.Format.{locationFiled, varFiled, varOf, locatedOf, locatedWords, locatedHeld, payloadFiled, payloadOf, payloadWord, payloadHeld}
 use Rattle.varying.specs.declared.Located.{Located}
-use Rattle.lists.specs.Meaning.{Layout, Sizes, StageIo, every, distinctEntries, distinctSizes, rising}
+use Rattle.lists.specs.Meaning.{Layout, Sizes, StageIo, distinctEntries, distinctSizes, rising}
 use Rattle.lists.specs.declared.types.Found.{Found}
 use Rattle.lists.specs.declared.types.Found.the-variants.{At, Nothing}
 use Rattle.lists.specs.declared.types.SizeRecord.{SizeRecord}
@@ -38,11 +39,6 @@ records width read (suc n) ws = let rest = records width read n (drop width ws) 
 unfoldable pub each : ℕ → (List ℕ → Bool) → ℕ → List ℕ → Bool
 each width test zero ws = true
 each width test (suc n) ws = let rest = each width test n (drop width ws) in pick (test ws) rest false
-
--- the words of records, one after the other
-unfoldable pub flat : {A : Type 0} → (A → List ℕ) → List A → List ℕ
-flat words [] = []
-flat words (a ∷ others) = words a ++ flat words others
 
 -- words written over those from a position on
 unfoldable pub put : List ℕ → ℕ → List ℕ → List ℕ

@@ -59,11 +59,6 @@ abbrev pub foundBelow : ℕ → Found → Bool
 foundBelow n (At i) = ltb i n
 foundBelow n Nothing = true
 
--- each of a list passes a test
-unfoldable pub every : {A : Type 0} → (A → Bool) → List A → Bool
-every test [] = true
-every test (a ∷ others) = let rest = every test others in pick (test a) rest false
-
 -- ---- layouts
 
 abbrev pub entryPlaces : List BindGroupLayoutEntry → List ResourceBinding

@@ -15,7 +15,7 @@ use Rattle.resource.specs.declared.types.BindGroupLayoutEntry.{BindGroupLayoutE
 use Rattle.resource.proofs.EntryFormat.{entry-held}
 use Rattle.varying.specs.Format.{varFiled, varOf, locatedHeld, payloadOf, payloadHeld}
 use Rattle.varying.specs.declared.Payload.{Payload}
-use Rattle.word.proofs.Truth.{first, second, both}
+use Rattle.word.proofs.Truth.{first, second, both, told-true}
 use Rattle.varying.proofs.Joined.{var-held, payload-held}
 use Rattle.lists.specs.Meaning.{Layout, entryPlaces, entryHas, findEntry, foundBelow}
 use Rattle.lists.specs.Format.{countOf, entryFits, readLocated, outFiled, decodeStage}
@@ -25,9 +25,6 @@ use Rattle.lists.proofs.PlaceWays.{place-lacks}
 use Rattle.lists.proofs.Records.{read-length, room-length}
 use Rattle.lists_check.specs.Room.{hasRoom}
 
-pub passed : (b test : Bool) → b ≡ test → not b ≡ false → test ≡ true
-passed b test e h = sym e ∙ not-false b h
-
 -- the parts of a length of two lists of one length
 pub parts-alike : (n m : ℕ) (a b : List ℕ) → n ≤ m → length a ≡ m → length b ≡ m → length (take n a) ≡ length (take n b)
 parts-alike n m a b h p q = length-take-le n a (omega arith) ∙ sym (length-take-le n b (omega arith))
@@ -35,7 +32,7 @@ parts-alike n m a b h p q = length-take-le n a (omega arith) ∙ sym (length-tak
 -- ---- layouts
 
 pub entry-passed : (e : BindGroupLayoutEntry) (p t l v : ℕ) (b : Bool) → b ≡ entryFiled p t l v → not b ≡ false → e ≡ entryOf p t l v → entryHeld e ≡ true
-entry-passed e p t l v b q h r = rw r (entry-held p t l v (passed b (entryFiled p t l v) q h))
+entry-passed e p t l v b q h r = rw r (entry-held p t l v (told-true b (entryFiled p t l v) q h))
 
 pub entry-fits : (e : BindGroupLayoutEntry) (L : Layout) (g : ℕ) → entryHeld e ≡ true → g ≡ L .groups → e .bind .group < g → entryFits (L .groups) e ≡ true
 entry-fits e L g h q n = both (entryHeld e) (ltb (e .bind .group) (L .groups)) h (lt-ltb (e .bind .group) (L .groups) (omega arith))
@@ -55,7 +52,7 @@ pub located-fits : (location w : ℕ) (b : Bool) → b ≡ varFiled w → not b 
     → locatedHeld (record { location = contentOf (0x60000000 + location); var = varOf w }) ≡ true
 located-fits location w b q h n =
     let e : contentOf (0x60000000 + location) ≡ location = omega arith in
-    rw (e, lt-ltb location (2 ^ 27) n) (var-held w (passed b (varFiled w) q h))
+    rw (e, lt-ltb location (2 ^ 27) n) (var-held w (told-true b (varFiled w) q h))
 
 own-head : (l : List ℕ) (head : ℕ) → head ≡ wordAt l 0 → set l 0 head ≡ l
 own-head [] head e = refl
@@ -86,20 +83,20 @@ module _ (l : List ℕ) (h : hasRoom l ≡ true) where
 -- what has room, with its own head
 module _ (l : List ℕ) (b : Bool) (q : b ≡ hasRoom l) (t : not b ≡ false) where
   pub head-there : 0 < length l
-  head-there = omega (arith, long l (passed b (hasRoom l) q t))
+  head-there = omega (arith, long l (told-true b (hasRoom l) q t))
 
   pub head-stays : (m : List ℕ) → length m ≡ length l → 0 < length m
   head-stays m e = omega (arith, head-there)
 
   module _ (head : ℕ) (e : head ≡ wordAt l 0) where
     pub list-out : outFiled (set l 0 head) ≡ true
-    list-out = rw (own-head l head e) (list-filed l (passed b (hasRoom l) q t))
+    list-out = rw (own-head l head e) (list-filed l (told-true b (hasRoom l) q t))
 
     pub variables-few : length (decodeStage (set l 0 head) .varyings) < 63
-    variables-few = rw (own-head l head e) (few l (passed b (hasRoom l) q t))
+    variables-few = rw (own-head l head e) (few l (told-true b (hasRoom l) q t))
 
     pub room-enough : 2 ≤ length (decodeStage (set l 0 head) .room)
-    room-enough = rw (own-head l head e) (roomy l (passed b (hasRoom l) q t))
+    room-enough = rw (own-head l head e) (roomy l (told-true b (hasRoom l) q t))
 
 -- the code's ways through the test of the room
 module _ (l : List ℕ) (b : Bool) (q : b ≡ outFiled l) where

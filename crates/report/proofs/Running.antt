@@ -14,12 +14,13 @@ use Rattle.interface.specs.Reads.{standing, nameAt}
 use Rattle.interface.specs.Parts.{partsAt, entryAt, entryEnd}
 use Rattle.interface.specs.declared.types.ShaderStage.{ShaderStage}
 use Rattle.varying.specs.Format.{payloadWord}
-use Rattle.lists.specs.Format.{encodeSizes, encodeStage, flat}
+use Rattle.lists.specs.Format.{encodeSizes, encodeStage}
 use Rattle.stage.specs.Meaning.{Outcome, outcome}
 use Rattle.stage.specs.Stage.{checkStage}
 use Rattle.word.specs.declared.answer.Answer.{Answer}
+use Rattle.word.specs.Lists.{flat}
 use Rattle.interface.proofs.ReadsRecords.{records-left, records-none}
-use Rattle.interface.proofs.ReadsChoice.{left-of}
+use Rattle.interface.proofs.ReadsParts.{left-of}
 use Rattle.interface.specs.Meaning.{EntryPoint}
 use Rattle.report.specs.Text.{line}
 use Rattle.report.specs.Written.{Wrote}

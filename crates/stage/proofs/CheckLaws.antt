@@ -10,18 +10,19 @@ use borrow.Author.Tests.{eq-eqb, ne-eqb, lt-ltb, le-ltb, ltb-true}
 use Rattle.word.specs.Words.{wordAt, bits}
 use Rattle.word.specs.Answers.{refused}
 use Rattle.word.specs.declared.answer.Answer.{Answer}
+use Rattle.word.specs.Lists.{every}
 use Rattle.word.proofs.Truth.{first, second}
-use Rattle.lists.specs.Meaning.{Layout, Sizes, StageIo, every}
+use Rattle.lists.specs.Meaning.{Layout, Sizes, StageIo}
 use Rattle.lists.specs.Format.{layoutFiled, sizesFiled, outFiled, stageFiled, decodeLayout, decodeSizes, decodeStage, encodeStage}
 use Rattle.lists.proofs.LayoutLists as layouts
 use Rattle.lists.proofs.SizeLists as sizes
 use Rattle.interface.specs.Meaning.{EntryPoint, Interface}
 use Rattle.interface.specs.Format.{decode, decodedNumber, stageAt, contents, pairsOf}
 use Rattle.interface.specs.Reads.{interfaceOf, entryNth, standing}
-use Rattle.interface.specs.Parts.{Placed, Offsets, chosenIn}
-use Rattle.interface.specs.Rules.{findEntryPoint}
-use Rattle.interface.specs.declared.types.Chosen.{Chosen}
-use Rattle.interface.specs.declared.types.Chosen.the-variants as Ch
+use Rattle.interface.specs.Parts.{Placed, Offsets}
+use Rattle.interface.specs.Rules.{chosenIn, findEntryPoint}
+use Rattle.interface.specs.declared.choose.Chosen.{Chosen}
+use Rattle.interface.specs.declared.choose.Chosen.the-variants as Ch
 use Rattle.interface.specs.declared.types.EntryParts.{EntryParts}
 use Rattle.interface.specs.declared.types.ShaderStage.{ShaderStage}
 use Rattle.stage_steps.specs.Interfaces.{stageOut, summaryOf}

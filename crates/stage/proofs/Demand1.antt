@@ -8,17 +8,18 @@ use lib.ListN.{length}
 use native.Mathlib.Omega.{arith}
 use borrow.Author.Tests.{eqb-true, ne-eqb, not-true}
 use Rattle.word.specs.Choice.{pick}
+use Rattle.word.specs.Lists.{among}
 use Rattle.lists.specs.Format.{decodeLayout, decodeSizes, decodeStage, encodeLayout, encodeSizes}
 use Rattle.interface.specs.Meaning.{EntryPoint, Interface}
 use Rattle.interface.specs.Format.{Decoded, Torn, Misfiled, Pack, decode, stageAt}
 use Rattle.interface.specs.Reads.{entryNth}
 use Rattle.interface.specs.Rules.{findEntryPoint}
-use Rattle.interface.specs.declared.types.Chosen.{Chosen}
-use Rattle.interface.specs.declared.types.Chosen.the-variants as Ch
+use Rattle.interface.specs.declared.choose.Chosen.{Chosen}
+use Rattle.interface.specs.declared.choose.Chosen.the-variants as Ch
 use Rattle.stage.specs.Meaning.{Call, Outcome, State}
 use Rattle.stage.specs.Resources.{resourceSteps}
 use Rattle.stage.specs.Stage.{requestOf, judgement, stageBody, finish, runBody, unchanged, callGood, outWords, onChosen, onDecoded, checkStage}
-use Rattle.stage.specs.Table.{among, early, stepNumbers}
+use Rattle.stage.specs.Table.{early, stepNumbers}
 use Rattle.stage.proofs.Numbers.{body-known}
 
 -- ---- numbers of a list

@@ -11,15 +11,16 @@ use Rattle.word.specs.Choice.{yes}
 use Rattle.word.specs.Words.{wordAt, contentOf, bits}
 use Rattle.word.specs.Answers.{answer, accepted}
 use Rattle.word.specs.declared.answer.Answer.{Answer}
+use Rattle.word.specs.Lists.{every}
 use Rattle.resource.specs.Format.{placeOf, placeWord, sampleAt, bindingTypeOf, entryOf}
 use Rattle.resource.specs.declared.types.Resource.{Resource}
 use Rattle.resource.specs.declared.types.BindingType.{BindingType}
 use Rattle.resource.specs.declared.types.BindingType.the-variants as Bind
 use Rattle.resource.specs.declared.types.BindGroupLayoutEntry.{BindGroupLayoutEntry}
 use Rattle.word.proofs.Truth.{first, second, by-test}
-use Rattle.lists.proofs.Records.{first-passes, rest-passes}
+use Rattle.word.proofs.Lists.{first-passes, rest-passes}
 use Rattle.lists.proofs.LayoutStores.{entry-there}
-use Rattle.lists.specs.Meaning.{every, Layout, findEntry, foundBelow, entryNth}
+use Rattle.lists.specs.Meaning.{Layout, findEntry, foundBelow, entryNth}
 use Rattle.lists.specs.Format.{decodeLayout}
 use Rattle.lists.specs.declared.types.Found.{Found}
 use Rattle.lists.specs.declared.types.Found.the-variants.{At, Nothing}

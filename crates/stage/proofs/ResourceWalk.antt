@@ -10,12 +10,13 @@ use borrow.Author.Tests.{eq-eqb, ne-eqb, ltb-true}
 use Rattle.word.specs.Words.{wordAt, contentOf, bits}
 use Rattle.word.specs.Answers.{accepted}
 use Rattle.word.specs.declared.answer.Answer.{Answer}
+use Rattle.word.specs.Lists.{every}
 use Rattle.word.proofs.Tests.{yes-true, yes-false}
 use Rattle.word.proofs.Truth.{second, by-test}
+use Rattle.word.proofs.Lists.{first-passes, rest-passes}
 use Rattle.resource.specs.Rules.{derivedTexture, deriveBindingType}
 use Rattle.resource.specs.Format.{placeOf, placeHeld, typeCode, resourceTypeOf, resource, typeHeld}
-use Rattle.lists.specs.Meaning.{every, Layout, Sizes}
-use Rattle.lists.proofs.Records.{first-passes, rest-passes}
+use Rattle.lists.specs.Meaning.{Layout, Sizes}
 use Rattle.interface.specs.Format.{contents, pairsOf}
 use Rattle.interface.specs.declared.types.ShaderStage.{ShaderStage}
 use Rattle.interface.specs.declared.types.SamplingPair.{SamplingPair}

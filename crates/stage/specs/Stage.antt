@@ -13,8 +13,8 @@ use Rattle.interface.specs.Meaning.{EntryPoint, Interface}
 use Rattle.interface.specs.Format.{Decoded, Torn, Misfiled, Pack, decode, stageAt}
 use Rattle.interface.specs.Reads.{entryNth}
 use Rattle.interface.specs.Rules.{findEntryPoint}
-use Rattle.interface.specs.declared.types.Chosen.{Chosen}
-use Rattle.interface.specs.declared.types.Chosen.the-variants as Ch
+use Rattle.interface.specs.declared.choose.Chosen.{Chosen}
+use Rattle.interface.specs.declared.choose.Chosen.the-variants as Ch
 use Rattle.stage_steps.specs.Meaning.{Request, both}
 use Rattle.stage_steps.specs.Interfaces.{workgroupStep, inputSteps, startWalk, placesStep, lastStep, stageOut, localCount}
 use Rattle.stage_steps.specs.declared.types.InputWalk.{InputWalk}

@@ -19,12 +19,12 @@ ghost use Rattle.stage.specs.Stage.{inputWalk, judgement, outWords, runB
 use crate::judge::judge;
 use crate::resources::resource_steps;
 use interface::check_pack::index_pack;
+use interface::choose::Chosen;
 use interface::choose::find_entry_point;
 use interface::parts::pairs_counted;
 use interface::parts::resources_counted;
 use interface::reads::entry_parts;
 use interface::reads::stage_at;
-use interface::types::Chosen;
 use interface::types::EntryParts;
 use interface::types::ShaderStage;
 use lists::layout::layout_filed;

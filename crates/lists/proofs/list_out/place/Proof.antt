@@ -2,9 +2,10 @@ use Prim.Native.Nat.{_+_, _*_, _<_, _≤_, _^_}
 use mathlib.Core.Path.{_≡_}
 use mathlib.Core.Bool.{true}
 use lib.ListN.{length, drop}
+use Rattle.word.specs.Lists.{flat}
 use Rattle.varying.specs.Format.{varOf, locatedWords}
 use Rattle.lists.specs.Meaning.{insert}
-use Rattle.lists.specs.Format.{put, each, flat, locatedGood, readVaryings}
+use Rattle.lists.specs.Format.{put, each, locatedGood, readVaryings}
 use Rattle.lists.proofs.OutStores.{var-again, good-onward, place-ended, place-before, place-over, place-onward}
 use Rattle.lists.proofs.OutStores.{count-ended, count-before, count-over, count-onward}
 use borrow.Author.Needs.{needs}

@@ -2,7 +2,8 @@ use Prim.Native.Nat.{_+_, _-_, _*_, _<_, _≤_, _^_}
 use mathlib.Core.Path.{_≡_}
 use mathlib.Core.Bool.{true}
 use lib.ListN.{drop}
-use Rattle.lists.specs.Meaning.{distinctPlaces, every}
+use Rattle.word.specs.Lists.{every}
+use Rattle.lists.specs.Meaning.{distinctPlaces}
 use Rattle.lists.specs.Marks.{taken}
 use Rattle.lists.specs.Format.{places}
 use Rattle.lists.proofs.MarkLaws.{records-fit, end-fits, record-fits, record-within, record-starts, marks-begin, marked-begins, bits-onward, bits-apart, differ-not, differ-all}

@@ -1,4 +1,5 @@
-use Rattle.lists_check.proofs.Tested.{passed, entry-within}
+use Rattle.word.proofs.Truth.{told-true}
+use Rattle.lists_check.proofs.Tested.{entry-within}
 use borrow.Author.Needs.{needs}
 use Rattle.lists_check.proofs.layouts.join.Statement.{statement}
 use Rattle.lists_check.proofs.layouts.join.Tie as tie
@@ -17,7 +18,7 @@ join-spec =
     (λ c κs. search needs)  -- place-of-requires
     (λ c κs. search needs)  -- find-entry-requires
     (λ c. search needs)  -- enum-known-index
-    (λ c κs. (search passed, (search entry-within, search needs)))  -- join-visibility-requires
+    (λ c κs. (search told-true, (search entry-within, search needs)))  -- join-visibility-requires
     (λ c κs. search needs)  -- number-requires
     (λ c. search needs)  -- enum-told
     (λ c κs. search needs)  -- nothing-requires-3

@@ -1,4 +1,5 @@
-use Rattle.lists_check.proofs.Tested.{passed, entry-passed}
+use Rattle.word.proofs.Truth.{told-true}
+use Rattle.lists_check.proofs.Tested.{entry-passed}
 use borrow.Author.Needs.{needs}
 use Rattle.lists_check.proofs.layouts.push.Statement.{statement}
 use Rattle.lists_check.proofs.layouts.push.Tie as tie
@@ -16,6 +17,6 @@ push-spec =
     (λ c. search needs)  -- same-length-2
     (λ c. search needs)  -- returns-2
     (λ c κs. search needs)  -- entry-of-requires
-    (λ c κs. (search passed, search entry-passed))  -- push-new-requires
+    (λ c κs. (search told-true, search entry-passed))  -- push-new-requires
     (λ c. search needs)  -- same-length-3
     (λ c. search needs))  -- returns-3

@@ -1,4 +1,4 @@
-use Rattle.lists_check.proofs.Tested.{passed}
+use Rattle.word.proofs.Truth.{told-true}
 use borrow.Author.Needs.{needs}
 use Rattle.lists_check.proofs.sizes.record.Statement.{statement}
 use Rattle.lists_check.proofs.sizes.record.Tie as tie
@@ -18,7 +18,7 @@ record-spec =
     (λ c. search needs)  -- same-length-3
     (λ c. search needs)  -- returns-3
     (λ c κs. search needs)  -- place-of-requires
-    (λ c κs. (search passed, (search needs, (search needs, search needs))))  -- record-size-requires
+    (λ c κs. (search told-true, (search needs, (search needs, search needs))))  -- record-size-requires
     (λ c κs. search needs)  -- yes-no-requires
     (λ c. search needs)  -- same-length-4
     (λ c. search needs))  -- returns-4
