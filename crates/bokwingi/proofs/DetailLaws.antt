@@ -5,7 +5,7 @@ use mathlib.Core.List.{List, [], _∷_}
 use native.Mathlib.Omega.{arith}
 use lib.ListN.{length, set, length-set}
 use Rattle.word.specs.declared.answer.Answer.{Answer}
-use Rattle.numeric.specs.Format.{subtypeNumber}
+use Rattle.numeric.specs.TypeWords.{subtypeNumber}
 use Rattle.numeric.specs.declared.type_words.Compared.{Compared}
 use Rattle.stage.specs.Meaning.{Outcome, outcome}
 use Rattle.bokwingi.specs.Details.{withDetails, Handed}

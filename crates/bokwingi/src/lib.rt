@@ -1,7 +1,7 @@
 // What a board's firmware links: the checks over plain numbers and slices, under names that begin with the product's.
 ghost use mathlib.Core.Path.{_≡_};
-ghost use Rattle.numeric.specs.Rules.{vertexFormat, textureFormat};
-ghost use Rattle.numeric.specs.Format.{formatAnswer, readType, checkTextureFormat, compareTypes, subtypeNumber};
+ghost use Rattle.numeric.specs.Formats.{vertexFormat, textureFormat, formatAnswer, checkTextureFormat};
+ghost use Rattle.numeric.specs.TypeWords.{readType, compareTypes, subtypeNumber};
 ghost use Rattle.interface.specs.Format.{decode};
 ghost use Rattle.interface.specs.Rules.{finalizeName};
 ghost use Rattle.stage.specs.Stage.{checkStage};

@@ -2,17 +2,19 @@
 use mathlib.Core.Path.{_≡_, refl}
 use mathlib.Core.Bool.{true}
 use Rattle.word.specs.Choice.{yes as word-yes}
+use Rattle.word.specs.Lists.{flat as lists-flat, every as lists-every}
 use Rattle.word.specs.Parse.{several as word-several}
 use Rattle.word.specs.Words.{sumOf as word-sumOf, closingSum as word-closingSum}
-use Rattle.numeric.specs.Format.{typeFiled as numeric-typeFiled, typeOf as numeric-typeOf, readType as numeric-readType, typeWord as numeric-typeWord, compareTypes as numeric-compareTypes, checkTextureFormat as numeric-checkTextureFormat}
-use Rattle.numeric.specs.Rules.{shapeFits as numeric-shapeFits, subtypeOf as numeric-subtypeOf, floatVertexFormat as numeric-floatVertexFormat, vertexFormat as numeric-vertexFormat, otherTextureFormat as numeric-otherTextureFormat, textureFormat as numeric-textureFormat}
+use Rattle.numeric.specs.TypeWords.{typeFiled as numeric-typeFiled, typeOf as numeric-typeOf, readType as numeric-readType, typeWord as numeric-typeWord, compareTypes as numeric-compareTypes}
+use Rattle.numeric.specs.Formats.{checkTextureFormat as numeric-checkTextureFormat}
+use Rattle.numeric.specs.Types.{shapeFits as numeric-shapeFits, subtypeOf as numeric-subtypeOf}
+use Rattle.numeric.specs.Formats.{floatVertexFormat as numeric-floatVertexFormat, vertexFormat as numeric-vertexFormat, otherTextureFormat as numeric-otherTextureFormat, textureFormat as numeric-textureFormat}
 use Rattle.resource.specs.Answers.{checkWords as resource-checkWords, deriveWords as resource-deriveWords}
 use Rattle.resource.specs.Format.{resourceTypeFiled as resource-resourceTypeFiled, resourceTypeOf as resource-resourceTypeOf, readResource as resource-readResource, resourceWords as resource-resourceWords, typeHeld as resource-typeHeld, bindingTypeFiled as resource-bindingTypeFiled, bindingTypeOf as resource-bindingTypeOf, entryFiled as resource-entryFiled, entryOf as resource-entryOf, bindingCode as resource-bindingCode, entryWords as resource-entryWords}
 use Rattle.resource.specs.Rules.{sameSpace as resource-sameSpace, bufferUse as resource-bufferUse, samplerUse as resource-samplerUse, viewFits as resource-viewFits, sampledFits as resource-sampledFits, storageFits as resource-storageFits, textureUse as resource-textureUse, accelerationUse as resource-accelerationUse, checkBindingUse as resource-checkBindingUse, derivedTexture as resource-derivedTexture, deriveBindingType as resource-deriveBindingType, handBack as resource-handBack}
 use Rattle.varying.specs.Format.{varFiled as varying-varFiled, varOf as varying-varOf, varWord as varying-varWord, payloadFiled as varying-payloadFiled, payloadOf as varying-payloadOf, payloadWord as varying-payloadWord}
 use Rattle.varying.specs.Rules.{samePayload as varying-samePayload}
-use Rattle.lists.specs.Records.{past as lists-past, each as lists-each, flat as lists-flat, put as lists-put, countOf as lists-countOf, every as lists-every}
-use Rattle.lists.specs.Records.{records as lists-records}
+use Rattle.lists.specs.Records.{past as lists-past, each as lists-each, put as lists-put, countOf as lists-countOf, records as lists-records}
 use Rattle.lists.specs.LayoutFormat.{groupsOf as lists-groupsOf, layoutHead as lists-layoutHead, layoutFiled as lists-layoutFiled, decodeLayout as lists-decodeLayout, encodeLayout as lists-encodeLayout, layoutGood as lists-layoutGood}
 use Rattle.lists.specs.SizeFormat.{sizesHead as lists-sizesHead, sizesFiled as lists-sizesFiled, decodeSizes as lists-decodeSizes, encodeSizes as lists-encodeSizes, sizesGood as lists-sizesGood}
 use Rattle.lists.specs.StageListFormat.{stageHead as lists-stageHead, outFiled as lists-outFiled, decodeStage as lists-decodeStage, encodeStage as lists-encodeStage, outGood as lists-outGood}

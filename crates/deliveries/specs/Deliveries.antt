@@ -4,7 +4,7 @@ use mathlib.Core.Bool.{true, false}
 use mathlib.Core.List.{List, [], _∷_}
 use lib.ListN.{replicate}
 use Rattle.word.specs.Answers.{answer, accepted}
-use Rattle.numeric.specs.Rules.{numeric}
+use Rattle.numeric.specs.Types.{numeric}
 use Rattle.numeric.specs.declared.types.NumericType.{NumericType}
 use Rattle.numeric.specs.declared.types.NumericDimension.the-variants as D
 use Rattle.numeric.specs.declared.types.VectorSize.the-variants.{Bi, Tri, Quad}

@@ -5,7 +5,7 @@ use mathlib.Core.List.{List, [], _∷_}
 use lib.Dec.{eqb}
 use Rattle.word.specs.Choice.{pick}
 use Rattle.word.specs.declared.answer.Answer.{Answer}
-use Rattle.numeric.specs.Rules.{fits}
+use Rattle.numeric.specs.Types.{fits}
 use Rattle.numeric.specs.declared.types.NumericType.{NumericType}
 use Rattle.resource.specs.Rules.{checkBindingUse, useNumber, sameBool}
 use Rattle.resource.specs.declared.types.ResourceType.{ResourceType}

@@ -9,6 +9,7 @@ use lib.Seq.{take-append-le}
 use borrow.Author.Tests.{leb-true}
 use Rattle.word.specs.Answers.{accepted}
 use Rattle.word.specs.Words.{ofKind}
+use Rattle.word.specs.Lists.{flat, among}
 use Rattle.resource.specs.Format.{placeHeld, typeHeld}
 use Rattle.word.proofs.Truth.{first, second}
 use Rattle.varying.specs.Format.{locatedWords, payloadWord}
@@ -17,10 +18,9 @@ use Rattle.lists.specs.StageLists.{StageIo}
 use Rattle.lists.specs.LayoutFormat.{layoutFiled, decodeLayout}
 use Rattle.lists.specs.SizeFormat.{sizesFiled, decodeSizes}
 use Rattle.lists.specs.StageListFormat.{stageFiled, decodeStage, encodeStage, primitiveCode}
-use Rattle.lists.specs.Records.{flat, countOf}
+use Rattle.lists.specs.Records.{countOf}
 use Rattle.lists.proofs.LayoutLists.{good, good-decode}
 use Rattle.interface.specs.Meaning.{Interface, EntryPoint}
-use Rattle.interface.specs.Format.{member}
 use Rattle.interface.specs.declared.types.ShaderStage.{ShaderStage}
 use Rattle.stage_steps.specs.Interfaces.{stageOut}
 use Rattle.stage_steps.specs.declared.types.InputWalk.{InputWalk}
@@ -96,12 +96,12 @@ module _ (l final sizes out : List ℕ) (c : Call) (x : Leaves l c) (f : layoutF
       }
 
   -- every resource is served over the finished list
-  placed-again : (j : ℕ) → member j (e .resources) ≡ true → Placed (requestOf (c .codes) .stage) (namedTexture j (e .pairs)) (resourceNth (i .resources) j) (decodeLayout final)
+  placed-again : (j : ℕ) → among (e .resources) j ≡ true → Placed (requestOf (c .codes) .stage) (namedTexture j (e .pairs)) (resourceNth (i .resources) j) (decodeLayout final)
   placed-again j m =
       placed-grows (requestOf (c .codes) .stage) (namedTexture j (e .pairs)) (resourceNth (i .resources) j) (decodeLayout (checkStage (derivedOver l c) .layout)) (decodeLayout final) g
       (x .placed j m)
 
-  served-again : (j : ℕ) → member j (e .resources) ≡ true → providedUse (requestOf (c .codes) .stage) (decodeLayout final) (resourceNth (i .resources) j) ≡ accepted
+  served-again : (j : ℕ) → among (e .resources) j ≡ true → providedUse (requestOf (c .codes) .stage) (decodeLayout final) (resourceNth (i .resources) j) ≡ accepted
   served-again j m =
       let s = resourceNth (i .resources) j in
       placed-serves (requestOf (c .codes) .stage) (namedTexture j (e .pairs)) s (decodeLayout final) (good (decodeLayout final) (good-decode final f) .distinct) (placed-again j m)

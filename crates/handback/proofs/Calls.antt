@@ -11,8 +11,8 @@ use Rattle.interface.specs.Meaning.{EntryPoint, Interface}
 use Rattle.interface.specs.Format.{Decoded, Torn, Misfiled, Pack, decode}
 use Rattle.interface.specs.Reads.{entryNth}
 use Rattle.interface.specs.Rules.{findEntryPoint}
-use Rattle.interface.specs.declared.types.Chosen.{Chosen}
-use Rattle.interface.specs.declared.types.Chosen.the-variants as Ch
+use Rattle.interface.specs.declared.choose.Chosen.{Chosen}
+use Rattle.interface.specs.declared.choose.Chosen.the-variants as Ch
 use Rattle.stage.specs.Meaning.{Call, Outcome}
 use Rattle.stage.specs.Stage.{callGood, requestOf, derivedOf, unchanged, outWords, runBody, onDecoded, onChosen, checkStage}
 

@@ -10,6 +10,7 @@ use lib.ListN.{length, length-append}
 use borrow.Author.Tests.{eqb-true, leb-true, lt-ltb}
 use Rattle.word.specs.Answers.{accepted}
 use Rattle.word.specs.declared.answer.Answer.{Answer}
+use Rattle.word.specs.Lists.{among}
 use Rattle.resource.specs.Rules.{deriveBindingType}
 use Rattle.resource.specs.Format.{placeHeld, typeHeld, resourceHeld, sameBinding}
 use Rattle.resource.specs.Answers.{bindingAnswer}
@@ -29,7 +30,7 @@ use Rattle.lists.specs.declared.found.Found.the-variants.{At, Nothing}
 use Rattle.lists.proofs.PlaceLaws.{same-place-refl}
 use Rattle.lists.proofs.PlaceWays.{place-lacks}
 use Rattle.lists.proofs.LayoutLaws.{nth-last, length-join, nth-joined, good-pushed, good-joined}
-use Rattle.interface.specs.Format.{stageCode, member}
+use Rattle.interface.specs.Format.{stageCode}
 use Rattle.interface.specs.declared.types.ShaderStage.{ShaderStage}
 use Rattle.interface.specs.declared.types.ShaderStage.the-variants as Stage
 use Rattle.interface.specs.declared.types.SamplingPair.{SamplingPair}
@@ -177,17 +178,17 @@ module _ (stage : ShaderStage) (named : Bool) (r : Resource) (L : Layout) (g : l
 pub record Folded (stage : ShaderStage) (resources : List Resource) (pairs : List SamplingPair) (is : List ℕ) (L : Layout) (x : DeriveResult) : Type 0 where
   pub good : layoutGood (x .layout) ≡ true
   pub grows : Grows L (x .layout)
-  pub placed : eqb (x .answer .number) 0 ≡ true → (i : ℕ) → member i is ≡ true → Placed stage (namedTexture i pairs) (resourceNth resources i) (x .layout)
+  pub placed : eqb (x .answer .number) 0 ≡ true → (i : ℕ) → among is i ≡ true → Placed stage (namedTexture i pairs) (resourceNth resources i) (x .layout)
 
 module _ (stage : ShaderStage) (resources : List Resource) (pairs : List SamplingPair) where
   fold-none : (L : Layout) (a : Answer) → layoutGood L ≡ true → Folded stage resources pairs [] L (deriveResult a 0 L)
-  unfolding member
+  unfolding among
   fold-none L a g = record { good = g; grows = grows-refl L; placed = λ z i m. never false m refl }
 
   -- a step, and the others where it was accepted
   fold-cons : (i : ℕ) (is : List ℕ) (L : Layout) (x : LayoutAfter) (k : Layout → DeriveResult) → Stepped stage (namedTexture i pairs) (resourceNth resources i) L x
       → Folded stage resources pairs is (x .layout) (k (x .layout)) → Folded stage resources pairs (i ∷ is) L (deriveOn x k)
-  unfolding member
+  unfolding among
   fold-cons i is L x k s rest =
       let y = k (x .layout) in
       by-test (eqb (x .answer .number) 0)

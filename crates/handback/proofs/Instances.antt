@@ -19,7 +19,7 @@ use Rattle.resource.specs.declared.types.ResourceType.{ResourceType}
 use Rattle.resource.specs.declared.types.ResourceType.the-variants as Res
 use Rattle.varying.specs.declared.Payload.the-variants as Pay
 use Rattle.interface.specs.Meaning.{Interface}
-use Rattle.interface.specs.Format.{stageCode, readVarying, clips, bytesOf, noZero, allZero, readName, readWorkgroup, readMesh, contents, member, ofType, pairsOf}
+use Rattle.interface.specs.Format.{stageCode, readVarying, clips, bytesOf, noZero, allZero, readName, readWorkgroup, readMesh, contents, ofType, pairsOf}
 use Rattle.interface.specs.declared.types.ShaderStage.{ShaderStage}
 use Rattle.interface.specs.declared.types.ShaderStage.the-variants as Stage
 use Rattle.interface.specs.declared.types.MeshRecord.the-variants as Mesh
@@ -34,7 +34,8 @@ use Rattle.stage.specs.Meaning.{Call, codes, lent, call}
 use Rattle.handback.specs.HandBack.{derivedOver, putAgain, packKept, interfaceOfCall, RoomEnough, Again, runOver, pairsKept, entriesKept, resourcesKept, lacking}
 use Rattle.handback.proofs.HandBack.{hand-back}
 use Rattle.word.specs.Parse.{several}
-use Rattle.numeric.specs.Format.{typeFiled, typeOf, typeWord}
+use Rattle.word.specs.Lists.{flat, among}
+use Rattle.numeric.specs.TypeWords.{typeFiled, typeOf, typeWord}
 use Rattle.resource.specs.Rules.{sameSpace, bufferUse, samplerUse, viewFits, sampledFits, storageFits, textureUse, checkBindingUse, derivedTexture}
 use Rattle.resource.specs.Rules.{deriveBindingType, handBack}
 use Rattle.resource.specs.Format.{resourceTypeFiled, resourceTypeOf, readResource, resourceWords, bindingTypeFiled, bindingTypeOf, entryFiled, entryOf}
@@ -44,11 +45,11 @@ use Rattle.lists.specs.Places.{placeFrom, placeIn, distinctPlaces}
 use Rattle.lists.specs.Layouts.{entryNth, pushed, joinAt, joined}
 use Rattle.lists.specs.Sizes.{raiseAt, recorded}
 use Rattle.lists.specs.StageLists.{varyingAt, rising, insert}
-use Rattle.lists.specs.Records.{past, each, flat, put, countOf, records}
+use Rattle.lists.specs.Records.{past, each, put, countOf, records}
 use Rattle.lists.specs.LayoutFormat.{groupsOf, layoutHead, layoutFiled, decodeLayout, encodeLayout}
 use Rattle.lists.specs.SizeFormat.{sizesHead, sizesFiled, decodeSizes, encodeSizes}
 use Rattle.lists.specs.StageListFormat.{stageHead, outFiled, decodeStage, encodeStage}
-use Rattle.interface.specs.Format.{readEntryPoint, sameBytes, hasName, distinctNames, readPack, torn, decode, concat, packName, entryPointWords, recordWords, encode}
+use Rattle.interface.specs.Format.{readEntryPoint, sameBytes, hasName, distinctNames, readPack, torn, decode, packName, entryPointWords, recordWords, encode}
 use Rattle.interface.specs.Reads.{entryNth as interface-entryNth}
 use Rattle.interface.specs.Rules.{findFrom}
 use Rattle.stage.specs.Resources.{resourceNth, recordSize, providedUse, provideStep, provideSteps, occupied, vacant, deriveStep, namedTexture, deriveSteps, resourceSteps}
@@ -165,7 +166,7 @@ unfolding yes sumOf closingSum several typeFiled typeOf typeWord sameSpace buffe
     entryOf bindingCode entryWords varFiled varOf varWord payloadFiled payloadOf payloadWord placeFrom placeIn distinctPlaces entryNth pushed joinAt
     joined raiseAt recorded varyingAt rising insert past records each flat put groupsOf countOf layoutHead layoutFiled decodeLayout encodeLayout
     sizesHead sizesFiled decodeSizes encodeSizes stageHead outFiled decodeStage encodeStage readVarying clips bytesOf noZero allZero readName
-    readWorkgroup readMesh contents member ofType pairsOf readEntryPoint sameBytes hasName distinctNames readPack torn decode concat packName
+    readWorkgroup readMesh contents among ofType pairsOf readEntryPoint sameBytes hasName distinctNames readPack torn decode flat packName
     entryPointWords recordWords encode interface-entryNth findFrom workgroupUse workgroupStep inputStep inputSteps clipPlaces builtInPlaces localCount
     locationUses vertexOutputs anyOf attachmentUse fragmentPlaces fragmentOutputs placesStep meshUse payloadMatch primitiveUse drawUse perVertexUse
     lastStep localsOf stageOut resourceNth recordSize providedUse provideStep provideSteps occupied vacant deriveStep namedTexture deriveSteps resourceSteps
@@ -256,7 +257,7 @@ unfolding allRight cases yes sumOf closingSum several typeFiled typeOf typeWord 
     entryOf bindingCode entryWords varFiled varOf varWord payloadFiled payloadOf payloadWord placeFrom placeIn distinctPlaces entryNth pushed joinAt
     joined raiseAt recorded varyingAt rising insert past records each flat put groupsOf countOf layoutHead layoutFiled decodeLayout encodeLayout
     sizesHead sizesFiled decodeSizes encodeSizes stageHead outFiled decodeStage encodeStage readVarying clips bytesOf noZero allZero readName
-    readWorkgroup readMesh contents member ofType pairsOf readEntryPoint sameBytes hasName distinctNames readPack torn decode concat packName
+    readWorkgroup readMesh contents among ofType pairsOf readEntryPoint sameBytes hasName distinctNames readPack torn decode flat packName
     entryPointWords recordWords encode interface-entryNth findFrom workgroupUse workgroupStep inputStep inputSteps clipPlaces builtInPlaces localCount
     locationUses vertexOutputs anyOf attachmentUse fragmentPlaces fragmentOutputs placesStep meshUse payloadMatch primitiveUse drawUse perVertexUse
     lastStep localsOf stageOut resourceNth recordSize providedUse provideStep provideSteps occupied vacant deriveStep namedTexture deriveSteps resourceSteps

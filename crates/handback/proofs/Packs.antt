@@ -6,7 +6,7 @@ use mathlib.Core.List.{List, [], _∷_}
 use Rattle.resource.specs.Rules.{handBack}
 use Rattle.resource.specs.declared.types.Resource.{Resource}
 use Rattle.word.proofs.Truth.{first, second}
-use Rattle.lists.proofs.Records.{first-passes, rest-passes}
+use Rattle.word.proofs.Lists.{first-passes, rest-passes}
 use Rattle.interface.specs.Meaning.{EntryPoint, Interface}
 use Rattle.interface.specs.Reads.{entryNth}
 use Rattle.stage.specs.Resources.{resourceNth}

@@ -7,6 +7,7 @@ use lib.Dec.{eqb}
 use borrow.Author.Tests.{eq-eqb}
 use Rattle.word.specs.Choice.{yes}
 use Rattle.word.specs.Answers.{accepted}
+use Rattle.word.specs.Lists.{every, among}
 use Rattle.resource.specs.Rules.{deriveBindingType, derivedTexture}
 use Rattle.resource.specs.declared.types.SampleKind.the-variants as Kind
 use Rattle.resource.specs.declared.types.ImageClass.the-variants as Class
@@ -17,9 +18,8 @@ use Rattle.resource.specs.declared.types.Derived.{Derived}
 use Rattle.resource.specs.declared.types.Derived.the-variants as Der
 use Rattle.word.proofs.Truth.{first, second, by-test, never}
 use Rattle.lists.specs.Layouts.{Layout, distinctEntries}
-use Rattle.lists.specs.Records.{every}
-use Rattle.lists.proofs.Records.{first-passes, rest-passes}
-use Rattle.interface.specs.Format.{member, isTexture, isSampler, ofType, pairGood}
+use Rattle.word.proofs.Lists.{first-passes, rest-passes}
+use Rattle.interface.specs.Format.{isTexture, isSampler, ofType, pairGood}
 use Rattle.interface.specs.declared.types.ShaderStage.{ShaderStage}
 use Rattle.interface.specs.declared.types.SamplingPair.{SamplingPair}
 use Rattle.stage.specs.Resources.{resourceNth, namedTexture, pairNumber, typeAt, pairUse, pairUses}
@@ -75,14 +75,14 @@ module _ (stage : ShaderStage) (resources : List Resource) (all : List SamplingP
 
   -- ---- each pair in pack order
 
-  module _ (listed : List ℕ) (placed : (i : ℕ) → member i listed ≡ true → Placed stage (namedTexture i all) (resourceNth resources i) M) where
+  module _ (listed : List ℕ) (placed : (i : ℕ) → among listed i ≡ true → Placed stage (namedTexture i all) (resourceNth resources i) M) where
     pair-use : (p : SamplingPair) → pairGood resources listed p ≡ true → pairKept resources p ≡ true → namedTexture (p .texture) all ≡ true
         → pairUse M resources p ≡ accepted
     unfolding pairUse
     pair-use p g k n =
-        let mt : member (p .texture) listed ≡ true = search first in
+        let mt : among listed (p .texture) ≡ true = search first in
         let ot : ofType isTexture resources (p .texture) ≡ true = search (first, second) in
-        let ms : member (p .sampler) listed ≡ true = search (first, second) in
+        let ms : among listed (p .sampler) ≡ true = search (first, second) in
         let os : ofType isSampler resources (p .sampler) ≡ true = search (first, second) in
         rw (pair-number (p .texture) (p .sampler) (placed (p .texture) mt) (placed (p .sampler) ms) n ot os k)
 

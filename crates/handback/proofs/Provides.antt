@@ -9,6 +9,7 @@ use lib.ListN.{length, drop, length-drop}
 use borrow.Author.Tests.{eq-eqb, le-leb}
 use Rattle.word.specs.Choice.{pick}
 use Rattle.word.specs.Answers.{accepted}
+use Rattle.word.specs.Lists.{among}
 use Rattle.resource.specs.Rules.{handBack}
 use Rattle.resource.specs.Format.{typeHeld}
 use Rattle.resource.specs.declared.types.ResourceBinding.{ResourceBinding}
@@ -24,7 +25,6 @@ use Rattle.lists.specs.Records.{fits}
 use Rattle.lists.specs.declared.size_record.SizeRecord.{SizeRecord}
 use Rattle.lists.specs.declared.found.Found.the-variants.{At}
 use Rattle.lists.proofs.SizeLaws.{places-raised}
-use Rattle.interface.specs.Format.{member}
 use Rattle.interface.specs.declared.types.ShaderStage.{ShaderStage}
 use Rattle.stage.specs.Resources.{resourceNth, SizesAfter, sizesAfter, recordSize, providedUse, provideStep, provideSteps}
 use Rattle.handback.specs.HandBack.{isBuffer, lacking}
@@ -128,9 +128,9 @@ module _ (stage : ShaderStage) (L : Layout) (resources : List Resource) where
   unfolding provideSteps
   steps-on i is S T e = rw e
 
-  pub provide-steps : (is : List ℕ) (S : Sizes) → ((i : ℕ) → member i is ≡ true → providedUse stage L (resourceNth resources i) ≡ accepted)
+  pub provide-steps : (is : List ℕ) (S : Sizes) → ((i : ℕ) → among is i ≡ true → providedUse stage L (resourceNth resources i) ≡ accepted)
       → 2 * lacking resources is (S .records) ≤ length (S .room) → provideSteps stage L resources is S .answer ≡ accepted
-  unfolding provideSteps lacking member
+  unfolding provideSteps lacking among
   provide-steps [] S u h = refl
   provide-steps (i ∷ is) S u h =
       let r = resourceNth resources i in

@@ -5,6 +5,7 @@ use mathlib.Core.Bool.{Bool, true}
 use mathlib.Core.List.{List, [], _∷_, _++_}
 use lib.Dec.{eqb}
 use Rattle.word.specs.Answers.{accepted}
+use Rattle.word.specs.Lists.{among}
 use Rattle.word.proofs.Truth.{first}
 use Rattle.lists.specs.Layouts.{Layout}
 use Rattle.lists.specs.LayoutFormat.{layoutFiled, layoutGood, decodeLayout, encodeLayout}
@@ -12,7 +13,6 @@ use Rattle.lists.specs.SizeFormat.{decodeSizes}
 use Rattle.lists.specs.StageListFormat.{decodeStage, encodeStage}
 use Rattle.lists.proofs.LayoutLists.{good-decode, filed-encode, decode-encode}
 use Rattle.interface.specs.Meaning.{Interface, EntryPoint}
-use Rattle.interface.specs.Format.{member}
 use Rattle.interface.specs.Reads.{entryNth}
 use Rattle.stage_steps.specs.Interfaces.{stageOut}
 use Rattle.stage_steps.specs.declared.types.Request.{Request}
@@ -76,7 +76,7 @@ entryOf c b = entryNth (b .interface .entries) (b .position)
 -- what it leaves: every resource is served, what is judged behind the resources passed, and the list out is written
 pub record Leaves (l : List ℕ) (c : Call) : Type 0 where
   pub runs : Runs (derivedOver l c)
-  pub placed : (i : ℕ) → member i (entryOf (derivedOver l c) runs .resources) ≡ true
+  pub placed : (i : ℕ) → among (entryOf (derivedOver l c) runs .resources) i ≡ true
       → Placed (requestOf (c .codes) .stage) (namedTexture i (entryOf (derivedOver l c) runs .pairs)) (resourceNth (runs .interface .resources) i)
       (decodeLayout (checkStage (derivedOver l c) .layout))
   pub passed : behindPairs (requestOf (c .codes)) (runs .interface) (entryOf (derivedOver l c) runs) (decodeStage (c .lent .inputs)) ≡ accepted

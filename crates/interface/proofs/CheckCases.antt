@@ -32,16 +32,7 @@ pub cons-behind : {A : Type 0} (a : A) (p : Parsed (List A)) → behind (next p 
 cons-behind a fault = refl
 cons-behind a (got others rest) = refl
 
--- what holds behind a word that passes a test, and behind what is known
-pub yields-word : {B : Type 0} (P : B → Type 0) (test : ℕ → Bool) (w : ℕ) (l : List ℕ) (k : ℕ → List ℕ → Parsed B) → (test w ≡ true → Yields P (k w l))
-    → Yields P (next (one test (w ∷ l)) k)
-yields-word P test w l k y = by-test (test w) (λ t. Yields P (next (pick t (got w l) fault) k)) y (λ f. tt)
-
-pub yields-known : {A B : Type 0} (Q : A → Type 0) (P : B → Type 0) (p : Parsed A) (k : A → List ℕ → Parsed B) → Yields Q p
-    → ((a : A) (rest : List ℕ) → Q a → Yields P (k a rest)) → Yields P (next p k)
-yields-known Q P fault k y h = tt
-yields-known Q P (got a rest) k y h = h a rest y
-
+-- what holds of one record more
 pub yields-cons : {A : Type 0} (a : A) (ys : List A) (p : Parsed (List A)) → Yields (λ xs. xs ≡ ys) p
     → Yields (λ xs. xs ≡ a ∷ ys) (next p λ others rest. got (a ∷ others) rest)
 yields-cons a ys fault y = tt

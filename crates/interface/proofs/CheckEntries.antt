@@ -13,14 +13,15 @@ use lib.Seq.{take-suc-set}
 use Rattle.word.specs.Words.{wordAt, kindOf, bits, bit}
 use Rattle.word.specs.Parse.{Parsed, fault, got, one, several, behind, restAt}
 use Rattle.word.proofs.Parse.{Yields, yields-next, yields-pick, first-of, others-of}
-use Rattle.word.proofs.Truth.{first, second}
+use Rattle.word.proofs.Truth.{first, second, codes-back}
 use Rattle.varying.specs.Format.{payloadFiled}
 use Rattle.resource.specs.declared.types.Resource.{Resource}
 use Rattle.interface.specs.Meaning.{EntryPoint}
 use Rattle.interface.specs.Format.{headFiled, bytesOf, nameFiled, nameWords, readName, readWorkgroup, readMesh, countsFiled, indexFiled, contents, pairFiled, readVarying, clips, stageAt, stageCode, named, hasName, distinctNames, readEntryPoint}
 use Rattle.interface.specs.Walks.{listed, firstWords, nameOf, sameHead, hasHead, distinctHeads, HeadAt, Headed, none, more}
 use Rattle.interface.proofs.CheckRecords.{listed-more}
-use Rattle.interface.proofs.CheckCases.{yields-word, yields-known, yields-cons}
+use Rattle.interface.proofs.Passing.{yields-word, yields-known}
+use Rattle.interface.proofs.CheckCases.{yields-cons}
 
 -- ---- the name that is read
 
@@ -101,12 +102,7 @@ heads-end ws l heads rs i n m h k = let x : n ≡ i = omega arith in rw x m
 -- ---- stages and names compared at those positions
 
 stage-code : (c : ℕ) → c < 5 → stageCode (stageAt c) ≡ c
-stage-code zero h = refl
-stage-code (suc zero) h = refl
-stage-code (suc (suc zero)) h = refl
-stage-code (suc (suc (suc zero))) h = refl
-stage-code (suc (suc (suc (suc zero)))) h = refl
-stage-code (suc (suc (suc (suc (suc c))))) h = absurd (omega arith)
+stage-code = codes-back 5 (λ c. stageCode (stageAt c)) refl
 
 module _ (ws : List ℕ) (h : ℕ) (f : EntryPoint) (y : HeadAt ws h f) where
   same-named : (g : ℕ) (e : EntryPoint) → HeadAt ws g e → sameHead ws g h ≡ named (f .stage) (f .name) e

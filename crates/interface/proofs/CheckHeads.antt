@@ -15,6 +15,7 @@ use Rattle.word.specs.Words.{wordAt}
 use Rattle.word.proofs.Parse.{first-of, others-of}
 use Rattle.interface.specs.Format.{bytesOf, nameWords, sameBytes}
 use Rattle.interface.specs.Walks.{firstWords, nameOf, sameFirst, sameName, sameHead, hasHead, distinctHeads}
+use Rattle.interface.proofs.EncodeNames.{bytes-long}
 use Rattle.interface.proofs.CheckCases.{decided}
 use Rattle.interface.proofs.CheckNames.{words-left}
 
@@ -96,13 +97,13 @@ pub ruleset same-words = (same-1, same-2, same-3, same-4)
 
 -- ---- two names, word after word
 
-pub take-more : (k : ℕ) (xs ys : List ℕ) → take k (xs ++ ys) ≡ take k xs ++ take (k - length xs) ys
+take-more : (k : ℕ) (xs ys : List ℕ) → take k (xs ++ ys) ≡ take k xs ++ take (k - length xs) ys
 take-more zero [] ys = refl
 take-more (suc k) [] ys = rw sub-zero
 take-more zero (x ∷ xs) ys = rw zero-sub
 take-more (suc k) (x ∷ xs) ys = rw suc-sub-suc (ap (_∷_ x) (take-more k xs ys))
 
-pub same-append : (xs ys us vs : List ℕ) → length xs ≡ length ys → sameBytes (xs ++ us) (ys ++ vs) ≡ pick (sameBytes xs ys) (sameBytes us vs) false
+same-append : (xs ys us vs : List ℕ) → length xs ≡ length ys → sameBytes (xs ++ us) (ys ++ vs) ≡ pick (sameBytes xs ys) (sameBytes us vs) false
 unfolding sameBytes
 same-append [] [] us vs e = refl
 same-append [] (y ∷ ys) us vs e = absurd (omega arith)
@@ -116,12 +117,14 @@ module _ (k : ℕ) (h : k ≡ 0 → ⊥) where
   unfolding nameOf firstWords bytesOf
   name-more l = rw (words-left k h) (take-more k (bytesOf (getD l 0 0 ∷ [])) (bytesOf (firstWords (nameWords (k - 4)) (drop 1 l))))
 
+  -- a name against bytes: those of its first word, and the others
+  pub name-step : (l us vs : List ℕ) → length (take k (bytesOf (getD l 0 0 ∷ []))) ≡ length us
+      → sameBytes (nameOf k l) (us ++ vs) ≡ pick (sameBytes (take k (bytesOf (getD l 0 0 ∷ []))) us) (sameBytes (nameOf (k - 4) (drop 1 l)) vs) false
+  name-step l us vs e = rw (name-more l) (same-append (take k (bytesOf (getD l 0 0 ∷ []))) us (nameOf (k - 4) (drop 1 l)) vs e)
+
   same-more : (l m : List ℕ) → sameName k l m ≡ pick (sameFirst k (getD l 0 0) (getD m 0 0)) (sameName (k - 4) (drop 1 l) (drop 1 m)) false
   unfolding sameName sameFirst bytesOf
-  same-more l m =
-      rw (name-more l, name-more m)
-      (same-append (take k (bytesOf (getD l 0 0 ∷ []))) (take k (bytesOf (getD m 0 0 ∷ []))) (nameOf (k - 4) (drop 1 l)) (nameOf (k - 4) (drop 1 m))
-      (simp length-take))
+  same-more l m = rw (name-more m) (name-step l (take k (bytesOf (getD m 0 0 ∷ []))) (nameOf (k - 4) (drop 1 m)) (simp length-take))
 
 -- the walk over two names: words that differ, words that agree, the end
 module _ (ws : List ℕ) (k i j : ℕ) (b goal : Bool) (inv : goal ≡ sameName k (drop i ws) (drop j ws)) (h : k ≡ 0 → ⊥)
@@ -138,11 +141,6 @@ unfolding sameName nameOf sameBytes
 names-ended ws k i j goal z inv = sym (inv ∙ rw z)
 
 -- ---- heads
-
-bytes-long : (ws : List ℕ) → length (bytesOf ws) ≡ 4 * length ws
-unfolding bytesOf
-bytes-long [] = refl
-bytes-long (w ∷ ws) = omega (arith, bytes-long ws)
 
 words-long : (n : ℕ) (ws : List ℕ) → length (firstWords n ws) ≡ n
 unfolding firstWords

@@ -2,7 +2,7 @@
 use Prim.Native.Nat.{ℕ, _-_, _%_, _<_, _≤_}
 use native.Mathlib.Omega.{arith}
 use mathlib.Core.Path.{_≡_, refl, sym, _∙_}
-use mathlib.Core.Bool.{Bool, true, false, not, _&&_, _||_}
+use mathlib.Core.Bool.{Bool, true, false, not, _&&_}
 use mathlib.Core.List.{List, _++_}
 use lib.Dec.{eqb, leb, ltb}
 use borrow.Author.Tests.{eq-eqb, ne-eqb, lt-ltb, le-ltb, ltb-false, leb-true, not-true, not-false}
@@ -18,7 +18,7 @@ use Rattle.interface.specs.Meaning.{Interface}
 use Rattle.interface.specs.Format.{ofWord, editionFiled, totalsFiled, distinctNames, readEntryPoint, readPack, torn, decode, decodedNumber, whole, body}
 use Rattle.interface.specs.Walks.{onward, word, thence, listed, packResources, pairRoles, roleTable, distinctHeads, Headed, entriesBehind, recordsBehind}
 use Rattle.interface.proofs.CheckRecords.{listed-long}
-use Rattle.word.proofs.Truth.{first, second}
+use Rattle.word.proofs.Truth.{first, second, neither}
 use Rattle.interface.proofs.CheckSteps.{step-stop, step-go, word-stop, word-go}
 use Rattle.interface.proofs.CheckWalks.{on-word, on-step}
 use Rattle.interface.proofs.CheckEntries.{distinct-named}
@@ -150,10 +150,6 @@ module _ (ws : List ℕ) (s : 16 ≤ length ws) where
     torn-sum v x t f g = rw (le-ltb (length ws) 16 s, le-ltb 4096 (length ws) l, ← e, eq-eqb (w % 65536) (length ws) t, ← f, ← g)
 
 pub ruleset torn-ways = (torn-short, torn-long, torn-total, torn-sum)
-
-neither : (a b : Bool) → (a || b) ≡ false → (a ≡ false) × (b ≡ false)
-neither true b e = (e, absurd (let x : _≡_ {A = ℕ} 0 1 = cc in omega arith))
-neither false b e = (refl, e)
 
 pub body-long : (ws : List ℕ) → length ws - 1 ≡ length (body ws)
 body-long ws = sym (length-take-le (length ws - 1) ws (omega arith))

@@ -12,7 +12,8 @@ use lib.Seq.{take-suc, getD-drop, getD-set-same, getD-set-other, getD-append-add
 use Rattle.word.specs.Choice.{pick}
 use Rattle.word.specs.Words.{wordAt, kindOf, contentOf, bits, ofKind}
 use Rattle.word.specs.Parse.{one, several, behind, restAt, Rest}
-use Rattle.interface.specs.Format.{ofWord, indexFiled, contents, member, isTexture, isSampler, ofType, pairFiled}
+use Rattle.word.specs.Lists.{among}
+use Rattle.interface.specs.Format.{ofWord, indexFiled, contents, isTexture, isSampler, ofType, pairFiled}
 use Rattle.interface.proofs.CheckSteps.{step-stop, steps}
 use Rattle.interface.specs.Walks.{marked, pairRole, pairRoles, roleTable, pairMarked, varyingListsBehind, listsBehind}
 use Rattle.resource.specs.declared.types.Resource.{Resource}
@@ -67,13 +68,13 @@ picked-same : {A : Type 0} (t : Bool) (a : A) → pick t a a ≡ a
 picked-same true a = refl
 picked-same false a = refl
 
-marked-at : (roles is table : List ℕ) (j : ℕ) → j < length table → getD (marked roles is table) j 0 ≡ pick (member j is) (getD roles j 0) (getD table j 0)
-unfolding marked member
+marked-at : (roles is table : List ℕ) (j : ℕ) → j < length table → getD (marked roles is table) j 0 ≡ pick (among is j) (getD roles j 0) (getD table j 0)
+unfolding marked among
 marked-at roles [] table j h = refl
 marked-at roles (i ∷ is) table j h =
     marked-at roles is (set table i (getD roles i 0)) j (simp length-set h)
-    ∙ decided j i (λ t. pick (member j is) (getD roles j 0) (getD (set table i (getD roles i 0)) j 0) ≡ pick (pick t true (member j is)) (getD roles j 0) (getD table j 0))
-    (λ e. rw (← e, getD-set-same table j (getD roles j 0) 0 h) (picked-same (member j is) (getD roles j 0)))
+    ∙ decided j i (λ t. pick (among is j) (getD roles j 0) (getD (set table i (getD roles i 0)) j 0) ≡ pick (pick t true (among is j)) (getD roles j 0) (getD table j 0))
+    (λ e. rw (← e, getD-set-same table j (getD roles j 0) 0 h) (picked-same (among is j) (getD roles j 0)))
     (λ n. rw (getD-set-other table i j (getD roles i 0) 0 n))
 
 -- ---- roles
@@ -132,17 +133,17 @@ module _ (rs : List Resource) (listed : List ℕ) (h : length rs ≤ 128) where
   abbrev table : List ℕ
   table = marked (roleTable rs) listed (replicate 128 0)
 
-  told-at : (i : ℕ) → getD table i 0 ≡ pick (member i listed) (getD (pairRoles rs) i 0) 0
+  told-at : (i : ℕ) → getD table i 0 ≡ pick (among listed i) (getD (pairRoles rs) i 0) 0
   told-at i =
-      split-at 128 i (getD table i 0 ≡ pick (member i listed) (getD (pairRoles rs) i 0) 0)
+      split-at 128 i (getD table i 0 ≡ pick (among listed i) (getD (pairRoles rs) i 0) 0)
       (λ k. let x : length table ≤ i = omega (arith, marked-long (roleTable rs) listed (replicate 128 0)) in
       let y : length (pairRoles rs) ≤ i = omega (arith, roles-long rs) in
-      List·getD-eq-default table 0 x ∙ sym (rw (List·getD-eq-default (pairRoles rs) 0 y) (picked-same (member i listed) 0)))
+      List·getD-eq-default table 0 x ∙ sym (rw (List·getD-eq-default (pairRoles rs) 0 y) (picked-same (among listed i) 0)))
       (λ k. marked-at (roleTable rs) listed (replicate 128 0) i k ∙ rw (table-at rs i, zeros-at 128 i))
 
   told : (test : ResourceType → Bool) (role i : ℕ) → eqb 0 role ≡ false → ((ty : ResourceType) → test ty ≡ eqb (pairRole ty) role)
-      → eqb (getD table i 0) role ≡ (member i listed && ofType test rs i)
-  told test role i z e = rw (told-at i, role-of test role z e rs i) (picked (member i listed))
+      → eqb (getD table i 0) role ≡ (among listed i && ofType test rs i)
+  told test role i z e = rw (told-at i, role-of test role z e rs i) (picked (among listed i))
     where
       picked : (t : Bool) → eqb (pick t (getD (pairRoles rs) i 0) 0) role ≡ (t && eqb (getD (pairRoles rs) i 0) role)
       picked true = refl
@@ -152,7 +153,7 @@ module _ (rs : List Resource) (listed : List ℕ) (h : length rs ≤ 128) where
   pair-told w =
       rw (told isTexture 2 (bits 15 8 w) refl role-texture, told isSampler 1 (bits 7 0 w) refl role-sampler)
       (ap (λ t. ofWord 5 w && (eqb (bits 26 16 w) 0 && t))
-      (joined (member (bits 15 8 w) listed) (ofType isTexture rs (bits 15 8 w)) (member (bits 7 0 w) listed && ofType isSampler rs (bits 7 0 w))))
+      (joined (among listed (bits 15 8 w)) (ofType isTexture rs (bits 15 8 w)) (among listed (bits 7 0 w) && ofType isSampler rs (bits 7 0 w))))
     where
       joined : (a b c : Bool) → ((a && b) && c) ≡ (a && (b && c))
       joined true b c = refl

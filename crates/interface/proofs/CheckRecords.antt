@@ -3,7 +3,7 @@ use Prim.{tt}
 use Prim.Native.Nat.{ℕ, zero, suc, _+_, _<_, _≤_}
 use native.Mathlib.Omega.{arith}
 use native.Mathlib.Numerals.{add-one}
-use mathlib.Core.Path.{_≡_, refl, sym, ap, subst, _∙_}
+use mathlib.Core.Path.{_≡_, refl, sym, subst, _∙_}
 use mathlib.Core.List.{List, [], _∷_, _++_, append-assoc}
 use lib.Dec.{eqb}
 use borrow.Author.Tests.{ne-eqb}
@@ -11,7 +11,7 @@ use lib.ListN.{getD, length, drop, set}
 use lib.Seq.{drop-cons, set-at}
 use Rattle.word.specs.Choice.{pick}
 use Rattle.word.specs.Words.{wordAt, contentOf, bits}
-use Rattle.word.specs.Parse.{Parsed, fault, got, next, one, several, behind, restAt}
+use Rattle.word.specs.Parse.{Parsed, got, next, one, several, behind, restAt}
 use Rattle.word.proofs.Parse.{several-add, went, Yields, yields-next, yields-pick, first-of, others-of}
 use Rattle.resource.specs.Format.{placeFiled, resourceWordFiled, sizeFiled, isBuffer, resourceTypeOf, readResource, typeCode, texture, bitSet, spaceAt, sampleKindAt}
 use Rattle.resource.specs.declared.types.Resource.{Resource}
@@ -19,22 +19,9 @@ use Rattle.resource.specs.declared.types.ResourceType.the-variants as Res
 use Rattle.resource.specs.declared.types.ImageClass.the-variants as Class
 use Rattle.interface.specs.Walks.{listed, pairRole, pairRoles, roleOf}
 use Rattle.interface.proofs.CheckPairs.{roles-long}
-use Rattle.interface.proofs.CheckCases.{yields-word}
+use Rattle.interface.proofs.Passing.{yields-word, all-read}
 
 -- ---- what several readers list
-
--- as many as were asked for
-one-more : {A : Type 0} (n : ℕ) (a : A) (p : Parsed (List A)) → Yields (λ xs. length xs ≡ n) p
-    → Yields (λ xs. length xs ≡ suc n) (next p λ others rest. got (a ∷ others) rest)
-one-more n a fault y = tt
-one-more n a (got xs rest) y = ap suc y
-
-all-read : {A : Type 0} (n : ℕ) (read : List ℕ → Parsed A) (l : List ℕ) → Yields (λ xs. length xs ≡ n) (several n read l)
-unfolding several
-all-read zero read l = refl
-all-read (suc n) read l =
-    yields-next (λ xs. length xs ≡ suc n) (read l) (λ a rest. next (several n read rest) λ others rest. got (a ∷ others) rest)
-    (λ a rest. one-more n a (several n read rest) (all-read n read rest))
 
 module _ {A : Type 0} (read : List ℕ → Parsed A) (ws l : List ℕ) (i at : ℕ) (e : restAt ws at ≡ behind (several i read l)) (h : 1 ≤ at) where
   pub listed-long : length (listed (several i read l)) ≡ i

@@ -84,13 +84,6 @@ still-is n g w k t e = rw (t, e)
 pub still-not : (n : ℕ) (g : Bool) (w : ℕ) → g ≡ false → false ≡ (g && ofWord n w)
 still-not n g w f = rw f
 
--- a test that is asked for by a call
-pub told-false : (b t : Bool) → b ≡ t → not b ≡ true → t ≡ false
-told-false b t e n = sym e ∙ not-true b n
-
-pub told-true : (b t : Bool) → b ≡ t → not b ≡ false → t ≡ true
-told-true b t e n = sym e ∙ not-false b n
-
 -- ---- a step from one record to the next
 
 module _ (ws : List ℕ) (r : ℕ) (q : Rest) (k : List ℕ → Rest) (e : restAt ws r ≡ q) where

@@ -17,7 +17,8 @@ use Rattle.interface.specs.Format.{ofWord, topologyFiled, readVarying, c
 use Rattle.interface.specs.Walks.{onward, word, listsBehind, partsBehind, entryBehind}
 use Rattle.interface.proofs.CheckOutputs.{inputs-walk, outputs-walk}
 use Rattle.interface.specs.declared.types.Varying.{Varying}
-use Rattle.interface.proofs.CheckCases.{same-behind, cons-behind, yields-word, yields-cons}
+use Rattle.interface.proofs.Passing.{yields-word}
+use Rattle.interface.proofs.CheckCases.{same-behind, cons-behind, yields-cons}
 
 -- ---- a reader's next step, what it read forgotten
 

@@ -7,8 +7,9 @@ use mathlib.Core.List.{List, [], _∷_, _++_, append-assoc}
 use borrow.Author.Tests.{ltb-true, lt-ltb, leb-true, le-leb}
 use lib.Dec.{eqb, leb, ltb}
 use lib.ListN.{length}
-use Rattle.word.specs.Words.{kindOf, contentOf, bits, bit, ofKind}
+use Rattle.word.specs.Words.{kindOf, contentOf, bits, bit, ofKind, content}
 use Rattle.word.specs.Parse.{got, one, several}
+use Rattle.word.specs.Lists.{flat, every}
 use Rattle.resource.specs.Format.{flag}
 use Rattle.resource.specs.declared.types.Resource.{Resource}
 use Rattle.resource.specs.declared.types.ResourceType.{ResourceType}
@@ -16,12 +17,13 @@ use Rattle.resource.proofs.CodeLaws.{flag-most}
 use Rattle.resource.proofs.EntryFormat.{flag-read}
 use Rattle.varying.specs.Format.{payloadWord, payloadHeld}
 use Rattle.word.proofs.Truth.{first, second}
+use Rattle.word.proofs.Lists.{every-first, every-others}
 use Rattle.varying.proofs.Joined.{payload-filed, payload-read}
 use Rattle.interface.specs.Meaning.{EntryPoint}
 use Rattle.interface.specs.Format.{stageAt, stageCode, topologyAt, topologyCode, readWorkgroup, workgroupWords, readMesh, meshWords, meshFlag, headFiled, headWord}
-use Rattle.interface.specs.Format.{countsWord, indexFiled, indexWords, contents, ofType, pairGood, pairFiled, pairWords, pairsOf, concat}
+use Rattle.interface.specs.Format.{countsWord, indexFiled, indexWords, contents, ofType, pairGood, pairFiled, pairWords, pairsOf}
 use Rattle.interface.specs.Format.{packName, varyingWords, entryPointWords, readEntryPoint, readVarying, clips}
-use Rattle.interface.specs.Held.{every, content, nameHeld, workgroupHeld, meshHeld, varyingHeld, entryPointHeld}
+use Rattle.interface.specs.Held.{nameHeld, workgroupHeld, meshHeld, varyingHeld, entryPointHeld}
 use Rattle.interface.specs.declared.types.ShaderStage.{ShaderStage}
 use Rattle.interface.specs.declared.types.ShaderStage.the-variants as Stage
 use Rattle.interface.specs.declared.types.PrimitiveTopology.{PrimitiveTopology}
@@ -99,14 +101,14 @@ pub record Listed {A : Type 0} (test : ℕ → Bool) (back : List ℕ → List A
   pub again : back words ≡ all
   pub counted : length words ≡ length all
 
-indexes : (n : ℕ) → n ≤ 128 → (is : List ℕ) → every (λ i. ltb i n) is ≡ true → Listed (indexFiled n) contents is (concat indexWords is)
-unfolding every contents concat
+indexes : (n : ℕ) → n ≤ 128 → (is : List ℕ) → every (λ i. ltb i n) is ≡ true → Listed (indexFiled n) contents is (flat indexWords is)
+unfolding every contents flat
 indexes n few [] h = record { filed = refl; again = refl; counted = refl }
 indexes n few (i ∷ is) h =
-    let b : ltb i n ≡ true = first (ltb i n) (every (λ i. ltb i n) is) h in
+    let b : ltb i n ≡ true = every-first (λ i. ltb i n) i is h in
     let j : i < n = ltb-true i n b in
     let w : Of 5 i (ofKind 5 i) = of-kind 5 i (lt-ltb i (2 ^ 27) (omega arith)) in
-    let l : Listed (indexFiled n) contents is (concat indexWords is) = indexes n few is (second (ltb i n) (every (λ i. ltb i n) is) h) in
+    let l : Listed (indexFiled n) contents is (flat indexWords is) = indexes n few is (every-others (λ i. ltb i n) i is h) in
     record { filed = rw (w .is, w .holds, b) (l .filed); again = rw (w .holds, l .again); counted = ap suc (l .counted) }
 
 pub type-below : (test : ResourceType → Bool) (rs : List Resource) (i : ℕ) → ofType test rs i ≡ true → i < length rs
@@ -128,13 +130,13 @@ module _ (rs : List Resource) (few : length rs ≤ 128) (listed : List ℕ) wher
       let s : p .sampler < length rs = search (type-below, first, second) depth 6 in
       omega arith
 
-  pairs : (ps : List SamplingPair) → every (pairGood rs listed) ps ≡ true → Listed (pairFiled rs listed) pairsOf ps (concat pairWords ps)
-  unfolding every pairsOf concat
+  pairs : (ps : List SamplingPair) → every (pairGood rs listed) ps ≡ true → Listed (pairFiled rs listed) pairsOf ps (flat pairWords ps)
+  unfolding every pairsOf flat
   pairs [] h = record { filed = refl; again = refl; counted = refl }
   pairs (p ∷ ps) h =
-      let g : pairGood rs listed p ≡ true = first (pairGood rs listed p) (every (pairGood rs listed) ps) h in
+      let g : pairGood rs listed p ≡ true = every-first (pairGood rs listed) p ps h in
       let w : PairWord p (ofKind 5 (2 ^ 8 * p .texture + p .sampler)) = pair-word p g in
-      let l : Listed (pairFiled rs listed) pairsOf ps (concat pairWords ps) = pairs ps (second (pairGood rs listed p) (every (pairGood rs listed) ps) h) in
+      let l : Listed (pairFiled rs listed) pairsOf ps (flat pairWords ps) = pairs ps (every-others (pairGood rs listed) p ps h) in
       record {
         filed = rw (w .kind, w .none, w .texture, w .sampler, g) (l .filed);
         again = rw (w .texture, w .sampler, l .again);
@@ -178,13 +180,13 @@ counts-word e a b c d = omega arith
 
 -- ---- an entry point
 
-index-got : (n : ℕ) (is rest : List ℕ) → Listed (indexFiled n) contents is (concat indexWords is)
-    → several (length is) (one (indexFiled n)) (concat indexWords is ++ rest) ≡ got (concat indexWords is) rest
-index-got n is rest l = rw (l .counted) at (words-got (indexFiled n) (concat indexWords is) rest (l .filed))
+index-got : (n : ℕ) (is rest : List ℕ) → Listed (indexFiled n) contents is (flat indexWords is)
+    → several (length is) (one (indexFiled n)) (flat indexWords is ++ rest) ≡ got (flat indexWords is) rest
+index-got n is rest l = rw (l .counted) at (words-got (indexFiled n) (flat indexWords is) rest (l .filed))
 
-pair-got : (rs : List Resource) (listed : List ℕ) (ps : List SamplingPair) (rest : List ℕ) → Listed (pairFiled rs listed) pairsOf ps (concat pairWords ps)
-    → several (length ps) (one (pairFiled rs listed)) (concat pairWords ps ++ rest) ≡ got (concat pairWords ps) rest
-pair-got rs listed ps rest l = rw (l .counted) at (words-got (pairFiled rs listed) (concat pairWords ps) rest (l .filed))
+pair-got : (rs : List Resource) (listed : List ℕ) (ps : List SamplingPair) (rest : List ℕ) → Listed (pairFiled rs listed) pairsOf ps (flat pairWords ps)
+    → several (length ps) (one (pairFiled rs listed)) (flat pairWords ps ++ rest) ≡ got (flat pairWords ps) rest
+pair-got rs listed ps rest l = rw (l .counted) at (words-got (pairFiled rs listed) (flat pairWords ps) rest (l .filed))
 
 -- what the condition says, part by part
 pub record HeldParts (rs : List Resource) (e : EntryPoint) : Type 0 where
@@ -238,16 +240,16 @@ held-parts rs e h =
 
 module _ (rs : List Resource) (few : length rs ≤ 128) (e : EntryPoint) (rest : List ℕ) where
   abbrev outputs-on : List ℕ
-  outputs-on = concat varyingWords (e .outputs) ++ rest
+  outputs-on = flat varyingWords (e .outputs) ++ rest
 
   abbrev inputs-on : List ℕ
-  inputs-on = concat varyingWords (e .inputs) ++ outputs-on
+  inputs-on = flat varyingWords (e .inputs) ++ outputs-on
 
   abbrev pairs-on : List ℕ
-  pairs-on = concat pairWords (e .pairs) ++ inputs-on
+  pairs-on = flat pairWords (e .pairs) ++ inputs-on
 
   abbrev indexes-on : List ℕ
-  indexes-on = concat indexWords (e .resources) ++ pairs-on
+  indexes-on = flat indexWords (e .resources) ++ pairs-on
 
   abbrev mesh-on : List ℕ
   mesh-on = meshWords (e .mesh) ++ countsWord e ∷ indexes-on
@@ -271,8 +273,8 @@ module _ (rs : List Resource) (few : length rs ≤ 128) (e : EntryPoint) (rest :
     parts-got =
         let w : HeadWord e (headWord e) = head-word e (few-bytes .1) in
         let c : CountsWord e (countsWord e) = counts-word e (leb-true _ 63 (h .few-resources)) (leb-true _ 63 (h .few-pairs)) (leb-true _ 63 (h .few-inputs)) (leb-true _ 63 (h .few-outputs)) in
-        let i : Listed (indexFiled (length rs)) contents (e .resources) (concat indexWords (e .resources)) = indexes (length rs) few (e .resources) (h .resources) in
-        let p : Listed (pairFiled rs (e .resources)) pairsOf (e .pairs) (concat pairWords (e .pairs)) = pairs rs few (e .resources) (e .pairs) (h .pairs) in
+        let i : Listed (indexFiled (length rs)) contents (e .resources) (flat indexWords (e .resources)) = indexes (length rs) few (e .resources) (h .resources) in
+        let p : Listed (pairFiled rs (e .resources)) pairsOf (e .pairs) (flat pairWords (e .pairs)) = pairs rs few (e .resources) (e .pairs) (h .pairs) in
         rw (
           laid,
           head-filed e (few-bytes .0) (few-bytes .1),

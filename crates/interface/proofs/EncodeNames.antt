@@ -9,13 +9,21 @@ use lib.Dec.{leb, ltb}
 use lib.ListN.{length, take, drop}
 use Rattle.word.specs.Words.{bits}
 use Rattle.word.specs.Parse.{got}
+use Rattle.word.specs.Lists.{every}
 use Rattle.word.proofs.Truth.{first, second}
+use Rattle.word.proofs.Lists.{every-first, every-others}
 use Rattle.interface.specs.Format.{bytesOf, noZero, allZero, nameWords, readName, packName}
-use Rattle.interface.specs.Held.{every, nameHeld}
-use Rattle.interface.proofs.EncodeRecords.{every-first, every-others, words-got, next-got}
+use Rattle.interface.specs.Held.{nameHeld}
+use Rattle.interface.proofs.EncodeRecords.{words-got, next-got}
 
 abbrev byte : ℕ → Bool
 byte b = ltb b 256
+
+-- four bytes a word
+pub bytes-long : (ws : List ℕ) → length (bytesOf ws) ≡ 4 * length ws
+unfolding bytesOf
+bytes-long [] = refl
+bytes-long (w ∷ ws) = omega (arith, bytes-long ws)
 
 packed-length : (name : List ℕ) → length (packName name) ≡ nameWords (length name)
 unfolding packName

@@ -7,70 +7,53 @@ use mathlib.Core.List.{List, [], _∷_, _++_, append-assoc, append-nil}
 use borrow.Author.Tests.{leb-true, le-leb, le-ltb, eq-eqb}
 use lib.ListN.{length, length-append}
 use lib.Seq.{take-at, getD-at}
-use Rattle.word.specs.Words.{wordAt, kindOf, bits, ofKind, sumOf, closingSum}
+use Rattle.word.specs.Words.{wordAt, kindOf, bits, ofKind, sumOf, closingSum, content}
 use Rattle.word.specs.Parse.{got, one, several}
+use Rattle.word.specs.Lists.{flat, every}
 use Rattle.resource.specs.Format.{readResource, resourceWords, resourceHeld}
 use Rattle.resource.proofs.ResourceFormat.{words-read}
-use Rattle.word.proofs.Truth.{first, second}
+use Rattle.word.proofs.Lists.{every-first, every-others}
 use Rattle.interface.specs.Meaning.{Interface}
-use Rattle.interface.specs.Format.{ofWord, contents, concat, entryPointWords, readEntryPoint, limitsOf, limitWords, recordWords, openWords, readPack, distinctNames, encode, body, torn, decode, Pack}
-use Rattle.interface.specs.Held.{every, content, limitNumbers, entryPointHeld, interfaceHeld}
+use Rattle.interface.specs.Format.{mostWords, mostResources, mostEntries, ofWord, contents, entryPointWords, readEntryPoint, limitsBy, limitsOf, limitWord, limitWords, recordWords, openWords, readPack, distinctNames, encode, body, torn, decode, Pack}
+use Rattle.interface.specs.Format.{limitNumbers}
+use Rattle.interface.specs.Held.{entryPointHeld, interfaceHeld}
 use Rattle.interface.specs.declared.types.Limits.{Limits}
 use Rattle.interface.proofs.EncodeRecords.{words-got, records-got}
 use Rattle.interface.proofs.EncodeEntry.{Of, of-kind, Listed, both-then, entry-got}
 
 -- ---- the limits
 
-abbrev limitWord : ℕ → List ℕ
-limitWord n = ofKind 3 n ∷ []
-
-numbers : (ns : List ℕ) → every content ns ≡ true → Listed (ofWord 3) contents ns (concat limitWord ns)
-unfolding every contents concat
+numbers : (ns : List ℕ) → every content ns ≡ true → Listed (ofWord 3) contents ns (flat limitWord ns)
+unfolding every contents flat
 numbers [] h = record { filed = refl; again = refl; counted = refl }
 numbers (n ∷ ns) h =
-    let w : Of 3 n (ofKind 3 n) = of-kind 3 n (first (content n) (every content ns) h) in
-    let l : Listed (ofWord 3) contents ns (concat limitWord ns) = numbers ns (second (content n) (every content ns) h) in
+    let w : Of 3 n (ofKind 3 n) = of-kind 3 n (every-first content n ns h) in
+    let l : Listed (ofWord 3) contents ns (flat limitWord ns) = numbers ns (every-others content n ns h) in
     record { filed = rw (w .is) (l .filed); again = rw (w .holds, l .again); counted = ap suc (l .counted) }
 
-limits-listed : (l : Limits) → every content (limitNumbers l) ≡ true → Listed (ofWord 3) contents (limitNumbers l) (limitWords l)
-unfolding concat
-limits-listed l h = numbers (limitNumbers l) h
-
 limits-got : (l : Limits) (rest : List ℕ) → every content (limitNumbers l) ≡ true → several 13 (one (ofWord 3)) (limitWords l ++ rest) ≡ got (limitWords l) rest
-limits-got l rest h = words-got (ofWord 3) (limitWords l) rest (limits-listed l h .filed)
+unfolding flat
+limits-got l rest h = words-got (ofWord 3) (limitWords l) rest (numbers (limitNumbers l) h .filed)
 
 abbrev limitsFrom : List ℕ → Limits
 limitsFrom ns =
-    record {
-      «max_inter_stage_shader_variables» = wordAt ns 0;
-      «max_color_attachments» = wordAt ns 1;
-      «max_compute_workgroup_size_x» = wordAt ns 2;
-      «max_compute_workgroup_size_y» = wordAt ns 3;
-      «max_compute_workgroup_size_z» = wordAt ns 4;
-      «max_compute_invocations_per_workgroup» = wordAt ns 5;
-      «max_task_invocations_per_dimension» = wordAt ns 6;
-      «max_task_invocations_per_workgroup» = wordAt ns 7;
-      «max_mesh_invocations_per_dimension» = wordAt ns 8;
-      «max_mesh_invocations_per_workgroup» = wordAt ns 9;
-      «max_mesh_output_vertices» = wordAt ns 10;
-      «max_mesh_output_primitives» = wordAt ns 11;
-      «max_task_payload_size» = wordAt ns 12;
-    }
+    limitsBy (wordAt ns 0) (wordAt ns 1) (wordAt ns 2) (wordAt ns 3) (wordAt ns 4) (wordAt ns 5) (wordAt ns 6)
+    (wordAt ns 7) (wordAt ns 8) (wordAt ns 9) (wordAt ns 10) (wordAt ns 11) (wordAt ns 12)
 
 limits-again : (l : Limits) → every content (limitNumbers l) ≡ true → limitsOf (limitWords l) ≡ l
-unfolding contents
-limits-again l h = ap limitsFrom (limits-listed l h .again)
+unfolding contents flat
+limits-again l h = ap limitsFrom (numbers (limitNumbers l) h .again)
 
 -- ---- the records
 
 pub record HeldPack (i : Interface) : Type 0 where
   pub limits : every content (limitNumbers (i .limits)) ≡ true
-  pub few-resources : length (i .resources) ≤ 128
-  pub few-entries : length (i .entries) ≤ 16
+  pub few-resources : length (i .resources) ≤ mostResources
+  pub few-entries : length (i .entries) ≤ mostEntries
   pub resources : every resourceHeld (i .resources) ≡ true
   pub entries : every (entryPointHeld (i .resources)) (i .entries) ≡ true
   pub distinct : distinctNames (i .entries) ≡ true
-  pub short : length (encode i) ≤ 4096
+  pub short : length (encode i) ≤ mostWords
 
 held-pack : (i : Interface) → interfaceHeld i ≡ true → HeldPack i
 unfolding interfaceHeld
@@ -83,12 +66,12 @@ held-pack i h =
     both-then _ _ h λ distinct short.
     record {
       limits = limits;
-      few-resources = leb-true (length (i .resources)) 128 few-resources;
-      few-entries = leb-true (length (i .entries)) 16 few-entries;
+      few-resources = leb-true (length (i .resources)) mostResources few-resources;
+      few-entries = leb-true (length (i .entries)) mostEntries few-entries;
       resources = resources;
       entries = entries;
       distinct = distinct;
-      short = leb-true (length (encode i)) 4096 short;
+      short = leb-true (length (encode i)) mostWords short;
     }
 
 -- a word of two numbers
@@ -106,7 +89,7 @@ module _ (i : Interface) (h : HeldPack i) where
   written = simp length-append (omega arith)
 
   long : 14 ≤ length (recordWords i)
-  unfolding recordWords
+  unfolding recordWords flat
   long = simp length-append (omega arith)
 
   edition : Two 1 1 (length (recordWords i) + 2) (ofKind 1 (2 ^ 16 * 1 + (length (recordWords i) + 2)))
@@ -116,14 +99,14 @@ module _ (i : Interface) (h : HeldPack i) where
   totals = two 2 (length (i .resources)) (length (i .entries)) (omega (arith, h .few-resources)) (omega (arith, h .few-entries))
 
   laid : (rest : List ℕ) → recordWords i ++ rest ≡ ofKind 2 (2 ^ 16 * length (i .resources) + length (i .entries))
-      ∷ (limitWords (i .limits) ++ (concat resourceWords (i .resources) ++ (concat entryPointWords (i .entries) ++ rest)))
+      ∷ (limitWords (i .limits) ++ (flat resourceWords (i .resources) ++ (flat entryPointWords (i .entries) ++ rest)))
   unfolding recordWords
   laid rest = simp append-assoc
 
   records-read : (rest : List ℕ) → readPack (openWords i ++ rest) ≡ got i rest
   unfolding readPack
   records-read rest =
-      let entries-on : List ℕ = concat entryPointWords (i .entries) ++ rest in
+      let entries-on : List ℕ = flat entryPointWords (i .entries) ++ rest in
       rw (
         edition .is,
         edition .upper,
@@ -131,9 +114,9 @@ module _ (i : Interface) (h : HeldPack i) where
         totals .is,
         totals .upper,
         totals .lower,
-        le-leb (length (i .resources)) 128 (h .few-resources),
-        le-leb (length (i .entries)) 16 (h .few-entries),
-        limits-got (i .limits) (concat resourceWords (i .resources) ++ entries-on) (h .limits),
+        le-leb (length (i .resources)) mostResources (h .few-resources),
+        le-leb (length (i .entries)) mostEntries (h .few-entries),
+        limits-got (i .limits) (flat resourceWords (i .resources) ++ entries-on) (h .limits),
         limits-again (i .limits) (h .limits),
         totals .upper,
         records-got readResource resourceWords resourceHeld words-read (i .resources) entries-on (h .resources),
@@ -173,7 +156,7 @@ module _ (i : Interface) (h : HeldPack i) where
   unfolding torn
   whole-pack =
       let n : ℕ = length (encode i) in
-      rw (le-ltb n 16 (omega (arith, written, long)), le-ltb 4096 n (h .short), total, eq-eqb n n refl, last-is, sum-is, eq-eqb sum sum refl)
+      rw (le-ltb n 16 (omega (arith, written, long)), le-ltb mostWords n (h .short), total, eq-eqb n n refl, last-is, sum-is, eq-eqb sum sum refl)
 
   decoded : decode (encode i) ≡ Pack i
   unfolding decode

@@ -5,23 +5,11 @@ use mathlib.Core.Bool.{Bool, true}
 use mathlib.Core.List.{List, [], _∷_, _++_, append-assoc}
 use lib.ListN.{length}
 use Rattle.word.specs.Parse.{Parsed, got, next, one, several}
-use Rattle.word.proofs.Truth.{first, second}
-use Rattle.interface.specs.Format.{concat}
-use Rattle.interface.specs.Held.{every}
+use Rattle.word.specs.Lists.{flat, every}
+use Rattle.word.proofs.Lists.{every-first, every-others}
 
 pub next-got : {A B : Type 0} (p : Parsed A) (k : A → List ℕ → Parsed B) (a : A) (r : List ℕ) (b : Parsed B) → p ≡ got a r → k a r ≡ b → next p k ≡ b
 next-got p k a r b e g = rw e g
-
-pub one-got : (test : ℕ → Bool) (w : ℕ) (rest : List ℕ) → test w ≡ true → one test (w ∷ rest) ≡ got w rest
-one-got test w rest h = rw h
-
-pub every-first : {A : Type 0} (test : A → Bool) (a : A) (others : List A) → every test (a ∷ others) ≡ true → test a ≡ true
-unfolding every
-every-first test a others h = first (test a) (every test others) h
-
-pub every-others : {A : Type 0} (test : A → Bool) (a : A) (others : List A) → every test (a ∷ others) ≡ true → every test others ≡ true
-unfolding every
-every-others test a others h = second (test a) (every test others) h
 
 pub words-got : (test : ℕ → Bool) (words rest : List ℕ) → every test words ≡ true → several (length words) (one test) (words ++ rest) ≡ got words rest
 unfolding several
@@ -30,12 +18,12 @@ words-got test (w ∷ words) rest h = rw (every-first test w words h, words-got 
 
 pub records-got : {A : Type 0} (read : List ℕ → Parsed A) (words : A → List ℕ) (held : A → Bool)
     → ((a : A) (rest : List ℕ) → held a ≡ true → read (words a ++ rest) ≡ got a rest)
-    → (all : List A) (rest : List ℕ) → every held all ≡ true → several (length all) read (concat words all ++ rest) ≡ got all rest
-unfolding several concat
+    → (all : List A) (rest : List ℕ) → every held all ≡ true → several (length all) read (flat words all ++ rest) ≡ got all rest
+unfolding several flat
 records-got read words held reads [] rest h = refl
 records-got read words held reads (a ∷ others) rest h =
     rw (
-      append-assoc (words a) (concat words others) rest,
-      reads a (concat words others ++ rest) (every-first held a others h),
+      append-assoc (words a) (flat words others) rest,
+      reads a (flat words others ++ rest) (every-first held a others h),
       records-got read words held reads others rest (every-others held a others h),
     )

@@ -6,13 +6,13 @@ use mathlib.Core.Bool.{true}
 use mathlib.Core.List.{List, _∷_, _++_}
 use borrow.Author.Tests.{ltb-true, lt-ltb}
 use lib.Dec.{ltb}
-use Rattle.word.specs.Words.{kindOf, bits, ofKind}
+use Rattle.word.specs.Words.{kindOf, bits, ofKind, content}
 use Rattle.word.specs.Parse.{got}
 use Rattle.varying.specs.Format.{varHeld}
 use Rattle.word.proofs.Truth.{first, second}
 use Rattle.varying.proofs.Joined.{var-filed, var-read, location-filed, location-read}
 use Rattle.interface.specs.Format.{readVarying, varyingWords, builtInOf}
-use Rattle.interface.specs.Held.{content, builtInHeld, varyingHeld}
+use Rattle.interface.specs.Held.{builtInHeld, varyingHeld}
 use Rattle.interface.specs.declared.types.BuiltIn.{BuiltIn}
 use Rattle.interface.specs.declared.types.BuiltIn.the-variants as In
 use Rattle.interface.specs.declared.types.Varying.{Varying}

@@ -1,31 +1,34 @@
 -- What a pack that decodes gives to the steps behind its check.
+use Prim.{tt}
 use Prim.Native.Nat.{ℕ, zero, suc, _^_}
 use native.Mathlib.Omega.{arith}
 use mathlib.Core.Path.{_≡_, refl}
 use mathlib.Core.Bool.{Bool, true, false, _&&_}
 use mathlib.Core.List.{List, [], _∷_}
-use borrow.Author.Tests.{lt-ltb, leb-true, le-leb}
+use borrow.Author.Tests.{lt-ltb, le-leb}
 use lib.Dec.{eqb, leb, ltb}
 use lib.ListN.{length}
 use Rattle.word.specs.Choice.{pick}
 use Rattle.word.specs.Words.{bits, bit, contentOf}
-use Rattle.word.specs.Parse.{Parsed, fault, got, one, several}
+use Rattle.word.specs.Parse.{Parsed, fault, got, next, one, several}
+use Rattle.word.specs.Lists.{every}
 use Rattle.resource.specs.Format.{readResource, resourceHeld}
 use Rattle.resource.specs.declared.types.Resource.{Resource}
 use Rattle.resource.proofs.ReadLaws.{read-held}
 use Rattle.word.proofs.Truth.{first, second, by-test}
+use Rattle.word.proofs.Lists.{every-first, every-others}
+use Rattle.word.proofs.Parse.{Yields, yields-next, yields-pick}
 use Rattle.varying.specs.Format.{locationFiled, varFiled, payloadFiled, payloadHeld}
 use Rattle.varying.proofs.Joined.{var-held, payload-held}
 use Rattle.interface.specs.Meaning.{EntryPoint, Interface}
-use Rattle.interface.specs.Format.{readVarying, local, builtInOf, builtInFiled, clips, contents, indexFiled, pairGood, pairFiled, pairOf, pairsOf}
+use Rattle.interface.specs.Format.{readVarying, builtInFiled, clips, contents, indexFiled, pairGood, pairFiled, pairOf, pairsOf}
 use Rattle.interface.specs.Format.{headFiled, readName, readWorkgroup, readMesh, countsFiled, readEntryPoint, ofWord}
 use Rattle.interface.specs.Format.{editionFiled, totalsFiled, distinctNames, readPack, torn, Pack, whole, body, decode}
-use Rattle.interface.specs.Held.{every, count, builtInHeld, varyingHeld}
+use Rattle.interface.specs.Held.{count, builtInHeld, varyingHeld}
 use Rattle.interface.specs.Reads.{entryNth}
 use Rattle.interface.specs.declared.types.BuiltIn.the-variants as In
-use Rattle.interface.specs.declared.types.Varying.the-variants as Var
-use Rattle.interface.proofs.EncodeRecords.{every-first, every-others}
-use Rattle.interface.proofs.Passing.{given, Passing, next-known, next-any, pick-known, both-pass, one-passes, several-passes, several-count}
+use Rattle.interface.specs.declared.types.Varying.{Varying}
+use Rattle.interface.proofs.Passing.{yields-as, yields-known, yields-both, one-yields, several-yields, all-read}
 
 -- ---- indexes and pairs
 
@@ -60,22 +63,19 @@ built-in-held n h false false true d = h
 built-in-held n h false false false true = h
 built-in-held n h false false false false = h
 
-output-passes : (ws : List ℕ) → Passing (varyingHeld 5) (readVarying 5 ws)
-unfolding readVarying
-output-passes [] = record { passes = refl }
-output-passes (w ∷ rest) =
-    by-test (locationFiled w)
-    (λ t. rw t
-    (next-known (one varFiled rest) (λ var rest. got (local w var) rest) varFiled (one-passes varFiled rest)
-    (λ var rest f. record { passes = rw (lt-ltb (contentOf w) (2 ^ 27) (omega arith)) (var-held var f) })))
-    (λ n. rw n
-    (pick-known (builtInFiled 5 w) (got (Var.BuiltIn (builtInOf w)) rest)
-    (built-in-held (bits 7 0 w) (lt-ltb (bits 7 0 w) 256 (omega arith)) (eqb (bits 26 24 w) 0) (eqb (bits 26 24 w) 1) (eqb (bits 26 24 w) 2) (eqb (bits 26 24 w) 3))))
+abbrev Output : Varying → Type 0
+Output v = varyingHeld 5 v ≡ true
 
-outputs-pass : (n : ℕ) (ws : List ℕ) → Passing (λ all. every (varyingHeld 5) all && leb (length all) n) (several n (readVarying 5) ws)
-outputs-pass n ws =
-    both-pass (every (varyingHeld 5)) (λ all. leb (length all) n) (several n (readVarying 5) ws)
-    (several-passes (varyingHeld 5) (readVarying 5) output-passes n ws) (several-count (readVarying 5) n ws)
+output-yields : (ws : List ℕ) → Yields Output (readVarying 5 ws)
+unfolding readVarying
+output-yields [] = tt
+output-yields (w ∷ rest) =
+    yields-pick Output (locationFiled w) _ _
+    (yields-known (λ var. varFiled var ≡ true) Output (one varFiled rest) _ (one-yields varFiled rest) λ var rest f.
+    rw (lt-ltb (contentOf w) (2 ^ 27) (omega arith)) (var-held var f))
+    (yields-pick Output (builtInFiled 5 w) _ _
+    (built-in-held (bits 7 0 w) (lt-ltb (bits 7 0 w) 256 (omega arith)) (eqb (bits 26 24 w) 0) (eqb (bits 26 24 w) 1) (eqb (bits 26 24 w) 2) (eqb (bits 26 24 w) 3))
+    tt)
 
 -- ---- entry points
 
@@ -84,77 +84,97 @@ abbrev pub entryGiven : List Resource → EntryPoint → Bool
 entryGiven resources e =
     indexesBelow resources e && (pairsGood resources e && (every (varyingHeld 5) (e .outputs) && (count (e .outputs) && payloadHeld (e .payload))))
 
-entry-passes : (resources : List Resource) (ws : List ℕ) → Passing (entryGiven resources) (readEntryPoint resources ws)
+-- words that each pass a test
+abbrev Each : (ℕ → Bool) → List ℕ → Type 0
+Each test ws = every test ws ≡ true
+
+each-then : (P : EntryPoint → Type 0) (test : ℕ → Bool) (n : ℕ) (ws : List ℕ) (k : List ℕ → List ℕ → Parsed EntryPoint)
+    → ((all rest : List ℕ) → Each test all → Yields P (k all rest)) → Yields P (next (several n (one test) ws) k)
+each-then P test n ws k h = yields-known (Each test) P (several n (one test) ws) k (several-yields test (one test) (one-yields test) n ws) h
+
+abbrev Given : List Resource → EntryPoint → Type 0
+Given resources e = entryGiven resources e ≡ true
+
+pub record GivenParts (resources : List Resource) (e : EntryPoint) : Type 0 where
+  pub below : indexesBelow resources e ≡ true
+  pub pairs : pairsGood resources e ≡ true
+  pub outputs : every (varyingHeld 5) (e .outputs) ≡ true
+  pub few : count (e .outputs) ≡ true
+  pub payload : payloadHeld (e .payload) ≡ true
+
+given-by : (resources : List Resource) (e : EntryPoint) → GivenParts resources e → Given resources e
+given-by resources e g = rw (g .below, g .pairs, g .outputs, g .few, g .payload)
+
+parts-yield : (resources : List Resource) (ws : List ℕ) → Yields (GivenParts resources) (readEntryPoint resources ws)
 unfolding readEntryPoint
-entry-passes resources ws =
-    next-any (one headFiled ws) _ λ head rest.
-    next-any (readName (bits 22 16 head) rest) _ λ name rest.
-    next-any (readWorkgroup rest) _ λ workgroup rest.
-    next-any (one payloadFiled rest) _ λ payload rest.
-    next-any (readMesh (eqb (bit 1 head) 1) rest) _ λ mesh rest.
-    next-any (one countsFiled rest) _ λ counts rest.
-    next-known (several (bits 23 18 counts) (one (indexFiled (length resources))) rest) _ (every (indexFiled (length resources)))
-    (several-passes (indexFiled (length resources)) (one (indexFiled (length resources))) (one-passes (indexFiled (length resources)))
-    (bits 23 18 counts) rest)
-    λ indexes rest b.
-    next-known (several (bits 17 12 counts) (one (pairFiled resources (contents indexes))) rest) _ (every (pairFiled resources (contents indexes)))
-    (several-passes (pairFiled resources (contents indexes)) (one (pairFiled resources (contents indexes))) (one-passes (pairFiled resources (contents indexes)))
-    (bits 17 12 counts) rest)
-    λ pairs rest g.
-    next-any (several (bits 11 6 counts) (readVarying 4) rest) _ λ inputs rest.
-    next-known (several (bits 5 0 counts) (readVarying 5) rest) _ (λ all. every (varyingHeld 5) all && leb (length all) (bits 5 0 counts))
-    (outputs-pass (bits 5 0 counts) rest)
+parts-yield resources ws =
+    yields-next (GivenParts resources) (one headFiled ws) _ λ head rest.
+    yields-next (GivenParts resources) (readName (bits 22 16 head) rest) _ λ name rest.
+    yields-next (GivenParts resources) (readWorkgroup rest) _ λ workgroup rest.
+    yields-next (GivenParts resources) (one payloadFiled rest) _ λ payload rest.
+    yields-next (GivenParts resources) (readMesh (eqb (bit 1 head) 1) rest) _ λ mesh rest.
+    yields-next (GivenParts resources) (one countsFiled rest) _ λ counts rest.
+    each-then (GivenParts resources) (indexFiled (length resources)) (bits 23 18 counts) rest _ λ indexes rest b.
+    each-then (GivenParts resources) (pairFiled resources (contents indexes)) (bits 17 12 counts) rest _ λ pairs rest g.
+    yields-next (GivenParts resources) (several (bits 11 6 counts) (readVarying 4) rest) _ λ inputs rest.
+    yields-known (λ all. (every (varyingHeld 5) all ≡ true) × (length all ≡ bits 5 0 counts)) (GivenParts resources) (several (bits 5 0 counts) (readVarying 5) rest) _
+    (yields-both (λ all. every (varyingHeld 5) all ≡ true) (λ all. length all ≡ bits 5 0 counts) (several (bits 5 0 counts) (readVarying 5) rest)
+    (several-yields (varyingHeld 5) (readVarying 5) output-yields (bits 5 0 counts) rest) (all-read (bits 5 0 counts) (readVarying 5) rest))
     λ outputs rest h.
-    let o = first (every (varyingHeld 5) outputs) (leb (length outputs) (bits 5 0 counts)) h in
-    let l = leb-true (length outputs) (bits 5 0 counts) (second (every (varyingHeld 5) outputs) (leb (length outputs) (bits 5 0 counts)) h) in
-    pick-known (leb (clips outputs) 1) _
-    (rw (
-      indexes-below (length resources) indexes b,
-      pairs-good resources (contents indexes) pairs g,
-      o,
-      le-leb (length outputs) 63 (omega (arith, l)),
-      payload-held payload,
-    ))
+    yields-pick (GivenParts resources) (leb (clips outputs) 1) _ _
+    (record {
+      below = indexes-below (length resources) indexes b;
+      pairs = pairs-good resources (contents indexes) pairs g;
+      outputs = h .0;
+      few = le-leb (length outputs) 63 (omega (arith, h .1));
+      payload = payload-held payload;
+    })
+    tt
+
+entry-yields : (resources : List Resource) (ws : List ℕ) → Yields (Given resources) (readEntryPoint resources ws)
+entry-yields resources ws = yields-as (GivenParts resources) (Given resources) (readEntryPoint resources ws) (given-by resources) (parts-yield resources ws)
 
 -- ---- resources
 
-got-held : (ws : List ℕ) (x : Parsed Resource) → readResource ws ≡ x → Passing resourceHeld x
-got-held ws fault e = record { passes = refl }
-got-held ws (got r rest) e = record { passes = read-held ws r rest e }
-
-resource-passes : (ws : List ℕ) → Passing resourceHeld (readResource ws)
-resource-passes ws = got-held ws (readResource ws) refl
+resource-yields : (ws : List ℕ) → Yields (λ r. resourceHeld r ≡ true) (readResource ws)
+resource-yields ws = by (readResource ws) refl
+  where
+    by : (x : Parsed Resource) → readResource ws ≡ x → Yields (λ r. resourceHeld r ≡ true) x
+    by fault e = tt
+    by (got r rest) e = read-held ws r rest e
 
 -- ---- packs
 
 abbrev pub packGiven : Interface → Bool
 packGiven i = every resourceHeld (i .resources) && every (entryGiven (i .resources)) (i .entries)
 
-pack-passes : (ws : List ℕ) → Passing packGiven (readPack ws)
-unfolding readPack
-pack-passes ws =
-    next-any (one editionFiled ws) _ λ edition rest.
-    next-any (one totalsFiled rest) _ λ totals rest.
-    next-any (several 13 (one (ofWord 3)) rest) _ λ limits rest.
-    next-known (several (bits 26 16 totals) readResource rest) _ (every resourceHeld)
-    (several-passes resourceHeld readResource resource-passes (bits 26 16 totals) rest)
-    λ resources rest held.
-    next-known (several (bits 15 0 totals) (readEntryPoint resources) rest) _ (every (entryGiven resources))
-    (several-passes (entryGiven resources) (readEntryPoint resources) (entry-passes resources) (bits 15 0 totals) rest)
-    λ entries rest good.
-    pick-known (distinctNames entries) _ (rw (held, good))
+abbrev GivenPack : Interface → Type 0
+GivenPack i = packGiven i ≡ true
 
-whole-passes : (x : Parsed Interface) (i : Interface) → given packGiven x ≡ true → whole x ≡ Pack i → packGiven i ≡ true
-whole-passes fault i h e = let z : _≡_ {A = ℕ} 0 1 = cc in absurd (omega arith)
-whole-passes (got j []) i h e = let s : j ≡ i = cc in rw (← s) h
-whole-passes (got j (w ∷ ws)) i h e = let z : _≡_ {A = ℕ} 0 1 = cc in absurd (omega arith)
+pack-yields : (ws : List ℕ) → Yields GivenPack (readPack ws)
+unfolding readPack
+pack-yields ws =
+    yields-next GivenPack (one editionFiled ws) _ λ edition rest.
+    yields-next GivenPack (one totalsFiled rest) _ λ totals rest.
+    yields-next GivenPack (several 13 (one (ofWord 3)) rest) _ λ limits rest.
+    yields-known (λ all. every resourceHeld all ≡ true) GivenPack (several (bits 26 16 totals) readResource rest) _
+    (several-yields resourceHeld readResource resource-yields (bits 26 16 totals) rest) λ resources rest held.
+    yields-known (λ all. every (entryGiven resources) all ≡ true) GivenPack (several (bits 15 0 totals) (readEntryPoint resources) rest) _
+    (several-yields (entryGiven resources) (readEntryPoint resources) (entry-yields resources) (bits 15 0 totals) rest)
+    λ entries rest good.
+    yields-pick GivenPack (distinctNames entries) _ _ (rw (held, good)) tt
+
+whole-yields : (x : Parsed Interface) (i : Interface) → Yields GivenPack x → whole x ≡ Pack i → packGiven i ≡ true
+whole-yields fault i h e = let z : _≡_ {A = ℕ} 0 1 = cc in absurd (omega arith)
+whole-yields (got j []) i h e = let s : j ≡ i = cc in rw (← s) h
+whole-yields (got j (w ∷ ws)) i h e = let z : _≡_ {A = ℕ} 0 1 = cc in absurd (omega arith)
 
 pub decoded-held : (ws : List ℕ) (i : Interface) → decode ws ≡ Pack i → packGiven i ≡ true
 unfolding decode
 decoded-held ws i e =
     by-test (torn ws)
     (λ t. let f = rw t at e in let z : _≡_ {A = ℕ} 0 1 = cc in absurd (omega arith))
-    (λ n. whole-passes (readPack (body ws)) i (pack-passes (body ws) .passes) (rw n at e))
+    (λ n. whole-yields (readPack (body ws)) i (pack-yields (body ws)) (rw n at e))
 
 -- ---- by position: behind the last entry point stands an empty one
 
@@ -163,13 +183,6 @@ unfolding every entryNth
 nth-given resources [] k h = refl
 nth-given resources (e ∷ es) zero h = every-first (entryGiven resources) e es h
 nth-given resources (e ∷ es) (suc k) h = nth-given resources es k (every-others (entryGiven resources) e es h)
-
-pub record GivenParts (resources : List Resource) (e : EntryPoint) : Type 0 where
-  pub below : indexesBelow resources e ≡ true
-  pub pairs : pairsGood resources e ≡ true
-  pub outputs : every (varyingHeld 5) (e .outputs) ≡ true
-  pub few : count (e .outputs) ≡ true
-  pub payload : payloadHeld (e .payload) ≡ true
 
 given-parts : (resources : List Resource) (e : EntryPoint) → entryGiven resources e ≡ true → GivenParts resources e
 given-parts resources e h = search (first, second) depth 9

@@ -1,62 +1,50 @@
--- What readers give, if they give something, passes a test.
+-- What holds of whatever readers give.
+use Prim.{tt}
 use Prim.Native.Nat.{ℕ, zero, suc}
-use native.Mathlib.Omega.{arith}
-use mathlib.Core.Path.{_≡_, refl}
-use mathlib.Core.Bool.{Bool, true, false, _&&_}
+use mathlib.Core.Path.{_≡_, refl, ap}
+use mathlib.Core.Bool.{Bool, true}
 use mathlib.Core.List.{List, [], _∷_}
-use borrow.Author.Tests.{leb-true, le-leb}
-use lib.Dec.{leb}
 use lib.ListN.{length}
-use Rattle.word.specs.Choice.{pick}
 use Rattle.word.specs.Parse.{Parsed, fault, got, next, one, several}
+use Rattle.word.specs.Lists.{every}
 use Rattle.word.proofs.Truth.{by-test}
-use Rattle.interface.specs.Held.{every}
+use Rattle.word.proofs.Parse.{Yields, yields-next}
 
-abbrev pub given : {A : Type 0} → (A → Bool) → Parsed A → Bool
-given test fault = true
-given test (got a rest) = test a
+-- behind a word that passes a test, and behind what is known
+pub yields-word : {B : Type 0} (P : B → Type 0) (test : ℕ → Bool) (w : ℕ) (l : List ℕ) (k : ℕ → List ℕ → Parsed B) → (test w ≡ true → Yields P (k w l))
+    → Yields P (next (one test (w ∷ l)) k)
+yields-word P test w l k y = by-test (test w) (λ t. rw t (y t)) (λ f. rw f tt)
 
-pub record Passing {A : Type 0} (test : A → Bool) (x : Parsed A) : Type 0 where
-  pub passes : given test x ≡ true
+pub yields-known : {A B : Type 0} (Q : A → Type 0) (P : B → Type 0) (p : Parsed A) (k : A → List ℕ → Parsed B) → Yields Q p
+    → ((a : A) (rest : List ℕ) → Q a → Yields P (k a rest)) → Yields P (next p k)
+yields-known Q P fault k y h = tt
+yields-known Q P (got a rest) k y h = h a rest y
 
-module _ {A B : Type 0} {test : B → Bool} where
-  pub next-known : (x : Parsed A) (k : A → List ℕ → Parsed B) (known : A → Bool) → Passing known x
-      → ((a : A) (rest : List ℕ) → known a ≡ true → Passing test (k a rest)) → Passing test (next x k)
-  next-known fault k known h f = record { passes = refl }
-  next-known (got a rest) k known h f = f a rest (h .passes)
+pub yields-as : {A : Type 0} (P Q : A → Type 0) (p : Parsed A) → ((a : A) → P a → Q a) → Yields P p → Yields Q p
+yields-as P Q fault f y = tt
+yields-as P Q (got a rest) f y = f a y
 
-  pub next-any : (x : Parsed A) (k : A → List ℕ → Parsed B) → ((a : A) (rest : List ℕ) → Passing test (k a rest)) → Passing test (next x k)
-  next-any fault k f = record { passes = refl }
-  next-any (got a rest) k f = f a rest
+pub yields-both : {A : Type 0} (P Q : A → Type 0) (p : Parsed A) → Yields P p → Yields Q p → Yields (λ a. P a × Q a) p
+yields-both P Q fault y z = tt
+yields-both P Q (got a rest) y z = (y, z)
 
-pub pick-known : {A : Type 0} {test : A → Bool} (b : Bool) (x : Parsed A) → given test x ≡ true → Passing test (pick b x fault)
-pick-known true x h = record { passes = h }
-pick-known false x h = record { passes = refl }
+-- a word that was read passed the test, and records that were read each passed theirs
+pub one-yields : (test : ℕ → Bool) (ws : List ℕ) → Yields (λ w. test w ≡ true) (one test ws)
+one-yields test [] = tt
+one-yields test (w ∷ ws) = by-test (test w) (λ t. rw t t) (λ f. rw f tt)
 
-pub both-pass : {A : Type 0} (test more : A → Bool) (x : Parsed A) → Passing test x → Passing more x → Passing (λ a. test a && more a) x
-both-pass test more fault h k = record { passes = refl }
-both-pass test more (got a rest) h k = record { passes = rw (h .passes) (k .passes) }
-
-pub one-passes : (test : ℕ → Bool) (ws : List ℕ) → Passing test (one test ws)
-one-passes test [] = record { passes = refl }
-one-passes test (w ∷ ws) = record { passes = by-test (test w) (λ t. rw t t) (λ f. rw f) }
-
-pub several-passes : {A : Type 0} (test : A → Bool) (read : List ℕ → Parsed A) → ((ws : List ℕ) → Passing test (read ws))
-    → (n : ℕ) (ws : List ℕ) → Passing (every test) (several n read ws)
+pub several-yields : {A : Type 0} (test : A → Bool) (read : List ℕ → Parsed A) → ((ws : List ℕ) → Yields (λ a. test a ≡ true) (read ws))
+    → (n : ℕ) (ws : List ℕ) → Yields (λ all. every test all ≡ true) (several n read ws)
 unfolding several every
-several-passes test read h zero ws = record { passes = refl }
-several-passes test read h (suc n) ws =
-    next-known (read ws) (λ a rest. next (several n read rest) λ others rest. got (a ∷ others) rest) test (h ws)
-    (λ a rest t.
-    next-known (several n read rest) (λ others rest. got (a ∷ others) rest) (every test) (several-passes test read h n rest)
-    (λ others rest k. record { passes = rw (t, k) }))
+several-yields test read h zero ws = refl
+several-yields test read h (suc n) ws =
+    yields-known (λ a. test a ≡ true) (λ all. every test all ≡ true) (read ws) _ (h ws) λ a rest t.
+    yields-known (λ all. every test all ≡ true) (λ all. every test all ≡ true) (several n read rest) _ (several-yields test read h n rest) λ others rest k. rw (t, k)
 
--- no more than the count says
-pub several-count : {A : Type 0} (read : List ℕ → Parsed A) (n : ℕ) (ws : List ℕ) → Passing (λ all. leb (length all) n) (several n read ws)
+-- as many as were asked for
+pub all-read : {A : Type 0} (n : ℕ) (read : List ℕ → Parsed A) (l : List ℕ) → Yields (λ xs. length xs ≡ n) (several n read l)
 unfolding several
-several-count read zero ws = record { passes = refl }
-several-count read (suc n) ws =
-    next-any (read ws) (λ a rest. next (several n read rest) λ others rest. got (a ∷ others) rest)
-    (λ a rest.
-    next-known (several n read rest) (λ others rest. got (a ∷ others) rest) (λ all. leb (length all) n) (several-count read n rest)
-    (λ others rest k. record { passes = le-leb (length (a ∷ others)) (suc n) (omega (arith, leb-true (length others) n k)) }))
+all-read zero read l = refl
+all-read (suc n) read l =
+    yields-next (λ xs. length xs ≡ suc n) (read l) _ λ a rest.
+    yields-known (λ xs. length xs ≡ n) (λ xs. length xs ≡ suc n) (several n read rest) _ (all-read n read rest) λ others rest e. ap suc e

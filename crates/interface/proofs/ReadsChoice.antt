@@ -11,19 +11,19 @@ use borrow.Author.Tests.{lt-ltb, le-ltb, ltb-true}
 use lib.Dec.{eqb, ltb}
 use lib.ListN.{length, drop, drop-of-length-le}
 use Rattle.word.specs.Choice.{pick}
-use Rattle.word.specs.Words.{wordAt, bits}
+use Rattle.word.specs.Words.{wordAt}
 use Rattle.word.specs.Answers.{answer, refused}
 use Rattle.word.specs.declared.answer.Answer.{Answer}
 use Rattle.interface.specs.Meaning.{EntryPoint}
 use Rattle.interface.specs.Format.{stageAt, stageCode, named, sameBytes, Decoded, Torn, Misfiled, Pack, decode, decodedNumber}
 use Rattle.interface.specs.Reads.{nameAt, standing, interfaceOf, entryNth}
-use Rattle.interface.specs.Rules.{ofStage, findFrom, onlyFrom, onlyEntryPoint, onlyAnswer, finalizeName}
-use Rattle.interface.specs.Parts.{recordsFrom, endFrom, workgroupAt, countsAt, inputsAt, partsAt, entryEnd, entryAt, entryCount, entriesAt, Heads, met, chosenIn}
+use Rattle.interface.specs.Rules.{ofStage, findFrom, onlyFrom, onlyEntryPoint, onlyAnswer, finalizeName, met, chosenIn}
+use Rattle.interface.specs.Parts.{partsAt, entryEnd, entryAt, entryCount, entriesAt, Heads}
 use Rattle.interface.specs.declared.types.ShaderStage.{ShaderStage}
-use Rattle.interface.specs.declared.types.Chosen.{Chosen}
-use Rattle.interface.specs.declared.types.Chosen.the-variants as Ch
-use Rattle.interface.proofs.ReadsRecords.{records-length, end-left}
-use Rattle.interface.proofs.ReadsParts.{past, head-past, outputs-past, varyings-past, nth-read}
+use Rattle.interface.specs.declared.choose.Chosen.{Chosen}
+use Rattle.interface.specs.declared.choose.Chosen.the-variants as Ch
+use Rattle.interface.proofs.ReadsRecords.{records-length}
+use Rattle.interface.proofs.ReadsParts.{nth-read}
 use Rattle.interface.proofs.ReadsPack.{accepted}
 
 -- ---- an entry point's stage and name
@@ -46,38 +46,6 @@ module _ (ws heads : List ℕ) (p at : ℕ) (h : decodedNumber (decode ws) ≡ 0
 
 pub named-other : (e : EntryPoint) (stage : ShaderStage) (name : List ℕ) (b : Bool) → b ≡ ofStage stage e → b ≡ false → false ≡ named stage name e
 named-other e stage name b h f = rw (← h, f)
-
--- ---- the entry points that are left
-
-abbrev pub left-of : List ℕ → ℕ → ℕ → List EntryPoint
-left-of ws left at = recordsFrom (entryAt ws) (entryEnd ws) left at
-
-module _ (ws : List ℕ) (h : decodedNumber (decode ws) ≡ 0) (left at : ℕ) (hl : left ≡ entryCount ws) (ha : at ≡ entriesAt ws) where
-  pub entries-begin : interfaceOf (decode ws) .entries ≡ left-of ws left at
-  entries-begin = rw (hl, ha) (accepted ws h .entries)
-
-  pub ends-begin : endFrom (entryEnd ws) left at < length ws
-  ends-begin = rw (hl, ha) (accepted ws h .ends)
-
-pub short-pack : (ws : List ℕ) → decodedNumber (decode ws) ≡ 0 → length ws ≤ 4096
-short-pack ws h = accepted ws h .short
-
-module _ (ws : List ℕ) (left at : ℕ) (ends : endFrom (entryEnd ws) left at < length ws) (h : left ≡ 0 → ⊥) where
-  pub ends-onward : (next : ℕ) → next ≡ entryEnd ws at → endFrom (entryEnd ws) (left - 1) next < length ws
-  ends-onward next e = rw e (rw (end-left (entryEnd ws) left at h) at ends)
-
-  pub entry-within : entryEnd ws at < length ws
-  entry-within = omega (arith, past (entryEnd ws) (head-past ws) (left - 1) (entryEnd ws at), end-left (entryEnd ws) left at h)
-
-  pub head-within : at < length ws
-  head-within = omega (arith, head-past ws at, entry-within)
-
-  workgroup-outputs : workgroupAt ws at ≤ partsAt ws at .outputs
-  unfolding partsAt
-  workgroup-outputs = omega (arith, varyings-past ws (bits 11 6 (wordAt ws (countsAt ws at))) (inputsAt ws (countsAt ws at)))
-
-  pub name-within : workgroupAt ws at ≤ length ws
-  name-within = omega (arith, workgroup-outputs, outputs-past ws at, entry-within)
 
 -- ---- by stage and name
 

@@ -5,32 +5,26 @@ use native.Mathlib.Nat.{add-zero, sub-zero}
 use native.Mathlib.Numerals.{add-one}
 use mathlib.Core.Path.{_≡_, refl, sym, ap, _∙_}
 use mathlib.Core.Bool.{Bool, true, false, not}
-use mathlib.Core.List.{List, [], _∷_, _++_}
+use mathlib.Core.List.{List, [], _∷_}
 use borrow.Author.Tests.{not-true, not-false}
 use lib.ListN.{length, getD, take, drop, length-drop, drop-of-length-le, take-append-drop}
-use lib.Seq.{take-take, take-all, drop-cons, drop-drop, length-take-le}
+use lib.Seq.{take-all, drop-cons, drop-drop, length-take-le}
 use Rattle.word.specs.Choice.{pick}
 use Rattle.word.specs.Words.{wordAt, bits}
 use Rattle.interface.specs.Format.{bytesOf, nameWords, sameBytes}
 use Rattle.interface.specs.Reads.{nameAt}
-use Rattle.interface.specs.Parts.{workgroupAt, bytesFrom}
-use Rattle.interface.specs.Walks.{sameFirst}
-use Rattle.interface.proofs.CheckHeads.{last-byte, take-more, same-append, other-length}
+use Rattle.interface.specs.Parts.{workgroupAt}
+use Rattle.interface.specs.Walks.{firstWords, nameOf, sameFirst}
+use Rattle.word.proofs.Parse.{first-of, others-of}
+use Rattle.interface.proofs.CheckHeads.{last-byte, name-long, name-step, other-length}
+use Rattle.interface.proofs.EncodeNames.{Bytes, bytes-long}
 
 -- ---- bytes put together
 
 -- a word made of four bytes has these
 packed : (r a b c d : ℕ) → a < 256 → b < 256 → c < 256 → d < 256 → r ≡ a + 256 * b + 65536 * c + 16777216 * d → bytesOf (r ∷ []) ≡ a ∷ b ∷ c ∷ d ∷ []
 unfolding bytesOf
-packed r a b c d ha hb hc hd e =
-    let p : r / 256 ≡ b + 256 * c + 65536 * d = omega arith in
-    let q : r / 65536 ≡ c + 256 * d = omega arith in
-    let s : r / 16777216 ≡ d = omega arith in
-    let x : r % 256 ≡ a = omega arith in
-    let y : (b + 256 * c + 65536 * d) % 256 ≡ b = omega arith in
-    let z : (c + 256 * d) % 256 ≡ c = omega arith in
-    let u : d % 256 ≡ d = omega arith in
-    rw (x, p, q, s, y, z, u)
+packed r a b c d ha hb hc hd e = let w : Bytes r a b c d = omega arith in rw (w .first-byte, w .second-byte, w .third-byte, w .fourth-byte)
 
 -- a name's bytes from a position on, one after the other
 take-next : (m : ℕ) (l : List ℕ) (k : ℕ) → k < length l → take (suc m) (drop k l) ≡ getD l k 0 ∷ take m (drop (k + 1) l)
@@ -94,41 +88,30 @@ pub ruleset words-of = (word-1, word-2, word-3, word-4)
 
 -- ---- a name
 
-pub bytes-length : (l : List ℕ) → length (bytesOf l) ≡ 4 * length l
-unfolding bytesOf
-bytes-length [] = refl
-bytes-length (w ∷ l) = omega (arith, bytes-length l)
-
-bytes-take : (m : ℕ) (l : List ℕ) → bytesOf (take m l) ≡ take (4 * m) (bytesOf l)
-unfolding bytesOf
-bytes-take zero l = refl
-bytes-take (suc m) [] = let e : 4 * suc m ≡ suc (4 * m + 3) = omega arith in rw e
-bytes-take (suc m) (w ∷ l) =
-    let e : 4 * suc m ≡ suc (suc (suc (suc (4 * m)))) = omega arith in
-    rw (e, bytes-take m l)
-
--- where its words lie within the pack, a name has the bytes that it counts, and they are those from the position behind its first word
-name-is : (ws : List ℕ) (head : ℕ) → nameAt ws head ≡ bytesFrom ws (head + 1) (bits 22 16 (wordAt ws head))
-unfolding bytesFrom
-name-is ws head =
-    let n : ℕ = bits 22 16 (wordAt ws head) in
-    rw (bytes-take (nameWords n) (drop (head + 1) ws)) (take-take n (4 * nameWords n) (bytesOf (drop (head + 1) ws)) (omega arith))
-
-from-length : (ws : List ℕ) (from n : ℕ) → from + nameWords n ≤ length ws → length (bytesFrom ws from n) ≡ n
-unfolding bytesFrom
-from-length ws from n h = length-take-le n (bytesOf (drop from ws)) (omega (arith, bytes-length (drop from ws), length-drop from ws))
+-- as many words, where there are as many
+words-there : (n : ℕ) (l : List ℕ) → n ≤ length l → firstWords n l ≡ take n l
+unfolding firstWords
+words-there zero l h = refl
+words-there (suc n) [] h = absurd (omega arith)
+words-there (suc n) (w ∷ l) h = ap (_∷_ w) (words-there n l (omega arith))
 
 module _ (ws name : List ℕ) (head n : ℕ) (h : workgroupAt ws head ≤ length ws) (hn : n ≡ bits 22 16 (wordAt ws head)) where
+  -- a name whose words lie within the pack
+  name-is : nameAt ws head ≡ nameOf n (drop (head + 1) ws)
+  unfolding nameOf
+  name-is =
+      let k : nameWords n ≤ length (drop (head + 1) ws) = omega (arith, length-drop (head + 1) ws) in
+      rw (← hn, words-there (nameWords n) (drop (head + 1) ws) k)
+
   pub name-fits : length name ≡ n → head + 1 + nameWords (length name) ≤ length ws
   name-fits e = rw (e, hn) h
 
   pub name-counts : (length name ≡ n → ⊥) → false ≡ sameBytes (nameAt ws head) name
   name-counts d =
-      rw (name-is ws head, ← hn)
-      (sym (other-length (bytesFrom ws (head + 1) n) name (λ e. d (sym e ∙ from-length ws (head + 1) n (rw hn h)))))
+      rw name-is (sym (other-length (nameOf n (drop (head + 1) ws)) name (λ e. d (sym e ∙ name-long n (drop (head + 1) ws)))))
 
-  pub name-bytes : (b : Bool) → length name ≡ n → b ≡ sameBytes (bytesFrom ws (head + 1) (length name)) name → b ≡ sameBytes (nameAt ws head) name
-  name-bytes b e g = rw (name-is ws head, ← hn, ← e) g
+  pub name-bytes : (b : Bool) → length name ≡ n → b ≡ sameBytes (nameOf (length name) (drop (head + 1) ws)) name → b ≡ sameBytes (nameAt ws head) name
+  name-bytes b e g = rw (name-is, ← e) g
 
 -- ---- a name compared with bytes
 
@@ -138,38 +121,36 @@ pub word-compared : (name : List ℕ) (k count v w : ℕ) (b : Bool) → take co
 unfolding sameFirst
 word-compared name k count v w b e f = rw (← e) f
 
--- the bytes of words from a position on: those of the first, and those behind it
-bytes-next : (ws : List ℕ) (from n : ℕ) → from < length ws → bytesFrom ws from n ≡ take n (bytesOf (wordAt ws from ∷ [])) ++ bytesFrom ws (from + 1) (n - 4)
-unfolding bytesFrom bytesOf
-bytes-next ws from n h = rw (drop-cons ws from 0 h, add-one from) (take-more n (bytesOf (wordAt ws from ∷ [])) (bytesOf (drop (suc from) ws)))
-
--- as many of those of the first as are compared
-bytes-step : (ws l : List ℕ) (from n count : ℕ) → from < length ws → count ≤ 4 → count ≤ length l
+-- as many bytes of its first word as are compared, and the others
+bytes-step : (ws l : List ℕ) (from n count : ℕ) → (n ≡ 0 → ⊥) → count ≤ 4 → count ≤ length l
     → take n (bytesOf (wordAt ws from ∷ [])) ≡ take count (bytesOf (wordAt ws from ∷ []))
-    → sameBytes (bytesFrom ws from n) l ≡ pick (sameBytes (take count (bytesOf (wordAt ws from ∷ []))) (take count l)) (sameBytes (bytesFrom ws (from + 1) (n - 4)) (drop count l)) false
+    → sameBytes (nameOf n (drop from ws)) l
+    ≡ pick (sameBytes (take count (bytesOf (wordAt ws from ∷ []))) (take count l)) (sameBytes (nameOf (n - 4) (drop (from + 1) ws)) (drop count l)) false
 bytes-step ws l from n count h j k e =
-    let x : length (take count (bytesOf (wordAt ws from ∷ []))) ≡ count = length-take-le count (bytesOf (wordAt ws from ∷ [])) (rw (bytes-length (wordAt ws from ∷ [])) j) in
-    ap (sameBytes (bytesFrom ws from n)) (sym (take-append-drop count l))
-    ∙ rw (bytes-next ws from n h, e)
-    (same-append (take count (bytesOf (wordAt ws from ∷ []))) (take count l) (bytesFrom ws (from + 1) (n - 4)) (drop count l) (x ∙ sym (length-take-le count l k)))
+    let x : length (take count (bytesOf (wordAt ws from ∷ []))) ≡ length (take count l)
+    = length-take-le count (bytesOf (wordAt ws from ∷ [])) (rw (bytes-long (wordAt ws from ∷ [])) j) ∙ sym (length-take-le count l k) in
+    ap (sameBytes (nameOf n (drop from ws))) (sym (take-append-drop count l))
+    ∙ name-step n h (drop from ws) (take count l) (drop count l) (rw (first-of ws from, e) x)
+    ∙ rw (first-of ws from, e, others-of ws from)
 
 -- the walk over a name: before it, words that differ, words that agree, the bytes behind the last whole word
-pub words-begin : (ws name : List ℕ) (from : ℕ) → sameBytes (bytesFrom ws from (length name)) name ≡ sameBytes (bytesFrom ws (from + 0) (length name - 4 * 0)) (drop (4 * 0) name)
+pub words-begin : (ws name : List ℕ) (from : ℕ)
+    → sameBytes (nameOf (length name) (drop from ws)) name ≡ sameBytes (nameOf (length name - 4 * 0) (drop (from + 0) ws)) (drop (4 * 0) name)
 words-begin ws name from = rw (add-zero from, sub-zero)
 
-module _ (ws name : List ℕ) (from i : ℕ) (b goal : Bool) (h : from + nameWords (length name) ≤ length ws) (j : i < length name / 4)
-    (inv : goal ≡ sameBytes (bytesFrom ws (from + i) (length name - 4 * i)) (drop (4 * i) name)) where
+module _ (ws name : List ℕ) (from i : ℕ) (b goal : Bool) (j : i < length name / 4)
+    (inv : goal ≡ sameBytes (nameOf (length name - 4 * i) (drop (from + i) ws)) (drop (4 * i) name)) where
   words-step : b ≡ sameBytes (take 4 (bytesOf (wordAt ws (from + i) ∷ []))) (take 4 (drop (4 * i) name))
-      → goal ≡ pick b (sameBytes (bytesFrom ws (from + (i + 1)) (length name - 4 * (i + 1))) (drop (4 * (i + 1)) name)) false
+      → goal ≡ pick b (sameBytes (nameOf (length name - 4 * (i + 1)) (drop (from + (i + 1)) ws)) (drop (4 * (i + 1)) name)) false
   words-step e =
       let n : ℕ = length name - 4 * i in
       let l : List ℕ = bytesOf (wordAt ws (from + i) ∷ []) in
-      let four : length l ≡ 4 = bytes-length (wordAt ws (from + i) ∷ []) in
+      let four : length l ≡ 4 = bytes-long (wordAt ws (from + i) ∷ []) in
       let x : from + i + 1 ≡ from + (i + 1) = omega arith in
       let y : length name - 4 * i - 4 ≡ length name - 4 * (i + 1) = omega arith in
       let z : 4 * i + 4 ≡ 4 * (i + 1) = omega arith in
       inv
-      ∙ bytes-step ws (drop (4 * i) name) (from + i) n 4 (omega arith) (omega arith) (omega (arith, length-drop (4 * i) name))
+      ∙ bytes-step ws (drop (4 * i) name) (from + i) n 4 (λ q. omega arith) (omega arith) (omega (arith, length-drop (4 * i) name))
       (take-all n l (omega arith) ∙ sym (take-all 4 l (omega arith)))
       ∙ rw (drop-drop 4 (4 * i) name, x, y, z, ← e)
 
@@ -177,20 +158,20 @@ module _ (ws name : List ℕ) (from i : ℕ) (b goal : Bool) (h : from + nameWor
   words-differ d e = sym (words-step e ∙ rw (not-true b d))
 
   pub words-agree : not b ≡ false → b ≡ sameBytes (take 4 (bytesOf (wordAt ws (from + i) ∷ []))) (take 4 (drop (4 * i) name))
-      → goal ≡ sameBytes (bytesFrom ws (from + (i + 1)) (length name - 4 * (i + 1))) (drop (4 * (i + 1)) name)
+      → goal ≡ sameBytes (nameOf (length name - 4 * (i + 1)) (drop (from + (i + 1)) ws)) (drop (4 * (i + 1)) name)
   words-agree d e = words-step e ∙ rw (not-false b d)
 
-module _ (ws name : List ℕ) (from i : ℕ) (goal : Bool) (h : from + nameWords (length name) ≤ length ws)
-    (inv : goal ≡ sameBytes (bytesFrom ws (from + i) (length name - 4 * i)) (drop (4 * i) name)) (low : i ≤ length name / 4) (high : length name / 4 ≤ i) where
-  none-left : sameBytes (bytesFrom ws (from + i + 1) (length name % 4 - 4)) (drop (length name % 4) (drop (4 * i) name)) ≡ true
-  unfolding bytesFrom sameBytes
+module _ (ws name : List ℕ) (from i : ℕ) (goal : Bool)
+    (inv : goal ≡ sameBytes (nameOf (length name - 4 * i) (drop (from + i) ws)) (drop (4 * i) name)) (low : i ≤ length name / 4) (high : length name / 4 ≤ i) where
+  none-left : sameBytes (nameOf (length name % 4 - 4) (drop (from + i + 1) ws)) (drop (length name % 4) (drop (4 * i) name)) ≡ true
+  unfolding nameOf sameBytes
   none-left =
       let x : length name % 4 - 4 ≡ 0 = omega arith in
       let y : length name ≤ 4 * i + length name % 4 = omega arith in
       rw (x, drop-drop (length name % 4) (4 * i) name, drop-of-length-le name y)
 
   pub words-ended : length name % 4 ≡ 0 → true ≡ goal
-  unfolding bytesFrom sameBytes
+  unfolding nameOf sameBytes
   words-ended z =
       let x : length name - 4 * i ≡ 0 = omega arith in
       let y : length name ≤ 4 * i = omega arith in
@@ -201,5 +182,5 @@ module _ (ws name : List ℕ) (from i : ℕ) (goal : Bool) (h : from + nameWords
   words-left b z e =
       let n : length name - 4 * i ≡ length name % 4 = omega arith in
       sym ((rw n at inv)
-      ∙ bytes-step ws (drop (4 * i) name) (from + i) (length name % 4) (length name % 4) (omega arith) (omega arith) (omega (arith, length-drop (4 * i) name)) refl
+      ∙ bytes-step ws (drop (4 * i) name) (from + i) (length name % 4) (length name % 4) z (omega arith) (omega (arith, length-drop (4 * i) name)) refl
       ∙ rw (none-left, ← e) (last-byte b))

@@ -2,7 +2,7 @@
 use Prim.Native.Nat.{ℕ, _+_, _-_, _<_, _≤_}
 use native.Mathlib.Omega.{arith}
 use mathlib.Core.Path.{_≡_, refl, sym, ap, _∙_}
-use mathlib.Core.Bool.{Bool, true, false, _&&_, _||_}
+use mathlib.Core.Bool.{Bool, true, false, _&&_}
 use mathlib.Core.List.{List, [], _∷_}
 use borrow.Author.Tests.{leb-true, ltb-false}
 use lib.Dec.{leb, ltb, lit<}
@@ -15,7 +15,7 @@ use Rattle.word.proofs.ParseReads.{Stands, next-then, next-reads, picked, one-s
 use Rattle.resource.specs.Format.{readResource, resource, resourceAt, isBuffer, placeFiled, resourceWordFiled, sizeFiled}
 use Rattle.resource.specs.declared.types.Resource.{Resource}
 use Rattle.resource.proofs.ReadLaws.{type-sizeless}
-use Rattle.word.proofs.Truth.{first, second}
+use Rattle.word.proofs.Truth.{first, second, neither}
 use Rattle.interface.specs.Meaning.{Interface}
 use Rattle.interface.specs.Format.{readPack, readEntryPoint, editionFiled, totalsFiled, ofWord, limitsOf, distinctNames, Decoded, Torn, Misfiled, Pack, torn, whole, body, decode, decodedNumber}
 use Rattle.interface.specs.Reads.{interfaceOf}
@@ -111,10 +111,6 @@ whole-got : (p : Parsed Interface) (i : Interface) → whole p ≡ Pack i → p 
 whole-got fault i e = cc
 whole-got (got j []) i e = cc
 whole-got (got j (w ∷ ws)) i e = cc
-
-neither : (a b : Bool) → (a || b) ≡ false → (a ≡ false) × (b ≡ false)
-neither true b e = (e, cc)
-neither false b e = (refl, e)
 
 module _ (ws : List ℕ) (i : Interface) where
   by-torn : (b : Bool) → torn ws ≡ b → pick b Torn (whole (readPack (body ws))) ≡ Pack i → Accepted ws i

@@ -9,6 +9,7 @@ use lib.ListN.{length, drop, List·getD-eq-default}
 use Rattle.word.specs.Choice.{pick}
 use Rattle.word.specs.Words.{wordAt, bits, bit}
 use Rattle.word.proofs.Truth.{by-test}
+use Rattle.interface.specs.Meaning.{EntryPoint}
 use Rattle.interface.specs.Format.{nameWords, decode, decodedNumber}
 use Rattle.interface.specs.Reads.{varyingWidth, interfaceOf, standing, entryNth}
 use Rattle.interface.specs.Parts.{recordsFrom, endFrom, varyingEnd, varyingsEnd, resourceEnd, countsAt, inputsAt, partsAt, entryEnd, entryAt, entriesAt, resourceCount, entryCount, headAt, Placed, Heads, workgroupAt}
@@ -225,3 +226,35 @@ module _ (ws heads : List ℕ) (p head : ℕ) (h : decodedNumber (decode ws) ≡
       nth-read =
           let a : head ≡ headAt ws p = e ∙ g .entries h p (counted ws p h k) in
           rw (d, a, accepted ws h .entries) (sym (nth ws p (entryCount ws) (entriesAt ws) (counted ws p h k)))
+
+-- ---- the entry points that are left
+
+abbrev pub left-of : List ℕ → ℕ → ℕ → List EntryPoint
+left-of ws left at = recordsFrom (entryAt ws) (entryEnd ws) left at
+
+module _ (ws : List ℕ) (h : decodedNumber (decode ws) ≡ 0) (left at : ℕ) (hl : left ≡ entryCount ws) (ha : at ≡ entriesAt ws) where
+  pub entries-begin : interfaceOf (decode ws) .entries ≡ left-of ws left at
+  entries-begin = rw (hl, ha) (accepted ws h .entries)
+
+  pub ends-begin : endFrom (entryEnd ws) left at < length ws
+  ends-begin = rw (hl, ha) (accepted ws h .ends)
+
+pub short-pack : (ws : List ℕ) → decodedNumber (decode ws) ≡ 0 → length ws ≤ 4096
+short-pack ws h = accepted ws h .short
+
+module _ (ws : List ℕ) (left at : ℕ) (ends : endFrom (entryEnd ws) left at < length ws) (h : left ≡ 0 → ⊥) where
+  pub ends-onward : (next : ℕ) → next ≡ entryEnd ws at → endFrom (entryEnd ws) (left - 1) next < length ws
+  ends-onward next e = rw e (rw (end-left (entryEnd ws) left at h) at ends)
+
+  pub entry-within : entryEnd ws at < length ws
+  entry-within = omega (arith, past (entryEnd ws) (head-past ws) (left - 1) (entryEnd ws at), end-left (entryEnd ws) left at h)
+
+  pub head-within : at < length ws
+  head-within = omega (arith, head-past ws at, entry-within)
+
+  workgroup-outputs : workgroupAt ws at ≤ partsAt ws at .outputs
+  unfolding partsAt
+  workgroup-outputs = omega (arith, varyings-past ws (bits 11 6 (wordAt ws (countsAt ws at))) (inputsAt ws (countsAt ws at)))
+
+  pub name-within : workgroupAt ws at ≤ length ws
+  name-within = omega (arith, workgroup-outputs, outputs-past ws at, entry-within)

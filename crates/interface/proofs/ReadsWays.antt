@@ -1,7 +1,6 @@
 -- The ways of the functions that read what stands in a pack.
 use Prim.Native.Nat.{ℕ, _+_, _/_, _%_, _<_, _≤_}
 use native.Mathlib.Omega.{arith}
-use native.Mathlib.Nat.{add-zero}
 use mathlib.Core.Path.{_≡_, sym, ap, _∙_}
 use mathlib.Core.Bool.{true}
 use mathlib.Core.List.{List, [], _∷_}
@@ -10,16 +9,14 @@ use lib.Dec.{ltb}
 use lib.ListN.{length, drop}
 use lib.Seq.{getD-drop}
 use Rattle.word.specs.Words.{wordAt, kindOf, contentOf}
-use Rattle.interface.specs.Format.{decode, decodedNumber, limitsOf}
+use Rattle.word.proofs.Parse.{first-of}
+use Rattle.interface.specs.Format.{decode, decodedNumber, limitsBy, limitsOf}
 use Rattle.interface.specs.Reads.{varyingWidth, interfaceOf}
 use Rattle.interface.specs.Parts.{resourceCount, entryCount, resourceEnd, entryEnd, entriesAt, entryAt}
 use Rattle.resource.specs.Format.{resourceAt}
 use Rattle.interface.specs.declared.types.Limits.{Limits}
 use Rattle.interface.proofs.ReadsRecords.{records-length}
 use Rattle.interface.proofs.ReadsPack.{accepted}
-
-first-word : (ws : List ℕ) (at : ℕ) → wordAt (drop at ws) 0 ≡ wordAt ws at
-first-word ws at = getD-drop at ws 0 0 ∙ ap (λ (n : ℕ). wordAt ws n) (add-zero at)
 
 module _ (w k : ℕ) (hk : k ≡ kindOf w) where
   pub width-local : k ≡ 12 → 2 ≡ varyingWidth (w ∷ [])
@@ -29,28 +26,10 @@ module _ (w k : ℕ) (hk : k ≡ kindOf w) where
   width-built-in h = rw (← hk, ne-eqb k 12 h)
 
 pub width-there : (ws : List ℕ) (at w : ℕ) → w ≡ wordAt ws at → varyingWidth (w ∷ []) ≡ varyingWidth (drop at ws)
-width-there ws at w e = rw (first-word ws at, ← e)
+width-there ws at w e = rw (first-of ws at, ← e)
 
 abbrev limit : List ℕ → ℕ → ℕ
 limit ws at = contentOf (wordAt ws at)
-
-abbrev limitsBy : ℕ → ℕ → ℕ → ℕ → ℕ → ℕ → ℕ → ℕ → ℕ → ℕ → ℕ → ℕ → ℕ → Limits
-limitsBy a b c d e f g i j k l m n =
-    record {
-      «max_inter_stage_shader_variables» = a;
-      «max_color_attachments» = b;
-      «max_compute_workgroup_size_x» = c;
-      «max_compute_workgroup_size_y» = d;
-      «max_compute_workgroup_size_z» = e;
-      «max_compute_invocations_per_workgroup» = f;
-      «max_task_invocations_per_dimension» = g;
-      «max_task_invocations_per_workgroup» = i;
-      «max_mesh_invocations_per_dimension» = j;
-      «max_mesh_invocations_per_workgroup» = k;
-      «max_mesh_output_vertices» = l;
-      «max_mesh_output_primitives» = m;
-      «max_task_payload_size» = n;
-    }
 
 abbrev limitsAt : List ℕ → Limits
 limitsAt ws =

@@ -6,6 +6,7 @@ use lib.Dec.{eqb, leb, ltb}
 use lib.ListN.{length, take, drop}
 use Rattle.word.specs.Choice.{pick}
 use Rattle.word.specs.Words.{wordAt, kindOf, contentOf, bits, bit, ofKind, closingSum, sumOf}
+use Rattle.word.specs.Lists.{among, flat}
 use Rattle.word.specs.Parse.{Parsed, fault, got, next, one, several}
 use Rattle.resource.specs.Format.{readResource, resourceWords, flag}
 use Rattle.resource.specs.declared.types.Resource.{Resource}
@@ -28,6 +29,24 @@ use Rattle.interface.specs.declared.types.Varying.the-variants as Var
 use Rattle.interface.specs.declared.types.SamplingPair.{SamplingPair}
 use Rattle.interface.specs.declared.types.WorkgroupSize.{WorkgroupSize}
 use Rattle.interface.specs.declared.types.Limits.{Limits}
+
+-- ---- the format's limits
+
+-- 'at most 4,096 words'
+abbrev pub mostWords : ℕ
+mostWords = 4096
+
+-- 'resources 0–128'
+abbrev pub mostResources : ℕ
+mostResources = 128
+
+-- 'entry points 0–16'
+abbrev pub mostEntries : ℕ
+mostEntries = 16
+
+-- 'name bytes 1–64'
+abbrev pub mostBytes : ℕ
+mostBytes = 64
 
 -- ---- codes
 
@@ -127,7 +146,7 @@ readName n ws =
 -- 'kind 7 (stage 26–24; name bytes 22–16, 1–64; bit 1 mesh record, bit 0 dual source)'
 abbrev pub headFiled : ℕ → Bool
 headFiled w =
-    eqb (kindOf w) 7 && (ltb (bits 26 24 w) 5 && (eqb (bit 23 w) 0 && (leb 1 (bits 22 16 w) && (leb (bits 22 16 w) 64 && eqb (bits 15 2 w) 0))))
+    eqb (kindOf w) 7 && (ltb (bits 26 24 w) 5 && (eqb (bit 23 w) 0 && (leb 1 (bits 22 16 w) && (leb (bits 22 16 w) mostBytes && eqb (bits 15 2 w) 0))))
 
 abbrev pub ofWord : ℕ → ℕ → Bool
 ofWord kind w = eqb (kindOf w) kind
@@ -168,10 +187,6 @@ unfoldable pub contents : List ℕ → List ℕ
 contents [] = []
 contents (w ∷ ws) = contentOf w ∷ contents ws
 
-unfoldable pub member : ℕ → List ℕ → Bool
-member i [] = false
-member i (j ∷ js) = let rest = member i js in pick (eqb i j) true rest
-
 abbrev pub sampledClass : ImageClass → Bool
 sampledClass (Class.Sampled kind multi) = true
 sampledClass (Class.Depth multi) = true
@@ -203,8 +218,8 @@ pairOf w = record { texture = bits 15 8 w; sampler = bits 7 0 w }
 -- 'A pair names a type 2, 3 or 5 texture and a sampler, both in the entry's list'
 abbrev pub pairGood : List Resource → List ℕ → SamplingPair → Bool
 pairGood resources listed p =
-    member (p .texture) listed && (ofType isTexture resources (p .texture)
-    && (member (p .sampler) listed && ofType isSampler resources (p .sampler)))
+    among listed (p .texture) && (ofType isTexture resources (p .texture)
+    && (among listed (p .sampler) && ofType isSampler resources (p .sampler)))
 
 -- 'pairs, kind 5 (texture 15–8, sampler 7–0)'
 abbrev pub pairFiled : List Resource → List ℕ → ℕ → Bool
@@ -253,28 +268,36 @@ editionFiled w = ofWord 1 w && eqb (bits 26 16 w) 1
 
 -- 'kind 2 (resources 0–128 in bits 26–16, entry points 0–16 in 15–0)'
 abbrev pub totalsFiled : ℕ → Bool
-totalsFiled w = ofWord 2 w && (leb (bits 26 16 w) 128 && leb (bits 15 0 w) 16)
+totalsFiled w = ofWord 2 w && (leb (bits 26 16 w) mostResources && leb (bits 15 0 w) mostEntries)
 
 -- '13 limits of kind 3: inter-stage variables, colour attachments, compute size in x, y, z, compute total, task dimension, task total,
 -- mesh dimension, mesh total, mesh vertices, mesh primitives, task payload'
-abbrev pub limitsOf : List ℕ → Limits
-limitsOf ws =
+abbrev pub limitsBy : ℕ → ℕ → ℕ → ℕ → ℕ → ℕ → ℕ → ℕ → ℕ → ℕ → ℕ → ℕ → ℕ → Limits
+limitsBy a b c d e f g h i j k l m =
     record {
-      «max_inter_stage_shader_variables» = contentOf (wordAt ws 0);
-      «max_color_attachments» = contentOf (wordAt ws 1);
-      «max_compute_workgroup_size_x» = contentOf (wordAt ws 2);
-      «max_compute_workgroup_size_y» = contentOf (wordAt ws 3);
-      «max_compute_workgroup_size_z» = contentOf (wordAt ws 4);
-      «max_compute_invocations_per_workgroup» = contentOf (wordAt ws 5);
-      «max_task_invocations_per_dimension» = contentOf (wordAt ws 6);
-      «max_task_invocations_per_workgroup» = contentOf (wordAt ws 7);
-      «max_mesh_invocations_per_dimension» = contentOf (wordAt ws 8);
-      «max_mesh_invocations_per_workgroup» = contentOf (wordAt ws 9);
-      «max_mesh_output_vertices» = contentOf (wordAt ws 10);
-      «max_mesh_output_primitives» = contentOf (wordAt ws 11);
-      «max_task_payload_size» = contentOf (wordAt ws 12);
+      «max_inter_stage_shader_variables» = a;
+      «max_color_attachments» = b;
+      «max_compute_workgroup_size_x» = c;
+      «max_compute_workgroup_size_y» = d;
+      «max_compute_workgroup_size_z» = e;
+      «max_compute_invocations_per_workgroup» = f;
+      «max_task_invocations_per_dimension» = g;
+      «max_task_invocations_per_workgroup» = h;
+      «max_mesh_invocations_per_dimension» = i;
+      «max_mesh_invocations_per_workgroup» = j;
+      «max_mesh_output_vertices» = k;
+      «max_mesh_output_primitives» = l;
+      «max_task_payload_size» = m;
     }
 
+-- the limits that thirteen words hold
+abbrev pub limitsOf : List ℕ → Limits
+limitsOf ws =
+    limitsBy (contentOf (wordAt ws 0)) (contentOf (wordAt ws 1)) (contentOf (wordAt ws 2)) (contentOf (wordAt ws 3)) (contentOf (wordAt ws 4))
+    (contentOf (wordAt ws 5)) (contentOf (wordAt ws 6)) (contentOf (wordAt ws 7)) (contentOf (wordAt ws 8))
+    (contentOf (wordAt ws 9)) (contentOf (wordAt ws 10)) (contentOf (wordAt ws 11)) (contentOf (wordAt ws 12))
+
+-- the same bytes in the same order
 unfoldable pub sameBytes : List ℕ → List ℕ → Bool
 sameBytes [] [] = true
 sameBytes [] (c ∷ cs) = false
@@ -307,7 +330,7 @@ readPack ws =
 -- 'under 16 or over 4,096 words, total unlike the length, or sum'
 unfoldable pub torn : List ℕ → Bool
 torn ws =
-    ltb (length ws) 16 || (ltb 4096 (length ws) || (not (eqb (bits 15 0 (wordAt ws 0)) (length ws))
+    ltb (length ws) 16 || (ltb mostWords (length ws) || (not (eqb (bits 15 0 (wordAt ws 0)) (length ws))
     || not (eqb (wordAt ws (length ws - 1)) (closingSum ws))))
 
 pub data Decoded : Type 0 where
@@ -346,11 +369,6 @@ abbrev pub varyingWords : Varying → List ℕ
 varyingWords (Var.Local location iv) = ofKind 12 location ∷ varWord iv ∷ []
 varyingWords (Var.BuiltIn b) = ofKind 14 (builtInCode b) ∷ []
 
--- the words of records, one after the other
-unfoldable pub concat : {A : Type 0} → (A → List ℕ) → List A → List ℕ
-concat words [] = []
-concat words (a ∷ others) = words a ++ concat words others
-
 unfoldable pub packName : List ℕ → List ℕ
 packName [] = []
 packName (a ∷ []) = a ∷ []
@@ -386,24 +404,31 @@ pairWords p = ofKind 5 (2 ^ 8 * p .texture + p .sampler) ∷ []
 unfoldable pub entryPointWords : EntryPoint → List ℕ
 entryPointWords e =
     headWord e ∷ (packName (e .name) ++ (workgroupWords (e .workgroup) ++ (payloadWord (e .payload) ∷ (meshWords (e .mesh)
-    ++ (countsWord e ∷ (concat indexWords (e .resources) ++ (concat pairWords (e .pairs)
-    ++ (concat varyingWords (e .inputs) ++ concat varyingWords (e .outputs)))))))))
+    ++ (countsWord e ∷ (flat indexWords (e .resources) ++ (flat pairWords (e .pairs)
+    ++ (flat varyingWords (e .inputs) ++ flat varyingWords (e .outputs)))))))))
+
+-- the limits in their order
+abbrev pub limitNumbers : Limits → List ℕ
+limitNumbers l =
+    l .«max_inter_stage_shader_variables» ∷ l .«max_color_attachments»
+    ∷ l .«max_compute_workgroup_size_x» ∷ l .«max_compute_workgroup_size_y» ∷ l .«max_compute_workgroup_size_z»
+    ∷ l .«max_compute_invocations_per_workgroup»
+    ∷ l .«max_task_invocations_per_dimension» ∷ l .«max_task_invocations_per_workgroup»
+    ∷ l .«max_mesh_invocations_per_dimension» ∷ l .«max_mesh_invocations_per_workgroup»
+    ∷ l .«max_mesh_output_vertices» ∷ l .«max_mesh_output_primitives»
+    ∷ l .«max_task_payload_size» ∷ []
+
+abbrev pub limitWord : ℕ → List ℕ
+limitWord n = ofKind 3 n ∷ []
 
 abbrev pub limitWords : Limits → List ℕ
-limitWords l =
-    ofKind 3 (l .«max_inter_stage_shader_variables») ∷ ofKind 3 (l .«max_color_attachments»)
-    ∷ ofKind 3 (l .«max_compute_workgroup_size_x») ∷ ofKind 3 (l .«max_compute_workgroup_size_y»)
-    ∷ ofKind 3 (l .«max_compute_workgroup_size_z») ∷ ofKind 3 (l .«max_compute_invocations_per_workgroup»)
-    ∷ ofKind 3 (l .«max_task_invocations_per_dimension») ∷ ofKind 3 (l .«max_task_invocations_per_workgroup»)
-    ∷ ofKind 3 (l .«max_mesh_invocations_per_dimension») ∷ ofKind 3 (l .«max_mesh_invocations_per_workgroup»)
-    ∷ ofKind 3 (l .«max_mesh_output_vertices») ∷ ofKind 3 (l .«max_mesh_output_primitives»)
-    ∷ ofKind 3 (l .«max_task_payload_size») ∷ []
+limitWords l = flat limitWord (limitNumbers l)
 
 -- all but the first and the closing word
 unfoldable pub recordWords : Interface → List ℕ
 recordWords i =
     ofKind 2 (2 ^ 16 * length (i .resources) + length (i .entries))
-    ∷ (limitWords (i .limits) ++ (concat resourceWords (i .resources) ++ concat entryPointWords (i .entries)))
+    ∷ (limitWords (i .limits) ++ (flat resourceWords (i .resources) ++ flat entryPointWords (i .entries)))
 
 abbrev pub openWords : Interface → List ℕ
 openWords i = ofKind 1 (2 ^ 16 * 1 + (length (recordWords i) + 2)) ∷ recordWords i

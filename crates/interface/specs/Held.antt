@@ -1,14 +1,16 @@
 -- What a pack can hold: the ranges of an interface's numbers, and document 01's rules on what it lists.
-use Prim.Native.Nat.{ℕ, _^_}
+use Prim.Native.Nat.{ℕ}
 use mathlib.Core.Bool.{Bool, true, _&&_}
-use mathlib.Core.List.{List, [], _∷_}
+use mathlib.Core.List.{List}
 use lib.Dec.{leb, ltb}
 use lib.ListN.{length}
+use Rattle.word.specs.Words.{content}
+use Rattle.word.specs.Lists.{every}
 use Rattle.resource.specs.Format.{resourceHeld}
 use Rattle.resource.specs.declared.types.Resource.{Resource}
 use Rattle.varying.specs.Format.{varHeld, payloadHeld}
 use Rattle.interface.specs.Meaning.{EntryPoint, Interface}
-use Rattle.interface.specs.Format.{noZero, pairGood, clips, distinctNames, encode}
+use Rattle.interface.specs.Format.{mostWords, mostResources, mostEntries, mostBytes, noZero, pairGood, clips, distinctNames, limitNumbers, encode}
 use Rattle.interface.specs.declared.types.MeshRecord.{MeshRecord}
 use Rattle.interface.specs.declared.types.MeshRecord.the-variants as Mesh
 use Rattle.interface.specs.declared.types.BuiltIn.{BuiltIn}
@@ -16,29 +18,10 @@ use Rattle.interface.specs.declared.types.BuiltIn.the-variants as In
 use Rattle.interface.specs.declared.types.Varying.{Varying}
 use Rattle.interface.specs.declared.types.Varying.the-variants as Var
 use Rattle.interface.specs.declared.types.WorkgroupSize.{WorkgroupSize}
-use Rattle.interface.specs.declared.types.Limits.{Limits}
-
-unfoldable pub every : {A : Type 0} → (A → Bool) → List A → Bool
-every test [] = true
-every test (a ∷ others) = let rest = every test others in test a && rest
-
--- 'bits 31–27 are the kind, the rest its content'
-abbrev pub content : ℕ → Bool
-content n = ltb n (2 ^ 27)
-
-abbrev pub limitNumbers : Limits → List ℕ
-limitNumbers l =
-    l .«max_inter_stage_shader_variables» ∷ l .«max_color_attachments»
-    ∷ l .«max_compute_workgroup_size_x» ∷ l .«max_compute_workgroup_size_y» ∷ l .«max_compute_workgroup_size_z»
-    ∷ l .«max_compute_invocations_per_workgroup»
-    ∷ l .«max_task_invocations_per_dimension» ∷ l .«max_task_invocations_per_workgroup»
-    ∷ l .«max_mesh_invocations_per_dimension» ∷ l .«max_mesh_invocations_per_workgroup»
-    ∷ l .«max_mesh_output_vertices» ∷ l .«max_mesh_output_primitives»
-    ∷ l .«max_task_payload_size» ∷ []
 
 -- 'name bytes 22–16, 1–64', 'no zero byte inside'
 abbrev pub nameHeld : List ℕ → Bool
-nameHeld name = leb 1 (length name) && (leb (length name) 64 && (noZero name && every (λ b. ltb b 256) name))
+nameHeld name = leb 1 (length name) && (leb (length name) mostBytes && (noZero name && every (λ b. ltb b 256) name))
 
 abbrev pub workgroupHeld : WorkgroupSize → Bool
 workgroupHeld size = content (size .x) && (content (size .y) && content (size .z))
@@ -73,6 +56,6 @@ entryPointHeld resources e =
 -- 'at most 4,096 words', 'resources 0–128', 'entry points 0–16', 'Stage and name together occur once'
 unfoldable pub interfaceHeld : Interface → Bool
 interfaceHeld i =
-    every content (limitNumbers (i .limits)) && (leb (length (i .resources)) 128 && (leb (length (i .entries)) 16
+    every content (limitNumbers (i .limits)) && (leb (length (i .resources)) mostResources && (leb (length (i .entries)) mostEntries
     && (every resourceHeld (i .resources) && (every (entryPointHeld (i .resources)) (i .entries)
-    && (distinctNames (i .entries) && leb (length (encode i)) 4096)))))
+    && (distinctNames (i .entries) && leb (length (encode i)) mostWords)))))

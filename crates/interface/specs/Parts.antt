@@ -1,20 +1,17 @@
 -- Where the records of a pack stand, by the counts that it names: read without asking whether it is well filed.
 use Prim.Native.Nat.{ℕ, zero, suc, _+_, _<_, _≤_}
 use mathlib.Core.Path.{_≡_}
-use mathlib.Core.Bool.{Bool, true, false}
 use mathlib.Core.List.{List, [], _∷_}
-use lib.Dec.{eqb, ltb}
+use lib.Dec.{eqb}
 use lib.ListN.{length, take, drop}
 use Rattle.word.specs.Choice.{pick}
 use Rattle.word.specs.Words.{wordAt, bits, bit}
 use Rattle.resource.specs.Format.{resourceAt, isBuffer}
 use Rattle.resource.specs.declared.types.Resource.{Resource}
 use Rattle.interface.specs.Meaning.{EntryPoint}
-use Rattle.interface.specs.Format.{nameWords, bytesOf, decode, decodedNumber}
+use Rattle.interface.specs.Format.{mostWords, nameWords, decode, decodedNumber}
 use Rattle.interface.specs.Reads.{varyingWidth, standing, resourcesAt, interfaceOf}
 use Rattle.interface.specs.declared.types.EntryParts.{EntryParts}
-use Rattle.interface.specs.declared.types.Chosen.{Chosen}
-use Rattle.interface.specs.declared.types.Chosen.the-variants as Ch
 
 -- as many records from a position on, where each says where the next begins; and the position behind them
 unfoldable pub recordsFrom : {A : Type 0} → (ℕ → A) → (ℕ → ℕ) → ℕ → ℕ → List A
@@ -37,10 +34,6 @@ abbrev pub resourceEnd : List ℕ → ℕ → ℕ
 resourceEnd ws at = at + pick (isBuffer (wordAt ws (at + 1))) 3 2
 
 -- ---- an entry point by the position of its first word
-
--- as many bytes of the words from a position on
-unfoldable pub bytesFrom : List ℕ → ℕ → ℕ → List ℕ
-bytesFrom ws from n = take n (bytesOf (drop from ws))
 
 abbrev pub workgroupAt : List ℕ → ℕ → ℕ
 workgroupAt ws head = head + 1 + nameWords (bits 22 16 (wordAt ws head))
@@ -118,7 +111,7 @@ pub record Placed (ws : List ℕ) (p : EntryParts) : Type 0 where
   pub outputs : p .outputs < length ws
   pub inputsEnd : varyingsEnd ws (bits 11 6 (wordAt ws (p .counts))) (p .inputs) < length ws
   pub outputsEnd : outputsEnd ws p < length ws
-  pub short : length ws ≤ 4096
+  pub short : length ws ≤ mostWords
 
 -- a table begins with the positions of an accepted pack's resources, and three words stand from each on
 pub record Offsets (ws offsets : List ℕ) : Type 0 where
@@ -128,18 +121,3 @@ pub record Offsets (ws offsets : List ℕ) : Type 0 where
 -- a table begins with the positions of an accepted pack's entry points
 pub record Heads (ws heads : List ℕ) : Type 0 where
   pub entries : decodedNumber (decode ws) ≡ 0 → (k : ℕ) → k < entryCount ws → wordAt heads k ≡ headAt ws k
-
--- ---- a choice of an entry point
-
--- one entry point more, of the stage or not, at a place
-abbrev pub met : Chosen → Bool → ℕ → Chosen
-met found false i = found
-met Ch.Absent true i = Ch.At i
-met (Ch.At j) true i = Ch.Several
-met Ch.Several true i = Ch.Several
-
--- a chosen place is one of as many
-abbrev pub chosenIn : Chosen → ℕ → Bool
-chosenIn (Ch.At i) n = ltb i n
-chosenIn Ch.Absent n = true
-chosenIn Ch.Several n = true

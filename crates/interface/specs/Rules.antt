@@ -1,6 +1,6 @@
 -- The choice of an entry point (document 01, 'Names' and refusals 10 to 12).
 use Prim.Native.Nat.{ℕ, _+_}
-use mathlib.Core.Bool.{Bool}
+use mathlib.Core.Bool.{Bool, true, false}
 use mathlib.Core.List.{List, [], _∷_}
 use lib.Dec.{eqb, ltb}
 use Rattle.word.specs.Choice.{pick}
@@ -9,9 +9,10 @@ use Rattle.word.specs.declared.answer.Answer.{Answer}
 use Rattle.interface.specs.Meaning.{EntryPoint}
 use Rattle.interface.specs.Format.{Decoded, Torn, Misfiled, Pack, stageAt, stageCode, named}
 use Rattle.interface.specs.declared.types.ShaderStage.{ShaderStage}
-use Rattle.interface.specs.declared.types.Chosen.{Chosen}
-use Rattle.interface.specs.declared.types.Chosen.the-variants as Ch
+use Rattle.interface.specs.declared.choose.Chosen.{Chosen}
+use Rattle.interface.specs.declared.choose.Chosen.the-variants as Ch
 
+-- the first of a stage and a name, by its position, counted on from a number
 unfoldable pub findFrom : ShaderStage → List ℕ → List EntryPoint → ℕ → Chosen
 findFrom stage name [] i = Ch.Absent
 findFrom stage name (e ∷ es) i = let rest = findFrom stage name es (i + 1) in pick (named stage name e) (Ch.At i) rest
@@ -20,6 +21,7 @@ findFrom stage name (e ∷ es) i = let rest = findFrom stage name es (i + 1) in 
 abbrev pub findEntryPoint : ShaderStage → List ℕ → List EntryPoint → Chosen
 findEntryPoint stage name es = findFrom stage name es 0
 
+-- whether an entry point has a stage
 abbrev pub ofStage : ShaderStage → EntryPoint → Bool
 ofStage stage e = eqb (stageCode (e .stage)) (stageCode stage)
 
@@ -45,3 +47,18 @@ unfoldable pub finalizeName : Decoded → ℕ → Answer
 finalizeName Torn stage = refused 1
 finalizeName Misfiled stage = refused 2
 finalizeName (Pack i) stage = pick (ltb stage 5) (onlyAnswer (onlyEntryPoint (stageAt stage) (i .entries))) (refused 3)
+
+-- ---- the walk over entry points
+
+-- one entry point more, of the stage or not, at a place
+abbrev pub met : Chosen → Bool → ℕ → Chosen
+met found false i = found
+met Ch.Absent true i = Ch.At i
+met (Ch.At j) true i = Ch.Several
+met Ch.Several true i = Ch.Several
+
+-- a chosen place is one of as many
+abbrev pub chosenIn : Chosen → ℕ → Bool
+chosenIn (Ch.At i) n = ltb i n
+chosenIn Ch.Absent n = true
+chosenIn Ch.Several n = true

@@ -14,7 +14,7 @@ use Rattle.resource.specs.declared.types.ResourceType.{ResourceType}
 use Rattle.resource.specs.declared.types.ResourceType.the-variants as Res
 use Rattle.varying.specs.Format.{payloadFiled}
 use Rattle.interface.specs.Meaning.{EntryPoint}
-use Rattle.interface.specs.Format.{readVarying, isClip, readName, headFiled, ofWord, readWorkgroup, readMesh, countsFiled, indexFiled, contents}
+use Rattle.interface.specs.Format.{mostResources, readVarying, isClip, readName, headFiled, ofWord, readWorkgroup, readMesh, countsFiled, indexFiled, contents}
 use Rattle.interface.specs.Format.{sampledClass, pairFiled, bytesOf, nameWords, sameBytes, stageAt, distinctNames, readEntryPoint}
 
 -- what a reader of several records got; nothing where it faulted
@@ -82,9 +82,9 @@ unfoldable pub pairRoles : List Resource → List ℕ
 pairRoles [] = []
 pairRoles (r ∷ rs) = pairRole (r .ty) ∷ pairRoles rs
 
--- the same in a table of 128
+-- the same in a table for the most resources
 unfoldable pub roleTable : List Resource → List ℕ
-roleTable rs = pairRoles rs ++ drop (length rs) (replicate 128 0)
+roleTable rs = pairRoles rs ++ drop (length rs) (replicate mostResources 0)
 
 -- the same from the word of kind 16
 abbrev pub roleOf : ℕ → ℕ

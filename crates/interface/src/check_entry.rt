@@ -57,7 +57,7 @@ fn counts_filed(w: u32) -> bool
 }
 
 // The position behind so many words of a kind, or 0.
-pub(crate) fn kinds_next(body: &[u32], from: usize, n: u32, kind: u32) -> usize
+fn kinds_next(body: &[u32], from: usize, n: u32, kind: u32) -> usize
     requires { ⌜ (1 ≤ from) × (from ≤ length (now body)) × (1 ≤ kind) ⌝ }
     ensures { λ r. ⌜ restAt (now (body .entry)) r ≡ behind (several n (one (ofWord kind)) (drop from (now (body .entry)))) ⌝ }
     ensures { λ r. ⌜ r ≤ length (now (body .entry)) ⌝ }

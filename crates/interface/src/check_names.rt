@@ -61,7 +61,7 @@ pub(crate) fn name_next(body: &[u32], from: usize, bytes: u32) -> usize
 }
 
 // Whether two words have the same first bytes of what is left of a name.
-pub(crate) fn same_first(v: u32, w: u32, left: u32) -> bool
+pub fn same_first(v: u32, w: u32, left: u32) -> bool
     requires { ⌜ 1 ≤ left ⌝ }
     ensures { λ r. ⌜ r ≡ sameFirst left v w ⌝ }
 {

@@ -5,17 +5,23 @@ ghost use Prim.Native.Nat.{_+_, _<_};
 ghost use lib.ListN.{length};
 ghost use Rattle.interface.specs.Format.{named, decode, decodedNumber};
 ghost use Rattle.interface.specs.Reads.{interfaceOf, entryNth};
-ghost use Rattle.interface.specs.Parts.{Heads, met, chosenIn};
-ghost use Rattle.interface.specs.Rules.{ofStage, findEntryPoint, onlyEntryPoint, onlyAnswer, finalizeName};
+ghost use Rattle.interface.specs.Parts.{Heads};
+ghost use Rattle.interface.specs.Rules.{met, chosenIn, ofStage, findEntryPoint, onlyEntryPoint, onlyAnswer, finalizeName};
 use crate::check_pack::index_pack;
 use crate::names::same_name;
 use crate::reads::entry_count;
 use crate::reads::position_at;
 use crate::reads::stage_at;
 use crate::reads::stage_code;
-use crate::types::Chosen;
 use crate::types::ShaderStage;
 use word::answer::Answer;
+
+// Which entry point a call means, by its position among all entry points.
+pub enum Chosen {
+    At { position: usize },
+    Absent,
+    Several,
+}
 
 // Whether the entry point at a place has this stage.
 fn of_stage(pack: &[u32], heads: &[u16], position: usize, stage: ShaderStage) -> bool
@@ -75,7 +81,7 @@ fn met_one(pack: &[u32], heads: &[u16], stage: ShaderStage, found: Chosen, i: us
 }
 
 // A stage's one entry point.
-pub(crate) fn only_entry_point(pack: &[u32], heads: &[u16], stage: ShaderStage) -> Chosen
+fn only_entry_point(pack: &[u32], heads: &[u16], stage: ShaderStage) -> Chosen
     requires { ⌜ (decodedNumber (decode (now pack)) ≡ 0) × Heads (now pack) (now heads) ⌝ }
     ensures { λ r. ⌜ r ≡ onlyEntryPoint stage (interfaceOf (decode (now (pack .entry))) .entries) ⌝ }
     ensures { λ r. ⌜ chosenIn r (length (interfaceOf (decode (now (pack .entry))) .entries)) ≡ true ⌝ }

@@ -6,7 +6,8 @@ ghost use lib.ListN.{length, take, drop};
 ghost use Rattle.word.specs.Words.{bits};
 ghost use Rattle.interface.specs.Format.{bytesOf, nameWords, sameBytes};
 ghost use Rattle.interface.specs.Reads.{nameAt};
-ghost use Rattle.interface.specs.Parts.{workgroupAt, bytesFrom};
+ghost use Rattle.interface.specs.Parts.{workgroupAt};
+ghost use Rattle.interface.specs.Walks.{nameOf};
 use crate::check_names::same_first;
 
 // How many bytes a name has, by the entry point's first word.
@@ -53,7 +54,7 @@ fn same_word(w: u32, name: &[u8], k: usize, count: u32) -> bool
 // Whether the bytes of the words from a position on begin with these.
 fn same_bytes(pack: &[u32], from: usize, name: &[u8]) -> bool
     requires { ⌜ from + nameWords (length (now name)) ≤ length (now pack) ⌝ }
-    ensures { λ r. ⌜ r ≡ sameBytes (bytesFrom (now (pack .entry)) from (length (now (name .entry)))) (now (name .entry)) ⌝ }
+    ensures { λ r. ⌜ r ≡ sameBytes (nameOf (length (now (name .entry))) (drop from (now (pack .entry)))) (now (name .entry)) ⌝ }
 {
     let mut i: usize = 0;
     while i < name.len() / 4 {

@@ -21,7 +21,7 @@ pub fn name_words(head: u32) -> usize
 }
 
 // How many words a mesh record takes, by the entry point's first word.
-pub fn mesh_width(head: u32) -> usize
+fn mesh_width(head: u32) -> usize
     ensures { λ r. ⌜ r ≡ pick (eqb (bit 1 head) 1) 3 0 ⌝ }
     ensures { λ r. ⌜ r ≤ 3 ⌝ }
 {
@@ -57,7 +57,7 @@ pub fn outputs_counted(counts: u32) -> usize
 }
 
 // The position behind as many varyings.
-pub(crate) fn varyings_end(pack: &[u32], from: usize, n: usize) -> usize
+fn varyings_end(pack: &[u32], from: usize, n: usize) -> usize
     requires { ⌜ (varyingsEnd (now pack) n from < length (now pack)) × (length (now pack) ≤ 4096) ⌝ }
     ensures { λ r. ⌜ r ≡ varyingsEnd (now (pack .entry)) n from ⌝ }
 {
@@ -105,7 +105,7 @@ pub fn entry_end(pack: &[u32], head: usize) -> usize
 }
 
 // The position behind the resource that begins at a position.
-pub(crate) fn resource_end(pack: &[u32], at: usize) -> usize
+fn resource_end(pack: &[u32], at: usize) -> usize
     requires { ⌜ at < 2 ^ 60 ⌝ }
     ensures { λ r. ⌜ r ≡ resourceEnd (now (pack .entry)) at ⌝ }
     ensures { λ r. ⌜ r ≤ at + 3 ⌝ }

@@ -73,13 +73,6 @@ pub struct Limits {
     pub max_task_payload_size: u32,
 }
 
-// Which entry point a call means, by its position among all entry points.
-pub enum Chosen {
-    At { position: usize },
-    Absent,
-    Several,
-}
-
 // Where the parts of an entry point stand in the pack. The payload is the word behind the workgroup size, and a mesh record follows it.
 pub struct EntryParts {
     pub head: usize,

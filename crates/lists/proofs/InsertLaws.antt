@@ -8,14 +8,14 @@ use lib.Dec.{eqb, ltb}
 use lib.ListN.{length, getD}
 use borrow.Author.Tests.{eqb-true, eqb-false, ltb-true, ltb-false, eq-eqb, ne-eqb, lt-ltb, le-ltb}
 use Rattle.word.specs.Choice.{pick}
+use Rattle.word.specs.Lists.{every}
 use Rattle.varying.specs.Format.{locatedHeld}
 use Rattle.varying.specs.declared.Located.{Located}
 use Rattle.word.proofs.Truth.{by-test}
 use Rattle.lists.specs.StageLists.{StageIo, rising, varyingAt, isProvided, insert, inserted}
-use Rattle.lists.specs.Records.{every}
 use Rattle.lists.specs.StageListFormat.{outGood}
 use Rattle.lists.specs.declared.stage_types.Provided.the-variants as Pro
-use Rattle.lists.proofs.Records.{first-passes, rest-passes}
+use Rattle.word.proofs.Lists.{first-passes, rest-passes}
 use Rattle.lists.proofs.StageLists.{Good, good, is-good}
 
 -- ---- the three places of a variable

@@ -5,7 +5,8 @@ use mathlib.Core.Bool.{true}
 use mathlib.Core.List.{List, [], _∷_}
 use Rattle.word.specs.Choice.{yes}
 use Rattle.resource.specs.Format.{bindingTypeFiled, bindingTypeOf, entryFiled, entryOf, entryWords, bindingCode}
-use Rattle.lists.specs.Records.{countOf, past, records, each, flat}
+use Rattle.lists.specs.Records.{countOf, past, records, each}
+use Rattle.word.specs.Lists.{flat}
 use Rattle.lists.specs.Places.{placeIn, distinctPlaces}
 use Rattle.lists.specs.LayoutFormat.{groupsOf, layoutHead, layoutFiled, decodeLayout, encodeLayout}
 

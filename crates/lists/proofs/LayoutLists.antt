@@ -10,7 +10,8 @@ use Rattle.word.specs.Words.{wordAt, kindOf, bits, ofKind}
 use Rattle.resource.specs.Format.{entryWords, placeOf, placeWord, entryOf, entryHeld}
 use Rattle.word.proofs.Truth.{first, second, both}
 use Rattle.lists.specs.Layouts.{Layout, distinctEntries}
-use Rattle.lists.specs.Records.{every, each, countOf}
+use Rattle.word.specs.Lists.{every}
+use Rattle.lists.specs.Records.{each, countOf}
 use Rattle.lists.specs.LayoutFormat.{groupsOf, readEntry, entryGood, entryFits, readEntries, layoutHead, layoutFiled, decodeLayout, encodeLayout, layoutGood}
 use Rattle.lists.proofs.Records.{Joined, Carried, read-length, room-length, flat-read, every-read, carried}
 use Rattle.lists.proofs.Words.{four}

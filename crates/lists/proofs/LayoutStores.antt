@@ -13,7 +13,8 @@ use Rattle.resource.specs.declared.types.BindGroupLayoutEntry.{BindGroupLayoutE
 use Rattle.resource.proofs.EntryFormat.{entry-back}
 use Rattle.word.proofs.Truth.{first}
 use Rattle.lists.specs.Layouts.{entryHas, entryNth, emptyEntry, pushed, joinBit, seenBy, joinAt, joined}
-use Rattle.lists.specs.Records.{fits, put, past, each, flat, countOf}
+use Rattle.lists.specs.Records.{fits, put, past, each, countOf}
+use Rattle.word.specs.Lists.{flat}
 use Rattle.lists.specs.LayoutFormat.{groupsOf, readEntry, readEntries, entryGood, entryFits, layoutFiled, decodeLayout, encodeLayout, layoutGood}
 use Rattle.lists.proofs.Words.{here, there}
 use Rattle.lists.proofs.Records.{read-length, room-lacks, room-fits, each-nth, put-more, count-more, set-read}

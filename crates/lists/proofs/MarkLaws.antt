@@ -12,16 +12,18 @@ use lib.Pow.{pow-lt, shl-shr}
 use lib.Bits.{bitOr, or-shr, or-step}
 use borrow.Author.Tests.{eqb-true, eqb-false, eq-eqb, ne-eqb}
 use Rattle.word.specs.Words.{wordAt, bits}
+use Rattle.word.specs.Lists.{every}
 use Rattle.word.proofs.Truth.{by-test, never}
+use Rattle.word.proofs.Lists.{first-passes, rest-passes}
 use Rattle.resource.specs.Format.{placeOf}
 use Rattle.resource.specs.declared.types.ResourceBinding.{ResourceBinding}
 use Rattle.lists.specs.Places.{samePlace, placeIn, distinctPlaces, readPlace, places}
-use Rattle.lists.specs.Records.{every, countOf, records}
+use Rattle.lists.specs.Records.{countOf, records}
 use Rattle.lists.specs.Marks.{slot, marked, bitOf, taken}
 use Rattle.lists.proofs.Words.{here}
 use Rattle.lists.proofs.PlaceLaws.{same-place-eq}
 use Rattle.lists.proofs.PlaceWays.{content-place}
-use Rattle.lists.proofs.Records.{first-passes, rest-passes, one-less, left-cons, left-none}
+use Rattle.lists.proofs.Records.{one-less, left-cons, left-none}
 
 -- ---- marks
 

@@ -9,17 +9,19 @@ use lib.Seq.{drop-drop, length-take-le, getD-set-same}
 use borrow.Author.Tests.{eqb-true}
 use Rattle.word.specs.Choice.{pick}
 use Rattle.word.specs.Words.{wordAt, kindOf, contentOf, bits, ofKind}
+use Rattle.word.specs.Lists.{every, flat}
 use Rattle.varying.specs.Format.{locatedWords, locatedHeld, varFiled, varOf, varWord, payloadHeld, payloadWord}
 use Rattle.varying.specs.declared.Located.{Located}
 use Rattle.varying.specs.declared.Payload.{Payload}
 use Rattle.word.proofs.Truth.{first, second}
+use Rattle.word.proofs.Lists.{first-passes, rest-passes}
 use Rattle.varying.proofs.Joined.{payload-written, location-written, var-written, var-filed, var-read}
 use Rattle.lists.specs.StageLists.{StageIo, rising, insert, inserted, varyingAt, isProvided}
-use Rattle.lists.specs.Records.{every, put, past, each, flat, countOf, records}
+use Rattle.lists.specs.Records.{put, past, each, countOf, records}
 use Rattle.lists.specs.StageListFormat.{primitiveCode, readLocated, locatedGood, readVaryings, outFiled, decodeStage, encodeStage, outGood}
 use Rattle.lists.specs.declared.stage_types.PrimitiveIndex.{PrimitiveIndex}
 use Rattle.lists.proofs.Words.{here, there, two-at, drop-put, put-put, put-after, put-own, put-kept}
-use Rattle.lists.proofs.Records.{read-length, room-left, left-cons, left-none, each-cons, each-nth, first-passes, rest-passes, past-drop, flat-append, flat-length, take-read}
+use Rattle.lists.proofs.Records.{read-length, room-left, left-cons, left-none, each-cons, each-nth, past-drop, flat-append, flat-length, take-read}
 use Rattle.lists.proofs.StageLists.{located-form, Filed, filed, is-good, code-back, decode-encode, filed-encode, good-decode}
 use Rattle.lists.proofs.InsertLaws.{lastFrom, insert-last, insert-before, insert-over, insert-behind, insert-length, longer, good-inserted}
 

@@ -7,12 +7,13 @@ use lib.Dec.{eqb, ltb}
 use borrow.Author.Tests.{eqb-true, ltb-true, lt-ltb, le-ltb}
 use Rattle.word.specs.Choice.{pick}
 use Rattle.word.specs.Words.{bits, bit, ofKind}
-use Rattle.numeric.specs.Format.{dimensionAt, typeOf, shapeCode, typeWord}
+use Rattle.numeric.specs.TypeWords.{dimensionAt, typeOf, shapeCode, typeWord}
 use Rattle.varying.specs.Format.{varOf, varWord, payloadHeld, payloadWord}
 use Rattle.varying.specs.declared.Payload.{Payload}
 use Rattle.varying.specs.declared.Payload.the-variants as Pay
 use Rattle.word.proofs.Truth.{below-all}
-use Rattle.varying.proofs.Joined.{kind-back, flag-back}
+use Rattle.numeric.proofs.Joined.{kind-back}
+use Rattle.varying.proofs.Joined.{flag-back}
 use Rattle.lists.specs.StageListFormat.{primitiveCode}
 use Rattle.lists.specs.declared.stage_types.PrimitiveIndex.{PrimitiveIndex}
 

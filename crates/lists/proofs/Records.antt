@@ -4,24 +4,16 @@ use native.Mathlib.Omega.{arith}
 use native.Mathlib.Nat.{mul-suc, mul-zero}
 use native.Mathlib.Numerals.{sub-one}
 use mathlib.Core.Path.{_≡_, refl, sym, ap, _∙_}
-use mathlib.Core.Bool.{Bool, true, false, false≢true}
+use mathlib.Core.Bool.{Bool, true, false}
 use mathlib.Core.List.{List, [], _∷_, _++_, append-assoc, append-nil, map}
 use lib.ListN.{length, take, drop, getD, set, length-drop, length-append}
 use lib.Seq.{drop-drop, take-at, drop-at, set-append-left}
 use borrow.Author.Tests.{le-leb, lt-leb}
 use Rattle.word.specs.Choice.{pick}
-use Rattle.lists.specs.Records.{fits, every, past, each, flat, put, records}
+use Rattle.lists.specs.Records.{fits, past, each, put, records}
+use Rattle.word.specs.Lists.{every, flat}
 use Rattle.lists.proofs.Words.{put-next, set-behind}
-
--- ---- a test, and then the rest
-
-pub first-passes : (b c : Bool) → pick b c false ≡ true → b ≡ true
-first-passes true c h = refl
-first-passes false c h = absurd (false≢true h)
-
-pub rest-passes : (b c : Bool) → pick b c false ≡ true → c ≡ true
-rest-passes true c h = h
-rest-passes false c h = absurd (false≢true h)
+use Rattle.word.proofs.Lists.{first-passes, rest-passes}
 
 -- ---- positions
 

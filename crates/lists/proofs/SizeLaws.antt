@@ -7,16 +7,18 @@ use mathlib.Core.List.{List, [], _∷_, _++_, map-append}
 use lib.Dec.{eqb}
 use lib.ListN.{length, drop, getD, set, length-append, length-drop}
 use borrow.Author.Tests.{ltb-true, lt-ltb, leb-true, ne-eqb, eqb-false, not-true}
+use Rattle.word.specs.Lists.{every}
 use Rattle.resource.specs.Format.{placeHeld}
 use Rattle.resource.specs.declared.types.ResourceBinding.{ResourceBinding}
 use Rattle.word.proofs.Truth.{first, second, by-test, never}
 use Rattle.lists.specs.Sizes.{Sizes, sizePlaces, sizeHas, sizeAt, raiseAt, sizeRecord, sizeFits, recorded}
-use Rattle.lists.specs.Records.{every, fits}
+use Rattle.lists.specs.Records.{fits}
 use Rattle.lists.specs.Places.{samePlace, placeFrom, placeIn}
 use Rattle.lists.specs.SizeFormat.{sizeHeld, sizesGood}
 use Rattle.lists.specs.declared.size_record.SizeRecord.{SizeRecord}
 use Rattle.lists.specs.declared.found.Found.the-variants.{At}
-use Rattle.lists.proofs.Records.{first-passes, rest-passes, every-more}
+use Rattle.word.proofs.Lists.{first-passes, rest-passes}
+use Rattle.lists.proofs.Records.{every-more}
 use Rattle.lists.proofs.PlaceLaws.{same-place-eq, same-place-refl, found-not, found-there, in-last, distinct-last}
 use Rattle.lists.proofs.SizeLists.{Good, good, is-good}
 

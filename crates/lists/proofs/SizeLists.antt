@@ -9,7 +9,8 @@ use borrow.Author.Tests.{eqb-true, leb-true, le-leb, ltb-true, lt-ltb}
 use Rattle.word.specs.Words.{wordAt, kindOf, bits, ofKind, contentOf}
 use Rattle.word.proofs.Truth.{first, second}
 use Rattle.lists.specs.Sizes.{Sizes, distinctSizes}
-use Rattle.lists.specs.Records.{every, each, countOf, records}
+use Rattle.word.specs.Lists.{every}
+use Rattle.lists.specs.Records.{each, countOf, records}
 use Rattle.lists.specs.SizeFormat.{readSize, sizeGood, sizeWords, sizeHeld, readSizes, sizesHead, sizesFiled, decodeSizes, encodeSizes, sizesGood}
 use Rattle.lists.proofs.Records.{Joined, Carried, read-length, room-length, flat-read, every-read, carried}
 use Rattle.lists.proofs.Words.{two}

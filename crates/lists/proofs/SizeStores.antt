@@ -9,13 +9,14 @@ use lib.Dec.{eqb}
 use borrow.Author.Tests.{eqb-true, eqb-false, not-true}
 use Rattle.word.specs.Words.{wordAt, kindOf, contentOf, bits, ofKind}
 use Rattle.resource.specs.Format.{placeFiled, placeOf, sizeFiled}
+use Rattle.word.specs.Lists.{flat}
 use Rattle.resource.specs.declared.types.ResourceBinding.{ResourceBinding}
 use Rattle.resource.proofs.ReadLaws.{place-held}
 use Rattle.resource.proofs.EntryFormat.{place-back}
 use Rattle.word.proofs.Truth.{first, second}
 use Rattle.lists.specs.Sizes.{sizePlaces, sizeHas, sizeRecord, sizeFits, recorded}
 use Rattle.lists.specs.Places.{foundBelow, placeFrom, distinctPlaces, places}
-use Rattle.lists.specs.Records.{fits, put, past, each, flat, countOf, records}
+use Rattle.lists.specs.Records.{fits, put, past, each, countOf, records}
 use Rattle.lists.specs.SizeFormat.{readSize, readSizes, sizeGood, sizeWords, sizesFiled, decodeSizes, encodeSizes, sizesGood}
 use Rattle.lists.specs.declared.size_record.SizeRecord.{SizeRecord}
 use Rattle.lists.specs.declared.found.Found.{Found}

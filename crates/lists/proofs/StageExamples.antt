@@ -3,10 +3,11 @@ use Prim.Native.Nat.{ℕ}
 use mathlib.Core.Path.{_≡_, refl}
 use mathlib.Core.List.{List, [], _∷_}
 use Rattle.word.specs.Choice.{yes}
-use Rattle.numeric.specs.Format.{typeOf, typeWord}
+use Rattle.numeric.specs.TypeWords.{typeOf, typeWord}
 use Rattle.varying.specs.Format.{varOf, varWord, payloadOf, payloadWord}
 use Rattle.varying.specs.declared.Payload.the-variants as Pay
-use Rattle.lists.specs.Records.{countOf, past, records, flat}
+use Rattle.lists.specs.Records.{countOf, past, records}
+use Rattle.word.specs.Lists.{flat}
 use Rattle.lists.specs.StageListFormat.{decodeStage, encodeStage}
 
 abbrev handed : List ℕ

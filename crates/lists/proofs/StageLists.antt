@@ -12,7 +12,8 @@ use Rattle.varying.specs.Format.{locatedWords, locatedHeld, payloadFiled, paylo
 use Rattle.word.proofs.Truth.{first, second, both, below-all}
 use Rattle.varying.proofs.Joined.{payload-written, payload-held, payload-filed, payload-read}
 use Rattle.lists.specs.StageLists.{StageIo, rising}
-use Rattle.lists.specs.Records.{every, each, countOf}
+use Rattle.word.specs.Lists.{every}
+use Rattle.lists.specs.Records.{each, countOf}
 use Rattle.lists.specs.StageListFormat.{primitiveAt, primitiveCode, readLocated, locatedGood, readVaryings}
 use Rattle.lists.specs.StageListFormat.{stageHead, outFiled, stageFiled, decodeStage, encodeStage, outGood, stageGood, readLocated, locatedGood}
 use Rattle.lists.specs.declared.stage_types.PrimitiveIndex.{PrimitiveIndex}

@@ -7,7 +7,8 @@ use lib.ListN.{length, drop}
 use Rattle.resource.specs.declared.types.BindGroupLayoutEntry.{BindGroupLayoutEntry}
 use Rattle.word.specs.Words.{wordAt, kindOf, bits, ofKind}
 use Rattle.resource.specs.Format.{entryFiledAt, entryAt, entryWords, entryHeld}
-use Rattle.lists.specs.Records.{shortEnough, countOf, past, records, each, every, flat}
+use Rattle.lists.specs.Records.{shortEnough, countOf, past, records, each}
+use Rattle.word.specs.Lists.{every, flat}
 use Rattle.lists.specs.Places.{readPlace}
 use Rattle.lists.specs.Layouts.{Layout, distinctEntries}
 

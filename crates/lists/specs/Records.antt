@@ -30,16 +30,6 @@ unfoldable pub each : ℕ → (List ℕ → Bool) → ℕ → List ℕ → Bool
 each width test zero ws = true
 each width test (suc n) ws = let rest = each width test n (drop width ws) in pick (test ws) rest false
 
--- each of a list passes a test
-unfoldable pub every : {A : Type 0} → (A → Bool) → List A → Bool
-every test [] = true
-every test (a ∷ others) = let rest = every test others in pick (test a) rest false
-
--- the words of records, one after the other
-unfoldable pub flat : {A : Type 0} → (A → List ℕ) → List A → List ℕ
-flat words [] = []
-flat words (a ∷ others) = words a ++ flat words others
-
 -- words written over those from a position on
 unfoldable pub put : List ℕ → ℕ → List ℕ → List ℕ
 put l at ws = take at l ++ (ws ++ drop (at + length ws) l)

@@ -6,7 +6,8 @@ use lib.Dec.{eqb, leb, ltb}
 use lib.ListN.{length, drop}
 use Rattle.word.specs.Words.{wordAt, kindOf, contentOf, bits, ofKind}
 use Rattle.resource.specs.Format.{placeFiled, placeWord, placeHeld, sizeFiled}
-use Rattle.lists.specs.Records.{shortEnough, countOf, past, records, each, every, flat}
+use Rattle.lists.specs.Records.{shortEnough, countOf, past, records, each}
+use Rattle.word.specs.Lists.{every, flat}
 use Rattle.lists.specs.Places.{readPlace}
 use Rattle.lists.specs.Sizes.{Sizes, distinctSizes}
 use Rattle.lists.specs.declared.size_record.SizeRecord.{SizeRecord}

@@ -9,7 +9,8 @@ use Rattle.word.specs.Choice.{pick}
 use Rattle.varying.specs.declared.Located.{Located}
 use Rattle.word.specs.Words.{wordAt, kindOf, bits, ofKind}
 use Rattle.varying.specs.Format.{locationFiled, varFiled, varOf, locatedOf, locatedWords, locatedHeld, payloadFiled, payloadOf, payloadWord, payloadHeld}
-use Rattle.lists.specs.Records.{shortEnough, countOf, past, records, each, every, flat}
+use Rattle.lists.specs.Records.{shortEnough, countOf, past, records, each}
+use Rattle.word.specs.Lists.{every, flat}
 use Rattle.lists.specs.StageLists.{StageIo, rising}
 use Rattle.lists.specs.declared.found.Found.{Found}
 use Rattle.lists.specs.declared.found.Found.the-variants.{At, Nothing}

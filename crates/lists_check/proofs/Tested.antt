@@ -14,7 +14,7 @@ use Rattle.resource.specs.declared.types.ResourceBinding.{ResourceBinding}
 use Rattle.resource.proofs.EntryFormat.{entry-held}
 use Rattle.varying.specs.Format.{varFiled, varOf, locatedHeld, payloadOf, payloadHeld}
 use Rattle.varying.specs.declared.Payload.{Payload}
-use Rattle.word.proofs.Truth.{first, second, both}
+use Rattle.word.proofs.Truth.{first, second, both, told-true}
 use Rattle.varying.proofs.Joined.{var-held, payload-held}
 use Rattle.lists.specs.Layouts.{Layout, entryPlaces, entryHas, findEntry}
 use Rattle.lists.specs.Records.{countOf}
@@ -27,9 +27,6 @@ use Rattle.lists.proofs.Records.{read-length, room-length}
 use Rattle.lists.proofs.LayoutWays.{entries-counted}
 use Rattle.lists.proofs.StageWays.{first-there}
 use Rattle.lists_check.specs.Room.{hasRoom}
-
-pub passed : (b test : Bool) → b ≡ test → not b ≡ false → test ≡ true
-passed b test e h = sym e ∙ not-false b h
 
 -- the parts of a length of two lists of one length
 pub parts-alike : (n m : ℕ) (a b : List ℕ) → n ≤ m → length a ≡ m → length b ≡ m → length (take n a) ≡ length (take n b)
@@ -75,7 +72,7 @@ pub located-fits : (location w : ℕ) (b : Bool) → b ≡ varFiled w → not b 
     → locatedHeld (record { location = contentOf (0x60000000 + location); var = varOf w }) ≡ true
 located-fits location w b q h n =
     let e : contentOf (0x60000000 + location) ≡ location = omega arith in
-    rw (e, lt-ltb location (2 ^ 27) n) (var-held w (passed b (varFiled w) q h))
+    rw (e, lt-ltb location (2 ^ 27) n) (var-held w (told-true b (varFiled w) q h))
 
 own-head : (l : List ℕ) (head : ℕ) → head ≡ wordAt l 0 → set l 0 head ≡ l
 own-head [] head e = refl
@@ -104,28 +101,28 @@ module _ (l : List ℕ) (h : hasRoom l ≡ true) where
   roomy = omega (arith, long, room-length 2 (countOf l) (drop 2 l), length-drop 2 l)
 
 pub stage-out : (l : List ℕ) (b : Bool) → b ≡ stageFiled l → not b ≡ false → outFiled l ≡ true
-stage-out l b e h = second (leb (length l) 1024) (outFiled l) (passed b (stageFiled l) e h)
+stage-out l b e h = second (leb (length l) 1024) (outFiled l) (told-true b (stageFiled l) e h)
 
 pub out-there : (l : List ℕ) (b : Bool) → b ≡ outFiled l → not b ≡ false → 1 ≤ length l
-out-there l b e h = first-there l (passed b (outFiled l) e h)
+out-there l b e h = first-there l (told-true b (outFiled l) e h)
 
 -- what has room, with its own head
 module _ (l : List ℕ) (b : Bool) (q : b ≡ hasRoom l) (t : not b ≡ false) where
   pub head-there : 0 < length l
-  head-there = omega (arith, long l (passed b (hasRoom l) q t))
+  head-there = omega (arith, long l (told-true b (hasRoom l) q t))
 
   pub head-stays : (m : List ℕ) → length m ≡ length l → 0 < length m
   head-stays m e = omega (arith, head-there)
 
   module _ (head : ℕ) (e : head ≡ wordAt l 0) where
     pub list-out : outFiled (set l 0 head) ≡ true
-    list-out = rw (own-head l head e) (list-filed l (passed b (hasRoom l) q t))
+    list-out = rw (own-head l head e) (list-filed l (told-true b (hasRoom l) q t))
 
     pub variables-few : length (decodeStage (set l 0 head) .varyings) < 63
-    variables-few = rw (own-head l head e) (few l (passed b (hasRoom l) q t))
+    variables-few = rw (own-head l head e) (few l (told-true b (hasRoom l) q t))
 
     pub room-enough : 2 ≤ length (decodeStage (set l 0 head) .room)
-    room-enough = rw (own-head l head e) (roomy l (passed b (hasRoom l) q t))
+    room-enough = rw (own-head l head e) (roomy l (told-true b (hasRoom l) q t))
 
 -- the code's ways through the test of the room
 module _ (l : List ℕ) (b : Bool) (q : b ≡ outFiled l) where

@@ -4,7 +4,7 @@ use mathlib.Core.Path.{_≡_}
 use mathlib.Core.Bool.{Bool, true, false}
 use lib.Dec.{eqb, leb}
 use borrow.Author.Tests.{eq-eqb, ne-eqb, lt-ltb, le-ltb}
-use Rattle.numeric.specs.Rules.{kindCode, sizeCode, shapeFits, subtypeOf, isFit, fits}
+use Rattle.numeric.specs.Types.{kindCode, sizeCode, shapeFits, subtypeOf, isFit, fits}
 use Rattle.numeric.specs.declared.types.VectorSize.{VectorSize}
 use Rattle.numeric.specs.declared.types.NumericDimension.{NumericDimension}
 use Rattle.numeric.specs.declared.types.NumericDimension.the-variants as D

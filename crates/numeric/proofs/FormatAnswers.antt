@@ -4,8 +4,9 @@ use mathlib.Core.Path.{_≡_}
 use mathlib.Core.Bool.{Bool, true, false}
 use Rattle.word.specs.Answers.{answer, accepted, refused}
 use Rattle.word.specs.declared.answer.Answer.{Answer}
-use Rattle.numeric.specs.Rules.{fits}
-use Rattle.numeric.specs.Format.{typeWord, formatAnswer, checkType, checkTextureFormat}
+use Rattle.numeric.specs.Types.{fits}
+use Rattle.numeric.specs.TypeWords.{typeWord}
+use Rattle.numeric.specs.Formats.{formatAnswer, checkType, checkTextureFormat}
 use Rattle.numeric.specs.declared.types.NumericType.{NumericType}
 use Rattle.numeric.specs.declared.type_words.TypeRead.{TypeRead}
 use Rattle.numeric.specs.declared.formats.FormatType.{FormatType}

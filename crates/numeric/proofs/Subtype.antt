@@ -7,15 +7,15 @@ use mathlib.Core.Logic.{_↔_}
 use lib.Dec.{eqb, ltb}
 use borrow.Author.Tests.{eqb-true, eqb-false, ltb-true, ltb-false, eq-eqb, le-leb}
 use Rattle.word.specs.Choice.{pick}
-use Rattle.numeric.specs.Rules.{kindCode, sizeCode, shapeFits, subtypeOf, isFit, fits}
-use Rattle.numeric.specs.Format.{kindAt}
+use Rattle.numeric.specs.Types.{kindCode, sizeCode, shapeFits, subtypeOf, isFit, fits}
+use Rattle.numeric.specs.TypeWords.{kindAt}
 use Rattle.numeric.specs.declared.types.ScalarKind.{ScalarKind}
 use Rattle.numeric.specs.declared.types.NumericDimension.{NumericDimension}
 use Rattle.numeric.specs.declared.types.NumericDimension.the-variants as D
 use Rattle.numeric.specs.declared.types.NumericType.{NumericType}
 use Rattle.numeric.specs.declared.types.Fit.{Fit}
 use Rattle.numeric.specs.declared.types.Fit.the-variants.{Fits, TooWide, OtherKind, OtherShape}
-use Rattle.numeric.proofs.Joined.{kind-back}
+use Rattle.numeric.proofs.Joined.{kind-again}
 use Rattle.numeric.proofs.Fits.{too-wide, other-kind, shape-fits, other-shape}
 
 -- what an answer of the rule says of two types
@@ -26,7 +26,7 @@ Says OtherKind a b = (a .scalar .width ≤ b .scalar .width) × (a .scalar .kind
 Says OtherShape a b = (a .scalar .width ≤ b .scalar .width) × (a .scalar .kind ≡ b .scalar .kind) × (shapeFits (a .dim) (b .dim) ≡ false)
 
 same-kind : (k l : ScalarKind) → kindCode k ≡ kindCode l → k ≡ l
-same-kind k l e = sym (kind-back k) ∙ (ap kindAt e ∙ kind-back l)
+same-kind k l e = sym (kind-again k) ∙ (ap kindAt e ∙ kind-again l)
 
 module _ (a b : NumericType) where
   said : (f : Fit) → Says f a b → subtypeOf a b ≡ f

@@ -4,8 +4,8 @@ use mathlib.Core.Path.{_≡_}
 use mathlib.Core.Bool.{Bool, true, false}
 use borrow.Author.Tests.{eq-eqb, ne-eqb}
 use Rattle.word.specs.Words.{kindOf, bits}
-use Rattle.numeric.specs.Rules.{numeric, sizeCode, kindCode, subtypeOf}
-use Rattle.numeric.specs.Format.{kindAt, dimensionAt, typeFiled, typeOf, readType, shapeCode, typeWord, compareTypes}
+use Rattle.numeric.specs.Types.{numeric, sizeCode, kindCode, subtypeOf}
+use Rattle.numeric.specs.TypeWords.{kindAt, dimensionAt, typeFiled, typeOf, readType, shapeCode, typeWord, compareTypes}
 use Rattle.numeric.specs.declared.types.ScalarKind.{ScalarKind}
 use Rattle.numeric.specs.declared.types.VectorSize.{VectorSize}
 use Rattle.numeric.specs.declared.types.NumericDimension.{NumericDimension}

@@ -1,2 +1,3 @@
-pub mod Rules
-pub mod Format
+pub mod Types
+pub mod TypeWords
+pub mod Formats

@@ -1,8 +1,8 @@
 // Vertex and texture formats, numbered as the functions below first name them.
 ghost use mathlib.Core.Path.{_≡_};
-ghost use Rattle.numeric.specs.Rules.{known, vertexFormat, floatVertexFormat, textureFormat, otherTextureFormat};
+ghost use Rattle.numeric.specs.Formats.{known, vertexFormat, floatVertexFormat, textureFormat, otherTextureFormat, formatAnswer, checkType, checkTextureFormat};
 ghost use Rattle.numeric.specs.declared.types.NumericDimension.the-variants as D;
-ghost use Rattle.numeric.specs.Format.{formatAnswer, readType, checkType, checkTextureFormat};
+ghost use Rattle.numeric.specs.TypeWords.{readType};
 use crate::type_words::TypeRead;
 use crate::types::NumericDimension;
 use crate::types::NumericType;
@@ -37,7 +37,7 @@ fn vector(size: VectorSize, kind: ScalarKind, width: u8) -> FormatType
 }
 
 // The codes of a vertex format are 0 to 44.
-pub fn from_vertex_format(format: u32) -> FormatType
+fn from_vertex_format(format: u32) -> FormatType
     ensures { λ r. ⌜ r ≡ vertexFormat format ⌝ }
 {
     if format < 3 {
@@ -99,7 +99,7 @@ fn float_vertex_format(format: u32) -> FormatType
 }
 
 // The codes of a texture format are 0 to 76; all of Astc is one code.
-pub fn from_texture_format(format: u32) -> FormatType
+fn from_texture_format(format: u32) -> FormatType
     ensures { λ r. ⌜ r ≡ textureFormat format ⌝ }
 {
     if format < 4 {

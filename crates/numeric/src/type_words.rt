@@ -1,7 +1,7 @@
 // A numeric type in the bits of a word of kind 13.
 ghost use mathlib.Core.Path.{_≡_};
 ghost use Prim.Native.Nat.{_<_, _≤_};
-ghost use Rattle.numeric.specs.Format.{kindAt, sizeAt, dimensionAt, widthKnown, typeFiled, typeOf, readType, shapeCode, typeWord, compareTypes, subtypeNumber};
+ghost use Rattle.numeric.specs.TypeWords.{kindAt, sizeAt, dimensionAt, widthKnown, typeFiled, typeOf, readType, shapeCode, typeWord, compareTypes, subtypeNumber};
 use crate::types::Fit;
 use crate::types::NumericDimension;
 use crate::types::NumericType;

@@ -2,7 +2,7 @@
 ghost use mathlib.Core.Path.{_≡_};
 ghost use mathlib.Core.Bool.{Bool};
 ghost use Prim.Native.Nat.{_≤_};
-ghost use Rattle.numeric.specs.Rules.{kindCode, sizeCode, shapeFits, subtypeOf, fits};
+ghost use Rattle.numeric.specs.Types.{kindCode, sizeCode, shapeFits, subtypeOf, fits};
 
 pub enum ScalarKind {
     Sint,
@@ -56,7 +56,7 @@ pub(crate) fn kind_code(kind: ScalarKind) -> u32
 }
 
 // How many components a size means.
-pub fn size_code(size: VectorSize) -> u32
+pub(crate) fn size_code(size: VectorSize) -> u32
     ensures { λ r. ⌜ r ≡ sizeCode size ⌝ }
     ensures { λ r. ⌜ (2 ≤ r) × (r ≤ 4) ⌝ }
 {
@@ -94,7 +94,7 @@ fn shape_fits(dim: NumericDimension, other: NumericDimension) -> bool
 
 impl NumericType {
     // Why the type does not fit where another is provided, tried in this order: width, scalar kind, shape.
-    pub fn is_subtype_of(self, other: NumericType) -> Fit
+    pub(crate) fn is_subtype_of(self, other: NumericType) -> Fit
         ensures { λ r. ⌜ r ≡ subtypeOf self other ⌝ }
     {
         let scalar = self.scalar;

@@ -121,6 +121,17 @@ fn more(count: u32, same: bool) -> u32 {
     std::num::wrapping_add_u32(count, one_if(same))
 }
 
+// The number of the check of packs, by the check alone and by the one that fills the tables of positions; 9 where they differ.
+fn answer_on(pack: &[u32]) -> u32 {
+    let mut offsets: [u16; 128] = [0; 128];
+    let mut heads: [u16; 16] = [0; 16];
+    let answer = interface::check_pack::check_pack(pack);
+    if interface::check_pack::index_pack(pack, &mut offsets, &mut heads) != answer {
+        return 9;
+    }
+    answer
+}
+
 // The answer on the pack with some bits of a word flipped.
 fn flipped(words: &mut [u32], i: usize, bits: u32) -> u32
     requires { ⌜ length (now words) ≡ 96 ⌝ }
@@ -128,7 +139,7 @@ fn flipped(words: &mut [u32], i: usize, bits: u32) -> u32
 {
     let old = words[i];
     words[i] = old ^ bits;
-    let answer = interface::check_pack::check_pack(&words[..83]);
+    let answer = answer_on(&words[..83]);
     words[i] = old;
     answer
 }
@@ -143,7 +154,7 @@ fn flipped_and_closed(words: &mut [u32], i: usize, bits: u32) -> u32
     words[i] = old ^ bits;
     let renewed = word::closing_sum(&words[..83]);
     words[82] = renewed;
-    let answer = interface::check_pack::check_pack(&words[..83]);
+    let answer = answer_on(&words[..83]);
     words[i] = old;
     words[82] = sum;
     answer
@@ -204,7 +215,7 @@ fn shortened(words: &[u32], n: usize) -> u32
     requires { ⌜ length (now words) ≡ 96 ⌝ }
     requires { ⌜ n ≤ 83 ⌝ }
 {
-    interface::check_pack::check_pack(&words[..n])
+    answer_on(&words[..n])
 }
 
 // As many words before a closing one, with the total and the sum that belong to them.
@@ -217,7 +228,7 @@ fn refitted(words: &mut [u32], n: usize) -> u32
     words[0] = 0x0801_0000 + end as u32;
     let sum = word::closing_sum(&words[..end]);
     words[n] = sum;
-    let answer = interface::check_pack::check_pack(&words[..end]);
+    let answer = answer_on(&words[..end]);
     words[n] = old;
     answer
 }

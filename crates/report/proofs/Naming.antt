@@ -10,7 +10,7 @@ use Rattle.word.specs.Words.{wordAt, bits}
 use Rattle.interface.specs.Format.{bytesOf, nameWords}
 use Rattle.interface.specs.Reads.{nameAt}
 use Rattle.interface.specs.Parts.{workgroupAt}
-use Rattle.interface.proofs.ReadsNames.{bytes-length}
+use Rattle.interface.proofs.EncodeNames.{bytes-long}
 use Rattle.report.specs.Written.{Wrote}
 use Rattle.report.proofs.Writing.{wrote-none, wrote-more, wrote-length}
 
@@ -43,7 +43,7 @@ pub name-written : {t u : List ℕ} {end : ℕ} (ws : List ℕ) (head w n r : �
     → Wrote t u 0 end (bytesOf (take n (drop (head + 1) ws))) → take r u ≡ nameAt ws head
 name-written ws head w n r h e k m f =
     let l : length (take n (drop (head + 1) ws)) ≡ n = length-take-le n (drop (head + 1) ws) (omega (arith, rw (← e, ← k) at h, length-drop (head + 1) ws)) in
-    let b : r ≤ length (bytesOf (take n (drop (head + 1) ws))) = omega (arith, bytes-length (take n (drop (head + 1) ws))) in
+    let b : r ≤ length (bytesOf (take n (drop (head + 1) ws))) = omega (arith, bytes-long (take n (drop (head + 1) ws))) in
     rw (f .text, take-append-le r (bytesOf (take n (drop (head + 1) ws))) _ b, m, k, e)
 
 pub name-counted : {t u bytes : List ℕ} {end : ℕ} (w r : ℕ) → Wrote t u 0 end bytes → 128 ≤ length t → r ≡ bits 22 16 w → r ≡ length (take r u)

@@ -9,10 +9,11 @@ use lib.Seq.{take-all, take-length, length-take-le}
 use Rattle.word.specs.Words.{wordAt}
 use Rattle.word.specs.Answers.{refused}
 use Rattle.word.specs.declared.answer.Answer.{Answer}
+use Rattle.word.specs.Lists.{flat}
 use Rattle.varying.specs.Format.{payloadWord}
 use Rattle.lists.specs.LayoutFormat.{encodeLayout}
 use Rattle.lists.specs.StageListFormat.{encodeStage}
-use Rattle.lists.specs.Records.{flat, countOf}
+use Rattle.lists.specs.Records.{countOf}
 use Rattle.interface.specs.Format.{Decoded, Torn, Misfiled, Pack, decode, decodedNumber}
 use Rattle.interface.specs.Reads.{interfaceOf}
 use Rattle.report.specs.Text.{wordsOf, hexLines, line}

@@ -16,12 +16,12 @@ use Rattle.interface.specs.declared.types.ShaderStage.{ShaderStage}
 use Rattle.varying.specs.Format.{payloadWord}
 use Rattle.lists.specs.SizeFormat.{encodeSizes}
 use Rattle.lists.specs.StageListFormat.{encodeStage}
-use Rattle.lists.specs.Records.{flat}
+use Rattle.word.specs.Lists.{flat}
 use Rattle.stage.specs.Meaning.{Outcome, outcome, codes, lent, call}
 use Rattle.stage.specs.Stage.{checkStage}
 use Rattle.word.specs.declared.answer.Answer.{Answer}
 use Rattle.interface.proofs.ReadsRecords.{records-left, records-none}
-use Rattle.interface.proofs.ReadsChoice.{left-of}
+use Rattle.interface.proofs.ReadsParts.{left-of}
 use Rattle.interface.specs.Meaning.{EntryPoint}
 use Rattle.report.specs.Text.{line}
 use Rattle.report.specs.Written.{Wrote}

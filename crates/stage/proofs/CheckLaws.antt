@@ -14,17 +14,17 @@ use Rattle.word.proofs.Tests.{yes-true, yes-false}
 use Rattle.word.proofs.Truth.{first, second}
 use Rattle.lists.specs.Layouts.{Layout}
 use Rattle.lists.specs.Sizes.{Sizes}
-use Rattle.lists.specs.Records.{every}
+use Rattle.word.specs.Lists.{every}
 use Rattle.lists.specs.LayoutFormat.{layoutFiled}
 use Rattle.lists.specs.SizeFormat.{sizesFiled}
 use Rattle.lists.specs.StageListFormat.{outFiled}
 use Rattle.interface.specs.Meaning.{EntryPoint, Interface}
 use Rattle.interface.specs.Format.{decode, decodedNumber, stageAt, contents, pairsOf}
 use Rattle.interface.specs.Reads.{interfaceOf, entryNth, standing}
-use Rattle.interface.specs.Parts.{Placed, Offsets, chosenIn}
-use Rattle.interface.specs.Rules.{findEntryPoint}
-use Rattle.interface.specs.declared.types.Chosen.{Chosen}
-use Rattle.interface.specs.declared.types.Chosen.the-variants as Ch
+use Rattle.interface.specs.Parts.{Placed, Offsets}
+use Rattle.interface.specs.Rules.{chosenIn, findEntryPoint}
+use Rattle.interface.specs.declared.choose.Chosen.{Chosen}
+use Rattle.interface.specs.declared.choose.Chosen.the-variants as Ch
 use Rattle.interface.specs.declared.types.EntryParts.{EntryParts}
 use Rattle.interface.specs.declared.types.ShaderStage.{ShaderStage}
 use Rattle.stage_steps.specs.Interfaces.{summaryOf}

@@ -11,17 +11,18 @@ use Rattle.word.specs.Choice.{pick}
 use Rattle.lists.specs.LayoutFormat.{decodeLayout, encodeLayout}
 use Rattle.lists.specs.SizeFormat.{decodeSizes, encodeSizes}
 use Rattle.lists.specs.StageListFormat.{decodeStage}
+use Rattle.word.specs.Lists.{among}
 use Rattle.interface.specs.Meaning.{EntryPoint, Interface}
 use Rattle.interface.specs.Format.{Decoded, Torn, Misfiled, Pack, decode}
 use Rattle.interface.specs.Reads.{entryNth}
 use Rattle.interface.specs.Rules.{findEntryPoint}
-use Rattle.interface.specs.declared.types.Chosen.{Chosen}
-use Rattle.interface.specs.declared.types.Chosen.the-variants as Ch
+use Rattle.interface.specs.declared.choose.Chosen.{Chosen}
+use Rattle.interface.specs.declared.choose.Chosen.the-variants as Ch
 use Rattle.stage_steps.specs.declared.types.Request.{Request}
 use Rattle.stage.specs.Meaning.{Lent, Call, Outcome, State, state}
 use Rattle.stage.specs.Resources.{resourceSteps}
 use Rattle.stage.specs.Stage.{judgement, stageBody, callGood, requestOf, derivedOf, unchanged, outWords, finish, runBody, onChosen, onNamed, onDecoded, checkStage}
-use Rattle.stage.specs.Table.{among, early, stepNumbers}
+use Rattle.stage.specs.Table.{early, stepNumbers}
 use Rattle.stage.proofs.Numbers.{body-known}
 
 -- ---- numbers of a list

@@ -2,39 +2,28 @@
 use Prim.Native.Nat.{ℕ}
 use native.Mathlib.Omega.{arith}
 use mathlib.Core.Path.{_≡_, refl}
-use mathlib.Core.Bool.{Bool, true}
-use mathlib.Core.List.{List, [], _∷_}
+use mathlib.Core.Bool.{true}
+use mathlib.Core.List.{List}
 use borrow.Author.Tests.{lt-ltb}
-use lib.Dec.{ltb}
 use lib.ListN.{length}
+use Rattle.word.specs.Lists.{every}
 use Rattle.resource.specs.Format.{resourceHeld}
 use Rattle.resource.specs.declared.types.Resource.{Resource}
 use Rattle.word.proofs.Truth.{first, second}
-use Rattle.lists.specs.Records.{every}
+use Rattle.word.proofs.Lists.{every-as}
 use Rattle.interface.specs.Meaning.{EntryPoint, Interface}
 use Rattle.interface.specs.Format.{Decoded, Torn, Misfiled, Pack, decode, decodedNumber, isTexture, isSampler, ofType, pairGood}
-use Rattle.interface.specs.Held.{every as everyHeld, varyingHeld}
+use Rattle.interface.specs.Held.{varyingHeld}
 use Rattle.interface.specs.Reads.{entryNth, interfaceOf}
 use Rattle.interface.specs.declared.types.SamplingPair.{SamplingPair}
 use Rattle.interface.specs.declared.types.Varying.{Varying}
 use Rattle.interface.specs.declared.types.Varying.the-variants as Var
-use Rattle.interface.proofs.EncodeRecords.{every-first, every-others}
 use Rattle.interface.proofs.EncodeEntry.{type-below}
 use Rattle.interface.proofs.Packs.{GivenParts, resources-given, entry-given}
 use Rattle.stage_steps.specs.ListOut.{outputHeld}
 use Rattle.stage.specs.Given.{eachHeld, eachBelow, pairBelow, pairsBelow}
 use Rattle.stage.specs.Resources.{resourceNth}
 use Rattle.stage.proofs.ResourceParts.{listed-held}
-
--- ---- a test of each, in the form of the steps
-
-every-as : {A : Type 0} (known test : A → Bool) → ((a : A) → known a ≡ true → test a ≡ true) → (all : List A) → everyHeld known all ≡ true → every test all ≡ true
-unfolding every
-every-as known test f [] h = refl
-every-as known test f (a ∷ all) h = rw (f a (every-first known a all h)) (every-as known test f all (every-others known a all h))
-
-every-same : {A : Type 0} (test : A → Bool) (all : List A) → everyHeld test all ≡ true → every test all ≡ true
-every-same test all h = every-as test test (λ a t. t) all h
 
 pair-in : (resources : List Resource) (listed : List ℕ) (p : SamplingPair) → pairGood resources listed p ≡ true → pairBelow (length resources) p ≡ true
 pair-in resources listed p h =
@@ -53,14 +42,13 @@ held-output (Var.BuiltIn b) h = refl
 
 module _ (ws : List ℕ) (i : Interface) (d : decode ws ≡ Pack i) where
   all-held : eachHeld (i .resources) ≡ true
-  all-held = every-same resourceHeld (i .resources) (resources-given ws i d)
+  all-held = resources-given ws i d
 
   pub resource-held : (k : ℕ) → resourceHeld (resourceNth (i .resources) k) ≡ true
   resource-held k = listed-held (i .resources) k all-held
 
   pub entry-pairs : (k : ℕ) → every (pairGood (i .resources) (entryNth (i .entries) k .resources)) (entryNth (i .entries) k .pairs) ≡ true
-  entry-pairs k =
-      every-same (pairGood (i .resources) (entryNth (i .entries) k .resources)) (entryNth (i .entries) k .pairs) (entry-given ws i d k .pairs)
+  entry-pairs k = entry-given ws i d k .pairs
 
 -- ---- an accepted pack
 
@@ -84,7 +72,7 @@ module _ (ws : List ℕ) (z : decodedNumber (decode ws) ≡ 0) where
     parts = entry-given ws i (pack-of (decode ws) z) k
 
     pub given-below : eachBelow (length (i .resources)) (e .resources) ≡ true
-    given-below = every-same (λ n. ltb n (length (i .resources))) (e .resources) (parts .below)
+    given-below = parts .below
 
     pub given-pairs : pairsBelow (length (i .resources)) (e .pairs) ≡ true
     given-pairs =

@@ -7,7 +7,8 @@ use lib.Dec.{eqb, ltb}
 use Rattle.word.specs.Choice.{pick, yes}
 use Rattle.word.specs.Answers.{answer, accepted, refused}
 use Rattle.word.specs.declared.answer.Answer.{Answer}
-use Rattle.numeric.specs.Rules.{kindCode, fits as fitsType}
+use Rattle.word.specs.Lists.{among}
+use Rattle.numeric.specs.Types.{kindCode, fits as fitsType}
 use Rattle.resource.specs.Rules.{sameBool, checkBindingUse, useNumber, deriveBindingType}
 use Rattle.resource.specs.Format.{sameBinding, placeWord}
 use Rattle.resource.specs.Answers.{bindingAnswer}
@@ -58,7 +59,8 @@ use Rattle.stage.specs.Meaning.{State, state, andThen}
 use Rattle.stage.specs.Resources.{resourceNth, namedTexture, SizesAfter, sizesAfter, recordSize, foundUse, providedUse, provideStep, ProvideResult, provideResult, provideSteps, providedOver}
 use Rattle.stage.specs.Resources.{LayoutAfter, occupied, vacant, placeStep, derivedStep, deriveStep, DeriveResult, deriveResult, deriveSteps, derivedBeside, resourceSteps, sampleNumber, filtering, pairNumber, pairUse, pairUses, typeAt}
 use Rattle.stage.specs.Stage.{pairStep, inputWalk, behindInputs, judgement, stageBody}
-use Rattle.stage.specs.Table.{among, stepNumbers}
+use Rattle.stage.specs.Table.{stepNumbers}
+use Rattle.stage.specs.Resources.{recordSize, foundUse, providedUse, provideStep, occupied, vacant, placeStep, derivedStep, deriveStep, resourceSteps, resourceNth, namedTexture, sampleNumber, filtering, pairNumber, pairUse, pairUses, typeAt}
 
 -- a number, and an answer, of a step
 pub record Known (n : ℕ) : Type 0 where

@@ -11,15 +11,15 @@ use Rattle.word.specs.Choice.{yes}
 use Rattle.word.specs.Words.{wordAt, contentOf, bits}
 use Rattle.word.specs.Answers.{answer, accepted}
 use Rattle.word.specs.declared.answer.Answer.{Answer}
+use Rattle.word.specs.Lists.{every}
 use Rattle.resource.specs.Format.{placeOf, placeWord, sampleAt, bindingTypeOf, entryOf}
 use Rattle.resource.specs.declared.types.Resource.{Resource}
 use Rattle.resource.specs.declared.types.BindingType.{BindingType}
 use Rattle.resource.specs.declared.types.BindingType.the-variants as Bind
 use Rattle.resource.specs.declared.types.BindGroupLayoutEntry.{BindGroupLayoutEntry}
 use Rattle.word.proofs.Truth.{first, second, by-test}
-use Rattle.lists.proofs.Records.{first-passes, rest-passes}
+use Rattle.word.proofs.Lists.{first-passes, rest-passes}
 use Rattle.lists.proofs.LayoutStores.{entry-there}
-use Rattle.lists.specs.Records.{every}
 use Rattle.lists.specs.Layouts.{Layout, findEntry, entryNth}
 use Rattle.lists.specs.Places.{foundBelow}
 use Rattle.lists.specs.LayoutFormat.{decodeLayout}

@@ -7,11 +7,11 @@ use mathlib.Core.Bool.{true}
 use mathlib.Core.List.{List, [], _∷_}
 use lib.ListN.{length, take, drop, length-take}
 use lib.Seq.{drop-cons, getD-take}
+use Rattle.word.proofs.Lists.{first-passes, rest-passes}
 use Rattle.word.specs.Words.{wordAt, contentOf}
+use Rattle.word.specs.Lists.{every}
 use Rattle.resource.specs.Format.{resourceAt, resourceHeld, typeHeld}
 use Rattle.resource.specs.declared.types.Resource.{Resource}
-use Rattle.lists.specs.Records.{every}
-use Rattle.lists.proofs.Records.{first-passes, rest-passes}
 use Rattle.interface.specs.Format.{contents, pairOf, pairsOf}
 use Rattle.interface.specs.Reads.{resourcesAt}
 use Rattle.interface.specs.Parts.{resourceCount}

@@ -10,8 +10,8 @@ use borrow.Author.Tests.{ltb-true}
 use Rattle.word.specs.Words.{wordAt, contentOf}
 use Rattle.word.proofs.Truth.{second}
 use Rattle.resource.specs.Format.{placeOf, placeHeld, resourceTypeOf, typeHeld, resource}
-use Rattle.lists.specs.Records.{every}
-use Rattle.lists.proofs.Records.{first-passes, rest-passes}
+use Rattle.word.specs.Lists.{every}
+use Rattle.word.proofs.Lists.{first-passes, rest-passes}
 use Rattle.interface.specs.Format.{contents}
 use Rattle.stage.specs.Given.{resourceTable, Inside, eachHeld, eachBelow}
 use Rattle.stage.proofs.ResourceParts.{contents-cons, contents-none, nth-held}

@@ -6,10 +6,10 @@ use mathlib.Core.List.{List}
 use lib.Dec.{ltb}
 use lib.ListN.{length, take}
 use Rattle.word.specs.Words.{wordAt, ofKind}
+use Rattle.word.specs.Lists.{every}
 use Rattle.resource.specs.Format.{resourceHeld, bindingTypeOf, bindingCode, leastSize, formatHeld}
 use Rattle.resource.specs.declared.types.Resource.{Resource}
 use Rattle.resource.specs.declared.types.BindingType.{BindingType}
-use Rattle.lists.specs.Records.{every}
 use Rattle.interface.specs.Meaning.{EntryPoint, Interface}
 use Rattle.interface.specs.Reads.{resourcesAt}
 use Rattle.interface.specs.Parts.{resourceCount}

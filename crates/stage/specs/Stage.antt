@@ -20,9 +20,9 @@ use Rattle.interface.specs.Reads.{entryNth}
 use Rattle.interface.specs.Rules.{findEntryPoint}
 use Rattle.interface.specs.declared.types.ShaderStage.{ShaderStage}
 use Rattle.interface.specs.declared.types.Limits.{Limits}
-use Rattle.interface.specs.declared.types.Chosen.{Chosen}
-use Rattle.interface.specs.declared.types.Chosen.the-variants as Ch
-use Rattle.stage_steps.specs.Meaning.{both}
+use Rattle.interface.specs.declared.choose.Chosen.{Chosen}
+use Rattle.interface.specs.declared.choose.Chosen.the-variants as Ch
+use Rattle.stage_steps.specs.Meaning.{both, Request}
 use Rattle.stage_steps.specs.Interfaces.{workgroupStep, inputSteps, startWalk, placesStep, lastStep, stageOut, localCount}
 use Rattle.stage_steps.specs.declared.types.Request.{Request}
 use Rattle.stage_steps.specs.declared.types.InputWalk.{InputWalk}

@@ -1,14 +1,6 @@
 -- The numbers that document 01 hands out ('Numbers').
 use Prim.Native.Nat.{ℕ}
-use mathlib.Core.Bool.{Bool, true, false}
 use mathlib.Core.List.{List, [], _∷_}
-use lib.Dec.{eqb}
-use Rattle.word.specs.Choice.{pick}
-
--- one of a list of numbers
-unfoldable pub among : List ℕ → ℕ → Bool
-among [] n = false
-among (m ∷ ms) n = let rest = among ms n in pick (eqb n m) true rest
 
 -- refusals before the first step: they change no lent list
 abbrev pub early : List ℕ

@@ -12,15 +12,15 @@ use Rattle.word.specs.Words.{wordAt, contentOf, bits, bit}
 use Rattle.word.specs.Answers.{answer, accepted}
 use Rattle.word.proofs.Truth.{by-test}
 use Rattle.word.specs.declared.answer.Answer.{Answer}
-use Rattle.numeric.specs.Rules.{fits}
-use Rattle.numeric.specs.Format.{typeOf}
+use Rattle.numeric.specs.Types.{fits}
+use Rattle.numeric.specs.TypeWords.{typeOf}
 use Rattle.numeric.proofs.Subtype.{fits-itself}
 use Rattle.resource.specs.Rules.{sameBool}
 use Rattle.resource.proofs.HandBack.{same-bool}
 use Rattle.varying.specs.Format.{locationFiled, varOf}
 use Rattle.varying.specs.declared.InterfaceVar.{InterfaceVar}
 use Rattle.varying.specs.declared.Located.{Located}
-use Rattle.varying.proofs.Joined.{kind-back}
+use Rattle.numeric.proofs.Joined.{kind-back}
 use Rattle.lists.specs.StageLists.{varyingAt}
 use Rattle.lists.specs.StageListFormat.{variableFound}
 use Rattle.lists.specs.declared.found.Found.{Found}

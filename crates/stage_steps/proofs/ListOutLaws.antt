@@ -9,17 +9,17 @@ use lib.Seq.{drop-drop}
 use borrow.Author.Tests.{eq-eqb, ne-eqb}
 use Rattle.word.specs.Choice.{pick}
 use Rattle.word.proofs.Tests.{yes-true, yes-false}
+use Rattle.word.proofs.Lists.{first-passes, rest-passes}
 use Rattle.word.specs.Words.{wordAt, kindOf, contentOf, bits}
+use Rattle.word.specs.Lists.{every}
 use Rattle.varying.specs.Format.{varOf, locatedHeld, payloadOf, payloadHeld}
 use Rattle.varying.proofs.Joined.{payload-held}
 use Rattle.varying.specs.declared.Located.{Located}
 use Rattle.varying.specs.declared.Payload.{Payload}
 use Rattle.lists.specs.StageLists.{StageIo, rising, varyingAt, isProvided, insert, inserted}
-use Rattle.lists.specs.Records.{every}
 use Rattle.lists.specs.StageListFormat.{outFiled, decodeStage, encodeStage}
 use Rattle.lists.specs.declared.stage_types.PrimitiveIndex.{PrimitiveIndex}
 use Rattle.lists.specs.declared.stage_types.PrimitiveIndex.the-variants as Index
-use Rattle.lists.proofs.Records.{first-passes, rest-passes}
 use Rattle.lists.proofs.InsertLaws.{rising-insert, insert-length, longer}
 use Rattle.lists.proofs.StageLists.{good, good-decode, encode-decode}
 use Rattle.interface.specs.Reads.{varying, varyingWidth, varyings, standing}

@@ -8,7 +8,7 @@ use lib.ListN.{length, drop, getD}
 use Rattle.word.specs.Choice.{pick, yes}
 use Rattle.word.specs.Answers.{answer, accepted, refused}
 use Rattle.word.specs.declared.answer.Answer.{Answer}
-use Rattle.numeric.specs.Rules.{kindCode, fits}
+use Rattle.numeric.specs.Types.{kindCode, fits}
 use Rattle.resource.specs.Rules.{sameBool}
 use Rattle.varying.specs.Rules.{samePayload, payloadPresent}
 use Rattle.varying.specs.declared.InterfaceVar.{InterfaceVar}

@@ -1,5 +1,5 @@
 -- Readers and writers of a variable, a location and a payload belong together.
-use Prim.Native.Nat.{ℕ, _+_, _*_, _/_, _^_, _<_, _≤_}
+use Prim.Native.Nat.{ℕ, _+_, _*_, _/_, _^_, _<_}
 use native.Mathlib.Omega.{arith}
 use native.Mathlib.Nat.{div-div-eq-div-mul}
 use mathlib.Core.Path.{_≡_, refl, _∙_}
@@ -8,70 +8,14 @@ use lib.Dec.{eqb}
 use borrow.Author.Tests.{eqb-true, eqb-false, ltb-true, lt-ltb}
 use Rattle.word.specs.Choice.{pick, yes}
 use Rattle.word.specs.Words.{kindOf, contentOf, bits, bit, ofKind}
-use Rattle.numeric.specs.Rules.{sizeCode, kindCode}
-use Rattle.numeric.specs.Format.{kindAt, dimensionAt, widthKnown, typeFiled, typeOf, shapeCode, typeWord}
-use Rattle.numeric.specs.declared.types.ScalarKind.{ScalarKind}
-use Rattle.numeric.specs.declared.types.ScalarKind.the-variants as K
-use Rattle.numeric.specs.declared.types.VectorSize.{VectorSize}
-use Rattle.numeric.specs.declared.types.VectorSize.the-variants.{Bi, Tri, Quad}
-use Rattle.numeric.specs.declared.types.NumericDimension.{NumericDimension}
-use Rattle.numeric.specs.declared.types.NumericDimension.the-variants as D
+use Rattle.numeric.specs.Types.{kindCode}
+use Rattle.numeric.specs.TypeWords.{widthKnown, typeFiled, typeOf, shapeCode, typeWord}
 use Rattle.varying.specs.Format.{locationFiled, varFiled, varOf, varWord, varHeld, payloadFiled, payloadOf, payloadWord, payloadHeld}
 use Rattle.varying.specs.declared.InterfaceVar.{InterfaceVar}
 use Rattle.varying.specs.declared.Payload.{Payload}
 use Rattle.varying.specs.declared.Payload.the-variants as Pay
-use Rattle.word.proofs.Truth.{first, second, either, below-all}
-
--- ---- codes of shapes and scalar kinds, both ways
-
-shape-back : (code : ℕ) → code < 13 → shapeCode (dimensionAt code) ≡ code
-shape-back code h = eqb-true (shapeCode (dimensionAt code)) code (below-all 13 (λ c. eqb (shapeCode (dimensionAt c)) c) refl code h)
-
-pub kind-back : (code : ℕ) → code < 4 → kindCode (kindAt code) ≡ code
-kind-back code h = eqb-true (kindCode (kindAt code)) code (below-all 4 (λ c. eqb (kindCode (kindAt c)) c) refl code h)
-
-shape-again : (d : NumericDimension) → dimensionAt (shapeCode d) ≡ d
-shape-again D.Scalar = refl
-shape-again (D.Vector Bi) = refl
-shape-again (D.Vector Tri) = refl
-shape-again (D.Vector Quad) = refl
-shape-again (D.Matrix Bi Bi) = refl
-shape-again (D.Matrix Bi Tri) = refl
-shape-again (D.Matrix Bi Quad) = refl
-shape-again (D.Matrix Tri Bi) = refl
-shape-again (D.Matrix Tri Tri) = refl
-shape-again (D.Matrix Tri Quad) = refl
-shape-again (D.Matrix Quad Bi) = refl
-shape-again (D.Matrix Quad Tri) = refl
-shape-again (D.Matrix Quad Quad) = refl
-
-kind-again : (k : ScalarKind) → kindAt (kindCode k) ≡ k
-kind-again K.Sint = refl
-kind-again K.Uint = refl
-kind-again K.Float = refl
-kind-again K.Bool = refl
-
-size-range : (n : VectorSize) → (2 ≤ sizeCode n) × (sizeCode n ≤ 4)
-size-range Bi = omega arith
-size-range Tri = omega arith
-size-range Quad = omega arith
-
-shape-below : (d : NumericDimension) → shapeCode d < 13
-shape-below D.Scalar = omega arith
-shape-below (D.Vector n) = omega (arith, size-range n)
-shape-below (D.Matrix n m) = omega (arith, size-range n, size-range m)
-
-kind-below : (k : ScalarKind) → kindCode k < 4
-kind-below K.Sint = omega arith
-kind-below K.Uint = omega arith
-kind-below K.Float = omega arith
-kind-below K.Bool = omega arith
-
-width-below : (n : ℕ) → widthKnown n ≡ true → n < 16
-width-below n =
-    either (eqb n 1) (eqb n 2 || (eqb n 4 || eqb n 8)) (n < 16) (λ e. omega (arith, eqb-true n 1 e))
-    (either (eqb n 2) (eqb n 4 || eqb n 8) (n < 16) (λ e. omega (arith, eqb-true n 2 e))
-    (either (eqb n 4) (eqb n 8) (n < 16) (λ e. omega (arith, eqb-true n 4 e)) (λ e. omega (arith, eqb-true n 8 e))))
+use Rattle.word.proofs.Truth.{first, second, codes-back}
+use Rattle.numeric.proofs.Joined.{kind-back, shape-back, kind-again, shape-again, kind-below, shape-below, width-below}
 
 -- ---- variables
 
@@ -99,7 +43,7 @@ var-bits w h =
 
 pub flag-back : (b : ℕ) → b < 2 → pick (yes (eqb b 1)) 1 0 ≡ b
 unfolding yes
-flag-back b h = eqb-true (pick (eqb b 1) 1 0) b (below-all 2 (λ c. eqb (pick (eqb c 1) 1 0) c) refl b h)
+flag-back = codes-back 2 (λ c. pick (eqb c 1) 1 0) refl
 
 -- a word from its fields, one after the other
 glue : (w a b c d e f g q₁ q₂ q₃ q₄ q₅ : ℕ) → w ≡ a + 2 ^ 4 * q₁ → q₁ ≡ b + 2 ^ 2 * q₂ → q₂ ≡ c + 2 ^ 6 * q₃ → q₃ ≡ d + 2 ^ 3 * q₄ → q₄ ≡ e + 2 ^ 3 * q₅

@@ -4,7 +4,7 @@ use mathlib.Core.Path.{_≡_, refl, sym}
 use mathlib.Core.Bool.{Bool, true, _&&_, _||_}
 use lib.Dec.{eqb, ltb}
 use Rattle.word.specs.Words.{kindOf, bits, bit}
-use Rattle.numeric.specs.Format.{typeFiled, typeOf}
+use Rattle.numeric.specs.TypeWords.{typeFiled, typeOf}
 use Rattle.numeric.specs.declared.types.NumericType.{NumericType}
 use Rattle.varying.specs.Format.{locationFiled, varFiled, varOf, payloadFiled}
 use Rattle.varying.specs.Rules.{samePayload}

@@ -4,8 +4,8 @@ use mathlib.Core.Bool.{Bool, true, _&&_, _||_}
 use mathlib.Core.List.{List, [], _∷_}
 use lib.Dec.{eqb, ltb}
 use Rattle.word.specs.Choice.{pick, yes}
-use Rattle.word.specs.Words.{kindOf, contentOf, bits, bit, ofKind}
-use Rattle.numeric.specs.Format.{typeFiled, typeOf, typeWord, widthKnown}
+use Rattle.word.specs.Words.{kindOf, contentOf, content, bits, bit, ofKind}
+use Rattle.numeric.specs.TypeWords.{typeFiled, typeOf, typeWord, widthKnown}
 use Rattle.varying.specs.declared.InterfaceVar.{InterfaceVar}
 use Rattle.varying.specs.declared.Located.{Located}
 use Rattle.varying.specs.declared.Payload.{Payload}
@@ -39,7 +39,7 @@ abbrev pub locatedWords : Located → List ℕ
 locatedWords v = ofKind 12 (v .location) ∷ varWord (v .var) ∷ []
 
 abbrev pub locatedHeld : Located → Bool
-locatedHeld v = ltb (v .location) (2 ^ 27) && varHeld (v .var)
+locatedHeld v = content (v .location) && varHeld (v .var)
 
 -- 'kind 9 payload (bit 26 present, size 25–0, 0 when absent)'
 unfoldable pub payloadFiled : ℕ → Bool

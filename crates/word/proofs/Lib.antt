@@ -1,5 +1,6 @@
 pub mod Tests
 pub mod Truth
+pub mod Lists
 pub mod Sums
 pub mod Parse
 pub mod ParseReads

@@ -1,10 +1,10 @@
 -- Truth values of tests, and a test computed at every number below a bound.
 use Prim.Native.Nat.{ℕ, zero, suc, _<_}
 use native.Mathlib.Omega.{arith}
-use mathlib.Core.Path.{_≡_, refl}
-use mathlib.Core.Bool.{Bool, true, false, _&&_, _||_, false≢true}
+use mathlib.Core.Path.{_≡_, refl, sym, _∙_}
+use mathlib.Core.Bool.{Bool, true, false, not, _&&_, _||_, false≢true}
 use lib.Dec.{eqb}
-use borrow.Author.Tests.{eqb-true, eqb-false}
+use borrow.Author.Tests.{eqb-true, eqb-false, not-true, not-false}
 
 pub first : (a b : Bool) → a && b ≡ true → a ≡ true
 first true b h = refl
@@ -24,6 +24,17 @@ either false b P f g h = g h
 pub or-right : (a b : Bool) → b ≡ true → a || b ≡ true
 or-right true b h = refl
 or-right false b h = h
+
+pub neither : (a b : Bool) → a || b ≡ false → (a ≡ false) × (b ≡ false)
+neither true b e = absurd (false≢true (sym e))
+neither false b e = (refl, e)
+
+-- a test that is asked for by a call
+pub told-false : (b t : Bool) → b ≡ t → not b ≡ true → t ≡ false
+told-false b t e n = sym e ∙ not-true b n
+
+pub told-true : (b t : Bool) → b ≡ t → not b ≡ false → t ≡ true
+told-true b t e n = sym e ∙ not-false b n
 
 pub by-test : {P : Type 0} (b : Bool) → (b ≡ true → P) → (b ≡ false → P) → P
 by-test true t f = t refl

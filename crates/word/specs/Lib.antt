@@ -1,4 +1,5 @@
 pub mod Words
 pub mod Choice
+pub mod Lists
 pub mod Answers
 pub mod Parse

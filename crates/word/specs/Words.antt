@@ -1,6 +1,8 @@
 -- Words of 32 bits (document 01, 'Packs and lists').
 use Prim.Native.Nat.{ℕ, zero, suc, _+_, _-_, _*_, _/_, _%_, _^_}
+use mathlib.Core.Bool.{Bool}
 use mathlib.Core.List.{List, [], _∷_}
+use lib.Dec.{ltb}
 use lib.ListN.{getD, length, take}
 
 -- the word at a position, 0 past the end
@@ -15,6 +17,10 @@ kindOf w = w / 2 ^ 27
 abbrev pub contentOf : ℕ → ℕ
 contentOf w = w % 2 ^ 27
 
+-- a number that the content can hold
+abbrev pub content : ℕ → Bool
+content n = ltb n (2 ^ 27)
+
 -- bits HIGH–LOW of a word, as document 01 writes them
 abbrev pub bits : ℕ → ℕ → ℕ → ℕ
 bits high zero w = w % 2 ^ suc high
@@ -26,8 +32,9 @@ bit n w = bits n n w
 
 -- a word of a kind and a content
 abbrev pub ofKind : ℕ → ℕ → ℕ
-ofKind kind content = 2 ^ 27 * kind + content
+ofKind kind n = 2 ^ 27 * kind + n
 
+-- 'the sum'
 unfoldable pub sumOf : List ℕ → ℕ
 sumOf [] = 0
 sumOf (w ∷ ws) = w + sumOf ws

@@ -13,9 +13,9 @@ flipped-spec =
     (λ c. search needs)  -- slice-read-old
     (λ c. search needs)  -- mul-words
     (λ c. search needs)  -- slice-write-words
-    (λ c. simp length-set (omega arith))  -- slice-reshare-prefix-check-pack
-    (λ c. search (replaced, replaced-twice))  -- slice-aggregate-check-pack
-    (λ c κs. search needs)  -- check-pack-requires
+    (λ c. simp length-set (omega arith))  -- slice-reshare-prefix-answer-on
+    (λ c. search (replaced, replaced-twice))  -- slice-aggregate-answer-on
+    (λ c κs. search needs)  -- answer-on-requires
     (λ c. search needs)  -- mul-words-2
     (λ c. simp length-set (omega arith))  -- slice-write-words-2
     (λ c. search needs)  -- same-length

@@ -18,9 +18,9 @@ flipped-and-closed-spec =
     (λ c. search (replaced, replaced-twice))  -- slice-aggregate-closing-sum
     (λ c κs. search needs)  -- closing-sum-requires
     (λ c. simp length-set (omega arith))  -- slice-write-words-2
-    (λ c. simp length-set (omega arith))  -- slice-reshare-prefix-check-pack
-    (λ c. search (replaced, replaced-twice))  -- slice-aggregate-check-pack
-    (λ c κs. search needs)  -- check-pack-requires
+    (λ c. simp length-set (omega arith))  -- slice-reshare-prefix-answer-on
+    (λ c. search (replaced, replaced-twice))  -- slice-aggregate-answer-on
+    (λ c κs. search needs)  -- answer-on-requires
     (λ c. search needs)  -- mul-words-2
     (λ c. simp length-set (omega arith))  -- slice-write-words-3
     (λ c. simp length-set (omega arith))  -- slice-write-words-4

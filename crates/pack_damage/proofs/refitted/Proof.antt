@@ -21,9 +21,9 @@ refitted-spec =
     (λ c κs. search needs)  -- closing-sum-requires
     (λ c. search needs)  -- mul-words
     (λ c. simp length-set (omega arith))  -- slice-write-words-2
-    (λ c. simp length-set (omega arith))  -- slice-reshare-prefix-check-pack
-    (λ c. sym (length-take-le _ _ (simp length-set (omega arith))))  -- slice-aggregate-check-pack
-    (λ c κs. search needs)  -- check-pack-requires
+    (λ c. simp length-set (omega arith))  -- slice-reshare-prefix-answer-on
+    (λ c. sym (length-take-le _ _ (simp length-set (omega arith))))  -- slice-aggregate-answer-on
+    (λ c κs. search needs)  -- answer-on-requires
     (λ c. search needs)  -- mul-words-2
     (λ c. simp length-set (omega arith))  -- slice-write-words-3
     (λ c. search needs)  -- same-length

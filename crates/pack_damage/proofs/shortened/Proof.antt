@@ -9,6 +9,6 @@ pub shortened-spec : {M : Type 1} → statement M
 shortened-spec =
     tie.close
     (tie.spec
-    (λ c. sym (length-take-le _ _ (omega arith)))  -- slice-aggregate-check-pack
-    (λ c κs. search needs)  -- check-pack-requires
+    (λ c. sym (length-take-le _ _ (omega arith)))  -- slice-aggregate-answer-on
+    (λ c κs. search needs)  -- answer-on-requires
     (λ c. search needs))  -- returns

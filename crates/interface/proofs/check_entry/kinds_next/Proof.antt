@@ -5,7 +5,8 @@ use borrow.Author.Needs.{needs}
 use Rattle.word.specs.Parse.{one, several, behind, restAt}
 use Rattle.word.proofs.Parse.{several-begins, several-ended}
 use Rattle.interface.specs.Format.{ofWord}
-use Rattle.interface.proofs.CheckSteps.{words-lack, words-stop, words-go, told-false, told-true}
+use Rattle.interface.proofs.CheckSteps.{words-lack, words-stop, words-go}
+use Rattle.word.proofs.Truth.{told-false, told-true}
 use Rattle.interface.proofs.check_entry.kinds_next.Statement.{statement}
 use Rattle.interface.proofs.check_entry.kinds_next.Tie as tie
 

@@ -4,8 +4,7 @@ use mathlib.Core.Bool.{true}
 use lib.ListN.{drop}
 use Rattle.interface.specs.Format.{decode}
 use Rattle.interface.specs.Reads.{interfaceOf}
-use Rattle.interface.specs.Parts.{chosenIn}
-use Rattle.interface.specs.Rules.{onlyFrom, onlyEntryPoint}
+use Rattle.interface.specs.Rules.{chosenIn, onlyFrom, onlyEntryPoint}
 use Rattle.interface.proofs.ReadsChoice.{only-onward, only-ended, ended-in}
 use borrow.Author.Needs.{needs}
 use Rattle.interface.proofs.choose.only_entry_point.Statement.{statement}

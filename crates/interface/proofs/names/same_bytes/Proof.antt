@@ -3,14 +3,14 @@ use Prim.Native.Nat.{_+_, _-_, _*_, _/_, _≤_}
 use mathlib.Core.Path.{_≡_}
 use lib.ListN.{length, drop}
 use Rattle.interface.specs.Format.{sameBytes}
-use Rattle.interface.specs.Parts.{bytesFrom}
+use Rattle.interface.specs.Walks.{nameOf}
 use borrow.Author.Needs.{needs}
 use Rattle.interface.proofs.names.same_bytes.Statement.{statement}
 use Rattle.interface.proofs.names.same_bytes.Tie as tie
 
 abbrev Inv-loop : tie.InvT-loop
 Inv-loop pack from name i₀ i =
-    (i ≤ length name / 4) × (sameBytes (bytesFrom pack from (length name)) name ≡ sameBytes (bytesFrom pack (from + i) (length name - 4 * i)) (drop (4 * i) name))
+    (i ≤ length name / 4) × (sameBytes (nameOf (length name) (drop from pack)) name ≡ sameBytes (nameOf (length name - 4 * i) (drop (from + i) pack)) (drop (4 * i) name))
 
 abbrev μ-loop : tie.MeasureT-loop
 μ-loop pack from name i₀ i = length name / 4 - i

@@ -2,9 +2,10 @@ use Prim.Native.Nat.{_+_, _*_, _<_, _≤_, _^_}
 use mathlib.Core.Path.{_≡_}
 use mathlib.Core.Bool.{true}
 use lib.ListN.{length, drop}
+use Rattle.word.specs.Lists.{flat}
 use Rattle.varying.specs.Format.{varOf, locatedWords}
 use Rattle.lists.specs.StageLists.{insert}
-use Rattle.lists.specs.Records.{put, each, flat}
+use Rattle.lists.specs.Records.{put, each}
 use Rattle.lists.specs.StageListFormat.{locatedGood, readVaryings}
 use Rattle.lists.proofs.OutStores.{var-again, good-onward, place-ended, place-before, place-over, place-onward, count-ended, count-before, count-over, count-onward}
 use borrow.Author.Needs.{needs}

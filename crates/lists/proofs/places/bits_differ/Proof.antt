@@ -3,7 +3,7 @@ use mathlib.Core.Path.{_≡_}
 use mathlib.Core.Bool.{true}
 use lib.ListN.{drop}
 use Rattle.lists.specs.Places.{distinctPlaces, places}
-use Rattle.lists.specs.Records.{every}
+use Rattle.word.specs.Lists.{every}
 use Rattle.lists.specs.Marks.{taken}
 use Rattle.lists.proofs.MarkLaws.{records-fit, end-fits, record-fits, record-within, record-starts, marks-begin, marked-begins, bits-onward, bits-apart, differ-not, differ-all}
 use borrow.Author.Needs.{needs}

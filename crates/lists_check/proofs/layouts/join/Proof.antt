@@ -1,4 +1,4 @@
-use Rattle.lists_check.proofs.Tested.{passed}
+use Rattle.word.proofs.Truth.{told-true}
 use Rattle.lists.proofs.PlaceWays.{found-inside}
 use borrow.Author.Needs.{needs}
 use Rattle.lists_check.proofs.layouts.join.Statement.{statement}
@@ -15,9 +15,9 @@ join-spec =
     (λ c κs. search needs)  -- nothing-requires-2
     (λ c. search needs)  -- same-length-2
     (λ c. search needs)  -- returns-2
-    (λ c κs. search passed)  -- find-entry-word-requires
+    (λ c κs. search told-true)  -- find-entry-word-requires
     (λ c. search needs)  -- enum-known-index
-    (λ c κs. (search passed, (search found-inside, search needs)))  -- join-visibility-requires
+    (λ c κs. (search told-true, (search found-inside, search needs)))  -- join-visibility-requires
     (λ c κs. search needs)  -- number-requires
     (λ c. search needs)  -- enum-told
     (λ c κs. search needs)  -- nothing-requires-3

@@ -1,4 +1,4 @@
-use Rattle.lists_check.proofs.Tested.{passed}
+use Rattle.word.proofs.Truth.{told-true}
 use borrow.Author.Needs.{needs}
 use Rattle.lists_check.proofs.layouts.look.Statement.{statement}
 use Rattle.lists_check.proofs.layouts.look.Tie as tie
@@ -13,7 +13,7 @@ look-spec =
     (λ c κs. search needs)  -- group-count-requires
     (λ c. search needs)  -- cast-number
     (λ c κs. search needs)  -- number-requires
-    (λ c κs. search passed)  -- find-entry-near-requires
+    (λ c κs. search told-true)  -- find-entry-near-requires
     (λ c κs. search needs)  -- position-requires
-    (λ c κs. search passed)  -- show-at-requires
+    (λ c κs. search told-true)  -- show-at-requires
     (λ c. search needs))  -- returns-2

@@ -1,4 +1,4 @@
-use Rattle.lists_check.proofs.Tested.{passed}
+use Rattle.word.proofs.Truth.{told-true}
 use borrow.Author.Needs.{needs}
 use Rattle.lists_check.proofs.layouts.push.Statement.{statement}
 use Rattle.lists_check.proofs.layouts.push.Tie as tie
@@ -15,6 +15,6 @@ push-spec =
     (λ c κs. search needs)  -- nothing-requires-2
     (λ c. search needs)  -- same-length-2
     (λ c. search needs)  -- returns-2
-    (λ c κs. (search passed, search passed))  -- push-grouped-requires
+    (λ c κs. (search told-true, search told-true))  -- push-grouped-requires
     (λ c. search needs)  -- same-length-3
     (λ c. search needs))  -- returns-3

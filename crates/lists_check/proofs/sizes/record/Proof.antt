@@ -1,4 +1,5 @@
-use Rattle.lists_check.proofs.Tested.{passed, place-passed, size-passed}
+use Rattle.lists_check.proofs.Tested.{place-passed, size-passed}
+use Rattle.word.proofs.Truth.{told-true}
 use borrow.Author.Needs.{needs}
 use Rattle.lists_check.proofs.sizes.record.Statement.{statement}
 use Rattle.lists_check.proofs.sizes.record.Tie as tie
@@ -21,7 +22,7 @@ record-spec =
     (λ c. search needs)  -- array-write-next
     (λ c. search needs)  -- add-record-words
     (λ c. search needs)  -- add-record-words-2
-    (λ c κs. (search passed, (search place-passed, search size-passed)))  -- record-words-requires
+    (λ c κs. (search told-true, (search place-passed, search size-passed)))  -- record-words-requires
     (λ c κs. search needs)  -- yes-no-requires
     (λ c. search needs)  -- same-length-4
     (λ c. search needs))  -- returns-4

@@ -1,4 +1,4 @@
-use Rattle.numeric.specs.Format.{checkTextureFormat}
+use Rattle.numeric.specs.Formats.{checkTextureFormat}
 use Rattle.numeric.proofs.FormatAnswers.{format-unknown, both-read}
 use borrow.Author.Needs.{needs}
 use Rattle.numeric.proofs.formats.check_texture_format.Statement.{statement}

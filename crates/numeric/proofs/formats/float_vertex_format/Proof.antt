@@ -1,4 +1,4 @@
-use Rattle.numeric.specs.Rules.{floatVertexFormat}
+use Rattle.numeric.specs.Formats.{floatVertexFormat}
 use Rattle.word.proofs.Tests.{tests}
 use borrow.Author.Needs.{needs}
 use Rattle.numeric.proofs.formats.float_vertex_format.Statement.{statement}

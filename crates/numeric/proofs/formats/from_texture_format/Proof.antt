@@ -1,4 +1,4 @@
-use Rattle.numeric.specs.Rules.{textureFormat}
+use Rattle.numeric.specs.Formats.{textureFormat}
 use Rattle.word.proofs.Tests.{tests}
 use borrow.Author.Needs.{needs}
 use Rattle.numeric.proofs.formats.from_texture_format.Statement.{statement}

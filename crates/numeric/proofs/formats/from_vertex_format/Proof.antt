@@ -1,4 +1,4 @@
-use Rattle.numeric.specs.Rules.{vertexFormat}
+use Rattle.numeric.specs.Formats.{vertexFormat}
 use Rattle.word.proofs.Tests.{tests}
 use borrow.Author.Needs.{needs}
 use Rattle.numeric.proofs.formats.from_vertex_format.Statement.{statement}

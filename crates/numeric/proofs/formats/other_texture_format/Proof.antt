@@ -1,4 +1,4 @@
-use Rattle.numeric.specs.Rules.{otherTextureFormat}
+use Rattle.numeric.specs.Formats.{otherTextureFormat}
 use Rattle.word.proofs.Tests.{tests}
 use borrow.Author.Needs.{needs}
 use Rattle.numeric.proofs.formats.other_texture_format.Statement.{statement}

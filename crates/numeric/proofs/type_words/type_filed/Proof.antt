@@ -1,4 +1,4 @@
-use Rattle.numeric.specs.Format.{typeFiled}
+use Rattle.numeric.specs.TypeWords.{typeFiled}
 use Rattle.word.proofs.Tests.{tests}
 use borrow.Author.Needs.{needs}
 use Rattle.numeric.proofs.type_words.type_filed.Statement.{statement}

@@ -1,5 +1,5 @@
 use Rattle.numeric.proofs.Fits.{vectors-fit, columns-differ, columns-agree}
-use Rattle.numeric.specs.Rules.{shapeFits}
+use Rattle.numeric.specs.Types.{shapeFits}
 use borrow.Author.Needs.{needs}
 use Rattle.numeric.proofs.types.shape_fits.Statement.{statement}
 use Rattle.numeric.proofs.types.shape_fits.Tie as tie

@@ -1,12 +1,10 @@
--- Type words (document 01, 'Varying' and 'A lone type'), and the answers given on formats and types.
+-- Type words (document 01, 'Varying' and 'A lone type').
 use Prim.Native.Nat.{ℕ, _+_, _-_, _*_, _/_, _%_}
 use mathlib.Core.Bool.{Bool, _&&_, _||_}
 use lib.Dec.{eqb, ltb}
 use Rattle.word.specs.Choice.{pick}
 use Rattle.word.specs.Words.{kindOf, bits, ofKind}
-use Rattle.word.specs.Answers.{answer, accepted, refused}
-use Rattle.word.specs.declared.answer.Answer.{Answer}
-use Rattle.numeric.specs.Rules.{kindCode, sizeCode, subtypeOf, fits, isFit}
+use Rattle.numeric.specs.Types.{kindCode, sizeCode, subtypeOf, isFit}
 use Rattle.numeric.specs.declared.types.ScalarKind.{ScalarKind}
 use Rattle.numeric.specs.declared.types.ScalarKind.the-variants as K
 use Rattle.numeric.specs.declared.types.VectorSize.{VectorSize}
@@ -18,14 +16,14 @@ use Rattle.numeric.specs.declared.type_words.TypeRead.{TypeRead}
 use Rattle.numeric.specs.declared.type_words.TypeRead.the-variants.{Numeric, Bad}
 use Rattle.numeric.specs.declared.type_words.Compared.{Compared}
 use Rattle.numeric.specs.declared.type_words.Compared.the-variants as C
-use Rattle.numeric.specs.declared.formats.FormatType.{FormatType}
-use Rattle.numeric.specs.declared.formats.FormatType.the-variants.{Known, NoColour, Unknown}
 
 -- ---- from words to types
 
+-- 'scalar kind 5–4: sint, uint, float, bool'
 abbrev pub kindAt : ℕ → ScalarKind
 kindAt code = pick (eqb code 0) K.Sint (pick (eqb code 1) K.Uint (pick (eqb code 2) K.Float K.Bool))
 
+-- a vector's or a matrix's side of as many components
 abbrev pub sizeAt : ℕ → VectorSize
 sizeAt components = pick (eqb components 2) Bi (pick (eqb components 3) Tri Quad)
 
@@ -53,23 +51,19 @@ readType w = pick (eqb (kindOf w) 13 && (eqb (bits 26 10 w) 0 && typeFiled w)) (
 
 -- ---- from types to words
 
+-- the shape as 'shape 3–0' numbers it
 abbrev pub shapeCode : NumericDimension → ℕ
 shapeCode D.Scalar = 0
 shapeCode (D.Vector n) = sizeCode n - 1
 shapeCode (D.Matrix columns rows) = 4 + 3 * (sizeCode columns - 2) + (sizeCode rows - 2)
 
+-- a lone type's word
 unfoldable pub typeWord : NumericType → ℕ
 typeWord t = ofKind 13 (shapeCode (t .dim) + 16 * kindCode (t .scalar .kind) + 64 * t .scalar .width)
 
--- ---- answers
+-- ---- two lone types
 
--- 'one handed out is the first detail'; 80 and 82 where there is none
-abbrev pub formatAnswer : FormatType → Answer
-formatAnswer (Known t) = answer 0 (typeWord t) 0 0
-formatAnswer NoColour = refused 80
-formatAnswer Unknown = refused 82
-
--- two lone types compared: why the first does not fit, or that one of them is no type
+-- why the first does not fit, or that one of them is no type
 unfoldable pub compareTypes : TypeRead → TypeRead → Compared
 compareTypes (Numeric a) (Numeric b) = C.Types (subtypeOf a b)
 compareTypes (Numeric a) Bad = C.Unknown
@@ -80,14 +74,3 @@ compareTypes Bad Bad = C.Unknown
 abbrev pub subtypeNumber : Compared → ℕ
 subtypeNumber (C.Types fit) = pick (isFit fit) 1 0
 subtypeNumber C.Unknown = 82
-
-abbrev pub checkType : NumericType → NumericType → Answer
-checkType t output = pick (fits t output) accepted (answer 81 (typeWord t) 0 0)
-
--- a texture format against the type that a shader writes: 82 tried first, then 80, then 81 with the format's type
-unfoldable pub checkTextureFormat : FormatType → TypeRead → Answer
-checkTextureFormat Unknown output = refused 82
-checkTextureFormat NoColour Bad = refused 82
-checkTextureFormat (Known t) Bad = refused 82
-checkTextureFormat NoColour (Numeric output) = refused 80
-checkTextureFormat (Known t) (Numeric output) = checkType t output

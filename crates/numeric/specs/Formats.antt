@@ -1,67 +1,23 @@
--- Which numeric type fits where another is provided, and the type of each vertex and texture format.
+-- The type of each vertex and texture format, and the answers given on them.
 use Prim.Native.Nat.{ℕ}
-use mathlib.Core.Bool.{Bool, true, false, _&&_}
-use lib.Dec.{eqb, leb, ltb}
+use lib.Dec.{ltb}
 use Rattle.word.specs.Choice.{pick}
+use Rattle.word.specs.Answers.{answer, accepted, refused}
+use Rattle.word.specs.declared.answer.Answer.{Answer}
+use Rattle.numeric.specs.Types.{numeric, fits}
+use Rattle.numeric.specs.TypeWords.{typeWord}
 use Rattle.numeric.specs.declared.types.ScalarKind.{ScalarKind}
 use Rattle.numeric.specs.declared.types.ScalarKind.the-variants as K
-use Rattle.numeric.specs.declared.types.VectorSize.{VectorSize}
 use Rattle.numeric.specs.declared.types.VectorSize.the-variants.{Bi, Tri, Quad}
 use Rattle.numeric.specs.declared.types.NumericDimension.{NumericDimension}
 use Rattle.numeric.specs.declared.types.NumericDimension.the-variants as D
 use Rattle.numeric.specs.declared.types.NumericType.{NumericType}
-use Rattle.numeric.specs.declared.types.Fit.{Fit}
-use Rattle.numeric.specs.declared.types.Fit.the-variants.{Fits, TooWide, OtherKind, OtherShape}
+use Rattle.numeric.specs.declared.type_words.TypeRead.{TypeRead}
+use Rattle.numeric.specs.declared.type_words.TypeRead.the-variants.{Numeric, Bad}
 use Rattle.numeric.specs.declared.formats.FormatType.{FormatType}
 use Rattle.numeric.specs.declared.formats.FormatType.the-variants.{Known, NoColour, Unknown}
 
--- 'scalar kind 5–4: sint, uint, float, bool'
-abbrev pub kindCode : ScalarKind → ℕ
-kindCode K.Sint = 0
-kindCode K.Uint = 1
-kindCode K.Float = 2
-kindCode K.Bool = 3
-
--- how many components a size means
-abbrev pub sizeCode : VectorSize → ℕ
-sizeCode Bi = 2
-sizeCode Tri = 3
-sizeCode Quad = 4
-
--- a scalar is below a scalar and below a vector, a vector below one as long or longer, a matrix below itself
--- (WebGPU, 'validating inter-stage interfaces': what a stage reads is covered by what the one before writes)
-unfoldable pub shapeFits : NumericDimension → NumericDimension → Bool
-shapeFits D.Scalar D.Scalar = true
-shapeFits D.Scalar (D.Vector n) = true
-shapeFits D.Scalar (D.Matrix c r) = false
-shapeFits (D.Vector m) D.Scalar = false
-shapeFits (D.Vector m) (D.Vector n) = leb (sizeCode m) (sizeCode n)
-shapeFits (D.Vector m) (D.Matrix c r) = false
-shapeFits (D.Matrix c r) D.Scalar = false
-shapeFits (D.Matrix c r) (D.Vector n) = false
-shapeFits (D.Matrix c r) (D.Matrix d s) = eqb (sizeCode c) (sizeCode d) && eqb (sizeCode r) (sizeCode s)
-
--- why a type does not fit, 'tested in that order as the Rust does': too wide, other scalar kind, other shape
-unfoldable pub subtypeOf : NumericType → NumericType → Fit
-subtypeOf a b =
-    pick (ltb (b .scalar .width) (a .scalar .width)) TooWide
-    (pick (eqb (kindCode (a .scalar .kind)) (kindCode (b .scalar .kind)))
-    (pick (shapeFits (a .dim) (b .dim)) Fits OtherShape)
-    OtherKind)
-
-abbrev pub isFit : Fit → Bool
-isFit Fits = true
-isFit TooWide = false
-isFit OtherKind = false
-isFit OtherShape = false
-
--- whether a type is below another
-abbrev pub fits : NumericType → NumericType → Bool
-fits a b = isFit (subtypeOf a b)
-
-abbrev pub numeric : NumericDimension → ScalarKind → ℕ → NumericType
-numeric dim kind width = record { dim = dim; scalar = record { kind = kind; width = width } }
-
+-- a format whose data has a type
 abbrev pub known : NumericDimension → ScalarKind → ℕ → FormatType
 known dim kind width = Known (numeric dim kind width)
 
@@ -124,3 +80,23 @@ textureFormat =
     (below 42 (known (D.Vector Quad) K.Sint 4)
     (below 43 (known (D.Vector Tri) K.Float 4)
     otherTextureFormat))))))))))))
+
+-- ---- answers
+
+-- 'one handed out is the first detail'; 80 and 82 where there is none
+abbrev pub formatAnswer : FormatType → Answer
+formatAnswer (Known t) = answer 0 (typeWord t) 0 0
+formatAnswer NoColour = refused 80
+formatAnswer Unknown = refused 82
+
+-- a format's type must fit the type that is written, else 81 with it
+abbrev pub checkType : NumericType → NumericType → Answer
+checkType t output = pick (fits t output) accepted (answer 81 (typeWord t) 0 0)
+
+-- a texture format against the type that a shader writes: 82 tried first, then 80, then 81 with the format's type
+unfoldable pub checkTextureFormat : FormatType → TypeRead → Answer
+checkTextureFormat Unknown output = refused 82
+checkTextureFormat NoColour Bad = refused 82
+checkTextureFormat (Known t) Bad = refused 82
+checkTextureFormat NoColour (Numeric output) = refused 80
+checkTextureFormat (Known t) (Numeric output) = checkType t output
