@@ -22,7 +22,7 @@ use Rattle.interface.specs.declared.types.ShaderStage.{ShaderStage}
 use Rattle.interface.specs.declared.types.Limits.{Limits}
 use Rattle.interface.specs.declared.choose.Chosen.{Chosen}
 use Rattle.interface.specs.declared.choose.Chosen.the-variants as Ch
-use Rattle.stage_steps.specs.Meaning.{both, Request}
+use Rattle.stage_steps.specs.Meaning.{both}
 use Rattle.stage_steps.specs.Interfaces.{workgroupStep, inputSteps, startWalk, placesStep, lastStep, stageOut, localCount}
 use Rattle.stage_steps.specs.declared.types.Request.{Request}
 use Rattle.stage_steps.specs.declared.types.InputWalk.{InputWalk}
