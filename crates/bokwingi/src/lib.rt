@@ -1,16 +1,16 @@
 // What a board's firmware links: the checks over plain numbers and slices, under names that begin with the product's.
 ghost use mathlib.Core.Path.{_≡_};
-ghost use Rattle.numeric.specs.Formats.{vertexFormat, textureFormat, formatAnswer, checkTextureFormat};
+ghost use Rattle.formats.specs.Formats.{vertexFormat, textureFormat, formatAnswer, checkTextureFormat};
 ghost use Rattle.numeric.specs.TypeWords.{readType, compareTypes, subtypeNumber};
 ghost use Rattle.interface.specs.Format.{decode};
-ghost use Rattle.interface.specs.Rules.{finalizeName};
+ghost use Rattle.entry_points.specs.Rules.{finalizeName};
 ghost use Rattle.stage.specs.Stage.{checkStage};
 ghost use Rattle.stage.specs.Meaning.{call, codes, lent};
 ghost use Rattle.bokwingi.specs.Details.{Handed};
-use interface::choose::finalize_entry_point_name;
-use numeric::formats::check_texture_format;
-use numeric::formats::texture_format;
-use numeric::formats::vertex_format;
+use entry_points::choose::finalize_entry_point_name;
+use formats::formats::check_texture_format;
+use formats::formats::texture_format;
+use formats::formats::vertex_format;
 use numeric::type_words::is_subtype_of;
 use numeric::type_words::subtype_number;
 use stage::check::check_stage;

@@ -10,11 +10,11 @@ use lib.ListN.{length}
 use Rattle.word.specs.Words.{kindOf, contentOf, bits, bit, ofKind, content}
 use Rattle.word.specs.Parse.{got, one, several}
 use Rattle.word.specs.Lists.{flat, every}
-use Rattle.resource.specs.Format.{flag}
-use Rattle.resource.specs.declared.types.Resource.{Resource}
-use Rattle.resource.specs.declared.types.ResourceType.{ResourceType}
-use Rattle.resource.proofs.CodeLaws.{flag-most}
-use Rattle.resource.proofs.EntryFormat.{flag-read}
+use Rattle.bindings.specs.Format.{flag}
+use Rattle.bindings.specs.declared.types.Resource.{Resource}
+use Rattle.bindings.specs.declared.types.ResourceType.{ResourceType}
+use Rattle.bindings.proofs.CodeLaws.{flag-most}
+use Rattle.bindings.proofs.EntryFormat.{flag-read}
 use Rattle.varying.specs.Format.{payloadWord, payloadHeld}
 use Rattle.word.proofs.Truth.{first, second}
 use Rattle.word.proofs.Lists.{every-first, every-others}

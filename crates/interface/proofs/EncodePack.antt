@@ -10,8 +10,8 @@ use lib.Seq.{take-at, getD-at}
 use Rattle.word.specs.Words.{wordAt, kindOf, bits, ofKind, sumOf, closingSum, content}
 use Rattle.word.specs.Parse.{got, one, several}
 use Rattle.word.specs.Lists.{flat, every}
-use Rattle.resource.specs.Format.{readResource, resourceWords, resourceHeld}
-use Rattle.resource.proofs.ResourceFormat.{words-read}
+use Rattle.bindings.specs.Format.{readResource, resourceWords, resourceHeld}
+use Rattle.bindings.proofs.ResourceFormat.{words-read}
 use Rattle.word.proofs.Lists.{every-first, every-others}
 use Rattle.interface.specs.Meaning.{Interface}
 use Rattle.interface.specs.Format.{mostWords, mostResources, mostEntries, ofWord, contents, entryPointWords, readEntryPoint, limitsBy, limitsOf, limitWord, limitWords, recordWords, openWords, readPack, distinctNames, encode, body, torn, decode, Pack}

@@ -8,9 +8,9 @@ use Rattle.word.specs.Choice.{yes}
 use Rattle.word.specs.Words.{sumOf, closingSum}
 use Rattle.word.specs.Parse.{several}
 use Rattle.word.specs.Lists.{among, flat, every}
-use Rattle.resource.specs.Format.{readResource, resourceTypeFiled, resourceTypeOf, resourceWords, typeHeld}
-use Rattle.resource.specs.declared.types.AddressSpace.the-variants as Space
-use Rattle.resource.specs.declared.types.ResourceType.the-variants as Res
+use Rattle.bindings.specs.Format.{readResource, resourceTypeFiled, resourceTypeOf, resourceWords, typeHeld}
+use Rattle.bindings.specs.declared.types.AddressSpace.the-variants as Space
+use Rattle.bindings.specs.declared.types.ResourceType.the-variants as Res
 use Rattle.varying.specs.Format.{payloadFiled, payloadOf, payloadWord}
 use Rattle.varying.specs.declared.Payload.the-variants as Pay
 use Rattle.interface.specs.Meaning.{Interface}

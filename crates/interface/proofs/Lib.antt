@@ -1,7 +1,4 @@
-pub mod ReadsChoice
 pub mod ReadsEntry
-pub mod ReadsNames
-pub mod CheckPositions
 pub mod ReadsPack
 pub mod ReadsParts
 pub mod ReadsRecords
@@ -15,15 +12,3 @@ pub mod EncodeVaryings
 pub mod Passing
 pub mod Packs
 pub mod Examples
-pub mod CheckCases
-pub mod CheckWords
-pub mod CheckNames
-pub mod CheckHeads
-pub mod CheckVaryings
-pub mod CheckOutputs
-pub mod CheckWalks
-pub mod CheckSteps
-pub mod CheckPairs
-pub mod CheckRecords
-pub mod CheckEntries
-pub mod CheckPack

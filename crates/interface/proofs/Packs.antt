@@ -12,9 +12,9 @@ use Rattle.word.specs.Choice.{pick}
 use Rattle.word.specs.Words.{bits, bit, contentOf}
 use Rattle.word.specs.Parse.{Parsed, fault, got, next, one, several}
 use Rattle.word.specs.Lists.{every}
-use Rattle.resource.specs.Format.{readResource, resourceHeld}
-use Rattle.resource.specs.declared.types.Resource.{Resource}
-use Rattle.resource.proofs.ReadLaws.{read-held}
+use Rattle.bindings.specs.Format.{readResource, resourceHeld}
+use Rattle.bindings.specs.declared.types.Resource.{Resource}
+use Rattle.bindings.proofs.ReadLaws.{read-held}
 use Rattle.word.proofs.Truth.{first, second, by-test}
 use Rattle.word.proofs.Lists.{every-first, every-others}
 use Rattle.word.proofs.Parse.{Yields, yields-next, yields-pick}
@@ -25,7 +25,7 @@ use Rattle.interface.specs.Format.{readVarying, builtInFiled, clips, con
 use Rattle.interface.specs.Format.{headFiled, readName, readWorkgroup, readMesh, countsFiled, readEntryPoint, ofWord}
 use Rattle.interface.specs.Format.{editionFiled, totalsFiled, distinctNames, readPack, torn, Pack, whole, body, decode}
 use Rattle.interface.specs.Held.{count, builtInHeld, varyingHeld}
-use Rattle.interface.specs.Reads.{entryNth}
+use Rattle.interface.specs.inner.Reads.{entryNth}
 use Rattle.interface.specs.declared.types.BuiltIn.the-variants as In
 use Rattle.interface.specs.declared.types.Varying.{Varying}
 use Rattle.interface.proofs.Passing.{yields-as, yields-known, yields-both, one-yields, several-yields, all-read}

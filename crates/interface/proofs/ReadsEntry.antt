@@ -11,12 +11,12 @@ use Rattle.word.specs.Choice.{pick}
 use Rattle.word.specs.Words.{wordAt, contentOf}
 use Rattle.word.specs.Parse.{got, one, several}
 use Rattle.word.proofs.ParseReads.{Stands, next-reads, picked, one-reads, several-words, three-words}
-use Rattle.resource.specs.declared.types.Resource.{Resource}
+use Rattle.bindings.specs.declared.types.Resource.{Resource}
 use Rattle.varying.specs.Format.{payloadFiled}
 use Rattle.interface.specs.Meaning.{EntryPoint}
 use Rattle.interface.specs.Format.{readVarying, readName, readWorkgroup, readMesh, readEntryPoint, bytesOf, nameWords, nameFiled, ofWord, topologyFiled, headFiled, countsFiled, indexFiled, meshInfo, clips}
-use Rattle.interface.specs.Reads.{varying, varyings, standing}
-use Rattle.interface.specs.Parts.{varyingEnd, varyingsEnd, partsAt, entryEnd, entryAt}
+use Rattle.interface.specs.inner.Reads.{varying, varyings, standing}
+use Rattle.interface.specs.inner.Parts.{varyingEnd, varyingsEnd, partsAt, entryEnd, entryAt}
 use Rattle.interface.specs.declared.types.Varying.{Varying}
 use Rattle.interface.specs.declared.types.MeshRecord.{MeshRecord}
 use Rattle.interface.specs.declared.types.MeshRecord.the-variants as Mesh

@@ -12,14 +12,14 @@ use Rattle.word.specs.Choice.{pick}
 use Rattle.word.specs.Words.{wordAt, contentOf}
 use Rattle.word.specs.Parse.{Parsed, fault, got, next, one}
 use Rattle.word.proofs.ParseReads.{Stands, next-then, next-reads, picked, one-stands, one-reads, several-words}
-use Rattle.resource.specs.Format.{readResource, resource, resourceAt, isBuffer, placeFiled, resourceWordFiled, sizeFiled}
-use Rattle.resource.specs.declared.types.Resource.{Resource}
-use Rattle.resource.proofs.ReadLaws.{type-sizeless}
+use Rattle.bindings.specs.Format.{readResource, resource, resourceAt, isBuffer, placeFiled, resourceWordFiled, sizeFiled}
+use Rattle.bindings.specs.declared.types.Resource.{Resource}
+use Rattle.bindings.proofs.ReadLaws.{type-sizeless}
 use Rattle.word.proofs.Truth.{first, second, neither}
 use Rattle.interface.specs.Meaning.{Interface}
 use Rattle.interface.specs.Format.{readPack, readEntryPoint, editionFiled, totalsFiled, ofWord, limitsOf, distinctNames, Decoded, Torn, Misfiled, Pack, torn, whole, body, decode, decodedNumber}
-use Rattle.interface.specs.Reads.{interfaceOf}
-use Rattle.interface.specs.Parts.{endFrom, resourceEnd, entryEnd, entryAt, resourceCount, entryCount, resourcesOf, entriesAt, entriesOf}
+use Rattle.interface.specs.inner.Reads.{interfaceOf}
+use Rattle.interface.specs.inner.Parts.{endFrom, resourceEnd, entryEnd, entryAt, resourceCount, entryCount, resourcesOf, entriesAt, entriesOf}
 use Rattle.interface.proofs.ReadsRecords.{ReadsAt, several-records}
 use Rattle.interface.proofs.ReadsEntry.{entry-stands}
 

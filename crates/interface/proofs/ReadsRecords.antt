@@ -6,7 +6,7 @@ use mathlib.Core.List.{List, [], _∷_}
 use lib.ListN.{length}
 use Rattle.word.specs.Parse.{Parsed, got, several}
 use Rattle.word.proofs.ParseReads.{Stands, next-then}
-use Rattle.interface.specs.Parts.{recordsFrom, endFrom}
+use Rattle.interface.specs.inner.Parts.{recordsFrom, endFrom}
 
 -- a reader reads at each position what stands there, and stops behind it
 pub record ReadsAt {A : Type 0} (P t : List ℕ) (read : List ℕ → Parsed A) (record-at : ℕ → A) (after : ℕ → ℕ) : Type 0 where

@@ -11,8 +11,8 @@ use Rattle.word.specs.Parse.{got, one}
 use Rattle.word.proofs.ParseReads.{Stands, next-then, picked, word-stands, one-stands}
 use Rattle.varying.specs.Format.{locationFiled, varFiled}
 use Rattle.interface.specs.Format.{readVarying, varyingBehind, local, builtInOf, builtInFiled}
-use Rattle.interface.specs.Reads.{varying, varyingWidth, varyings}
-use Rattle.interface.specs.Parts.{recordsFrom, varyingEnd}
+use Rattle.interface.specs.inner.Reads.{varying, varyingWidth, varyings}
+use Rattle.interface.specs.inner.Parts.{recordsFrom, varyingEnd}
 use Rattle.interface.specs.declared.types.Varying.{Varying}
 use Rattle.interface.specs.declared.types.Varying.the-variants as Var
 use Rattle.interface.proofs.ReadsRecords.{ReadsAt}

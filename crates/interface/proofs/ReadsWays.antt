@@ -11,9 +11,9 @@ use lib.Seq.{getD-drop}
 use Rattle.word.specs.Words.{wordAt, kindOf, contentOf}
 use Rattle.word.proofs.Parse.{first-of}
 use Rattle.interface.specs.Format.{decode, decodedNumber, limitsBy, limitsOf}
-use Rattle.interface.specs.Reads.{varyingWidth, interfaceOf}
-use Rattle.interface.specs.Parts.{resourceCount, entryCount, resourceEnd, entryEnd, entriesAt, entryAt}
-use Rattle.resource.specs.Format.{resourceAt}
+use Rattle.interface.specs.inner.Reads.{varyingWidth, interfaceOf}
+use Rattle.interface.specs.inner.Parts.{resourceCount, entryCount, resourceEnd, entryEnd, entriesAt, entryAt}
+use Rattle.bindings.specs.Format.{resourceAt}
 use Rattle.interface.specs.declared.types.Limits.{Limits}
 use Rattle.interface.proofs.ReadsRecords.{records-length}
 use Rattle.interface.proofs.ReadsPack.{accepted}

@@ -8,12 +8,12 @@ use Rattle.word.specs.Choice.{pick}
 use Rattle.word.specs.Words.{wordAt, kindOf, contentOf, bits, bit, ofKind, closingSum, sumOf}
 use Rattle.word.specs.Lists.{among, flat}
 use Rattle.word.specs.Parse.{Parsed, fault, got, next, one, several}
-use Rattle.resource.specs.Format.{readResource, resourceWords, flag}
-use Rattle.resource.specs.declared.types.Resource.{Resource}
-use Rattle.resource.specs.declared.types.ResourceType.{ResourceType}
-use Rattle.resource.specs.declared.types.ResourceType.the-variants as Res
-use Rattle.resource.specs.declared.types.ImageClass.{ImageClass}
-use Rattle.resource.specs.declared.types.ImageClass.the-variants as Class
+use Rattle.bindings.specs.Format.{readResource, resourceWords, flag}
+use Rattle.bindings.specs.declared.types.Resource.{Resource}
+use Rattle.bindings.specs.declared.types.ResourceType.{ResourceType}
+use Rattle.bindings.specs.declared.types.ResourceType.the-variants as Res
+use Rattle.bindings.specs.declared.types.ImageClass.{ImageClass}
+use Rattle.bindings.specs.declared.types.ImageClass.the-variants as Class
 use Rattle.varying.specs.Format.{locationFiled, varFiled, varOf, varWord, payloadFiled, payloadOf, payloadWord}
 use Rattle.interface.specs.Meaning.{EntryPoint, Interface}
 use Rattle.interface.specs.declared.types.ShaderStage.{ShaderStage}

@@ -6,8 +6,8 @@ use lib.Dec.{leb, ltb}
 use lib.ListN.{length}
 use Rattle.word.specs.Words.{content}
 use Rattle.word.specs.Lists.{every}
-use Rattle.resource.specs.Format.{resourceHeld}
-use Rattle.resource.specs.declared.types.Resource.{Resource}
+use Rattle.bindings.specs.Format.{resourceHeld}
+use Rattle.bindings.specs.declared.types.Resource.{Resource}
 use Rattle.varying.specs.Format.{varHeld, payloadHeld}
 use Rattle.interface.specs.Meaning.{EntryPoint, Interface}
 use Rattle.interface.specs.Format.{mostWords, mostResources, mostEntries, mostBytes, noZero, pairGood, clips, distinctNames, limitNumbers, encode}

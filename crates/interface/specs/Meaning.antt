@@ -2,7 +2,7 @@
 use Prim.Native.Nat.{ℕ}
 use mathlib.Core.Bool.{Bool}
 use mathlib.Core.List.{List}
-use Rattle.resource.specs.declared.types.Resource.{Resource}
+use Rattle.bindings.specs.declared.types.Resource.{Resource}
 use Rattle.varying.specs.declared.Payload.{Payload}
 use Rattle.interface.specs.declared.types.ShaderStage.{ShaderStage}
 use Rattle.interface.specs.declared.types.MeshRecord.{MeshRecord}

@@ -6,7 +6,7 @@ ghost use lib.ListN.{length};
 ghost use Rattle.word.specs.Choice.{pick};
 ghost use Rattle.word.specs.Words.{bits, bit};
 ghost use Rattle.interface.specs.Format.{nameWords, decode, decodedNumber};
-ghost use Rattle.interface.specs.Parts.{varyingsEnd, resourceEnd, partsAt, entryEnd, entriesAt};
+ghost use Rattle.interface.specs.inner.Parts.{varyingsEnd, resourceEnd, partsAt, entryEnd, entriesAt};
 use crate::reads::resource_count;
 use crate::reads::varying_width;
 use crate::types::EntryParts;

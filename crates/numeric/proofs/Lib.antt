@@ -2,4 +2,3 @@ pub mod Fits
 pub mod TypeWords
 pub mod Joined
 pub mod Subtype
-pub mod FormatAnswers

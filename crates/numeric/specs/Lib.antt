@@ -1,3 +1,2 @@
 pub mod Types
 pub mod TypeWords
-pub mod Formats

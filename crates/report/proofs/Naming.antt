@@ -8,8 +8,8 @@ use lib.ListN.{length, take, drop, getD, length-drop}
 use lib.Seq.{take-suc, take-append-le, getD-drop, length-take-le}
 use Rattle.word.specs.Words.{wordAt, bits}
 use Rattle.interface.specs.Format.{bytesOf, nameWords}
-use Rattle.interface.specs.Reads.{nameAt}
-use Rattle.interface.specs.Parts.{workgroupAt}
+use Rattle.interface.specs.inner.Reads.{nameAt}
+use Rattle.interface.specs.inner.Parts.{workgroupAt}
 use Rattle.interface.proofs.EncodeNames.{bytes-long}
 use Rattle.report.specs.Written.{Wrote}
 use Rattle.report.proofs.Writing.{wrote-none, wrote-more, wrote-length}

@@ -11,11 +11,11 @@ use Rattle.word.specs.Answers.{refused}
 use Rattle.word.specs.declared.answer.Answer.{Answer}
 use Rattle.word.specs.Lists.{flat}
 use Rattle.varying.specs.Format.{payloadWord}
-use Rattle.lists.specs.LayoutFormat.{encodeLayout}
-use Rattle.lists.specs.StageListFormat.{encodeStage}
-use Rattle.lists.specs.Records.{countOf}
+use Rattle.layouts.specs.Format.{encodeLayout}
+use Rattle.stage_lists.specs.Format.{encodeStage}
+use Rattle.places.specs.Records.{countOf}
 use Rattle.interface.specs.Format.{Decoded, Torn, Misfiled, Pack, decode, decodedNumber}
-use Rattle.interface.specs.Reads.{interfaceOf}
+use Rattle.interface.specs.inner.Reads.{interfaceOf}
 use Rattle.report.specs.Text.{wordsOf, hexLines, line}
 use Rattle.report.specs.Written.{Wrote}
 use Rattle.report.specs.Report.{Run, ran, runEntries, usedWords, runText, startRun, refusedPack, decodedText, report}

@@ -10,12 +10,12 @@ use lib.Seq.{take-suc, take-suc-set, take-all, drop-drop}
 use Rattle.word.specs.Choice.{pick}
 use Rattle.word.specs.Words.{wordAt}
 use Rattle.interface.specs.Format.{stageAt, stageCode}
-use Rattle.interface.specs.Reads.{standing, nameAt}
-use Rattle.interface.specs.Parts.{partsAt, entryAt, entryEnd}
+use Rattle.interface.specs.inner.Reads.{standing, nameAt}
+use Rattle.interface.specs.inner.Parts.{partsAt, entryAt, entryEnd}
 use Rattle.interface.specs.declared.types.ShaderStage.{ShaderStage}
 use Rattle.varying.specs.Format.{payloadWord}
-use Rattle.lists.specs.SizeFormat.{encodeSizes}
-use Rattle.lists.specs.StageListFormat.{encodeStage}
+use Rattle.sizes.specs.Format.{encodeSizes}
+use Rattle.stage_lists.specs.Format.{encodeStage}
 use Rattle.word.specs.Lists.{flat}
 use Rattle.stage.specs.Meaning.{Outcome, outcome, codes, lent, call}
 use Rattle.stage.specs.Stage.{checkStage}

@@ -7,11 +7,11 @@ use lib.ListN.{length, take, replicate}
 use Rattle.word.specs.Choice.{pick}
 use Rattle.word.specs.Answers.{refused}
 use Rattle.varying.specs.declared.Payload.the-variants as Pay
-use Rattle.lists.specs.LayoutFormat.{encodeLayout}
-use Rattle.lists.specs.SizeFormat.{encodeSizes}
-use Rattle.lists.specs.StageListFormat.{encodeStage}
-use Rattle.lists.specs.Records.{countOf}
-use Rattle.lists.specs.declared.stage_types.PrimitiveIndex.the-variants as Index
+use Rattle.layouts.specs.Format.{encodeLayout}
+use Rattle.sizes.specs.Format.{encodeSizes}
+use Rattle.stage_lists.specs.Format.{encodeStage}
+use Rattle.places.specs.Records.{countOf}
+use Rattle.stage_lists.specs.declared.types.PrimitiveIndex.the-variants as Index
 use Rattle.interface.specs.Meaning.{EntryPoint}
 use Rattle.interface.specs.Format.{Decoded, Torn, Misfiled, Pack, decode, stageCode}
 use Rattle.stage.specs.Meaning.{codes, lent, Call, call, Outcome}

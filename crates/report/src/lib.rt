@@ -11,7 +11,7 @@ use crate::run::run_entries;
 use crate::text::push_hex_lines;
 use crate::text::push_line;
 use crate::words::words_of;
-use interface::check_pack::check_pack;
+use pack_check::check_pack::check_pack;
 use word::answer::Answer;
 use word::index;
 

@@ -5,11 +5,11 @@ ghost use Prim.Native.Nat.{_+_, _*_, _<_, _≤_};
 ghost use lib.ListN.{length, take, drop};
 ghost use Rattle.word.specs.Words.{bits};
 ghost use Rattle.interface.specs.Format.{bytesOf};
-ghost use Rattle.interface.specs.Reads.{nameAt};
-ghost use Rattle.interface.specs.Parts.{workgroupAt};
+ghost use Rattle.interface.specs.inner.Reads.{nameAt};
+ghost use Rattle.interface.specs.inner.Parts.{workgroupAt};
 ghost use Rattle.report.specs.Written.{Wrote};
 use crate::text::push_byte;
-use interface::names::name_count;
+use entry_points::names::name_count;
 use interface::parts::name_words;
 use word::word;
 

@@ -12,34 +12,36 @@ use Rattle.word.specs.Answers.{refused}
 use Rattle.word.specs.declared.answer.Answer.{Answer}
 use Rattle.word.proofs.Tests.{yes-true, yes-false}
 use Rattle.word.proofs.Truth.{first, second}
-use Rattle.lists.specs.Layouts.{Layout}
-use Rattle.lists.specs.Sizes.{Sizes}
+use Rattle.layouts.specs.Meaning.{Layout}
+use Rattle.sizes.specs.Meaning.{Sizes}
 use Rattle.word.specs.Lists.{every}
-use Rattle.lists.specs.LayoutFormat.{layoutFiled}
-use Rattle.lists.specs.SizeFormat.{sizesFiled}
-use Rattle.lists.specs.StageListFormat.{outFiled}
+use Rattle.layouts.specs.Format.{layoutFiled}
+use Rattle.sizes.specs.Format.{sizesFiled}
+use Rattle.stage_lists.specs.Format.{outFiled}
 use Rattle.interface.specs.Meaning.{EntryPoint, Interface}
 use Rattle.interface.specs.Format.{decode, decodedNumber, stageAt, contents, pairsOf}
-use Rattle.interface.specs.Reads.{interfaceOf, entryNth, standing}
-use Rattle.interface.specs.Parts.{Placed, Offsets}
-use Rattle.interface.specs.Rules.{chosenIn, findEntryPoint}
-use Rattle.interface.specs.declared.choose.Chosen.{Chosen}
-use Rattle.interface.specs.declared.choose.Chosen.the-variants as Ch
+use Rattle.interface.specs.inner.Reads.{interfaceOf, entryNth, standing}
+use Rattle.interface.specs.inner.Parts.{Placed, Offsets}
+use Rattle.entry_points.specs.Rules.{chosenIn, findEntryPoint}
+use Rattle.entry_points.specs.declared.choose.Chosen.{Chosen}
+use Rattle.entry_points.specs.declared.choose.Chosen.the-variants as Ch
 use Rattle.interface.specs.declared.types.EntryParts.{EntryParts}
 use Rattle.interface.specs.declared.types.ShaderStage.{ShaderStage}
-use Rattle.stage_steps.specs.Interfaces.{summaryOf}
-use Rattle.stage_steps.specs.Given.{Summed}
-use Rattle.stage_steps.specs.ListOut.{outputHeld}
-use Rattle.stage_steps.specs.declared.types.Request.{Request}
-use Rattle.stage_steps.specs.declared.types.Summary.{Summary}
+use Rattle.output_steps.specs.inner.Summary.{summaryOf}
+use Rattle.output_steps.specs.inner.Given.{Summed}
+use Rattle.output_steps.specs.inner.ListOut.{outputHeld}
+use Rattle.output_steps.specs.declared.types.Request.{Request}
+use Rattle.output_steps.specs.declared.types.Summary.{Summary}
 use Rattle.stage.specs.declared.types.Codes.{Codes}
-use Rattle.stage.specs.Meaning.{Lent, Call, Outcome, outcome, state}
-use Rattle.stage.specs.Resources.{provideResult, provideSteps, deriveResult, deriveSteps, resourceSteps}
-use Rattle.stage.specs.Given.{resourceTable, eachHeld, eachBelow, Named, Given}
-use Rattle.stage.specs.Judging.{bindingSteps}
+use Rattle.stage.specs.Meaning.{Lent, Call, Outcome, outcome}
+use Rattle.resource_steps.specs.Meaning.{state}
+use Rattle.resource_steps.specs.Resources.{provideResult, provideSteps, deriveResult, deriveSteps, resourceSteps}
+use Rattle.resource_steps.specs.inner.Given.{resourceTable, eachHeld, eachBelow}
+use Rattle.stage.specs.inner.Given.{Named, Given}
+use Rattle.stage.specs.inner.Judging.{bindingSteps}
 use Rattle.stage.specs.Stage.{pairStep, listsGood, requestOf, derivedOf, outWords, runBody, onEntryPoint, onChosen, onNamed}
 use Rattle.stage.proofs.JudgeLaws.{pairs-standing}
-use Rattle.stage.proofs.ResourceParts.{counted}
+use Rattle.resource_steps.proofs.ResourceParts.{counted}
 use Rattle.stage.proofs.GivenLaws.{given-held, given-below, given-pairs, given-outputs}
 
 -- ---- the resources of an entry point that stands at positions

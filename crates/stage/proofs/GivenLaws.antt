@@ -7,23 +7,23 @@ use mathlib.Core.List.{List}
 use borrow.Author.Tests.{lt-ltb}
 use lib.ListN.{length}
 use Rattle.word.specs.Lists.{every}
-use Rattle.resource.specs.Format.{resourceHeld}
-use Rattle.resource.specs.declared.types.Resource.{Resource}
+use Rattle.bindings.specs.Format.{resourceHeld}
+use Rattle.bindings.specs.declared.types.Resource.{Resource}
 use Rattle.word.proofs.Truth.{first, second}
 use Rattle.word.proofs.Lists.{every-as}
 use Rattle.interface.specs.Meaning.{EntryPoint, Interface}
 use Rattle.interface.specs.Format.{Decoded, Torn, Misfiled, Pack, decode, decodedNumber, isTexture, isSampler, ofType, pairGood}
 use Rattle.interface.specs.Held.{varyingHeld}
-use Rattle.interface.specs.Reads.{entryNth, interfaceOf}
+use Rattle.interface.specs.inner.Reads.{entryNth, interfaceOf}
 use Rattle.interface.specs.declared.types.SamplingPair.{SamplingPair}
 use Rattle.interface.specs.declared.types.Varying.{Varying}
 use Rattle.interface.specs.declared.types.Varying.the-variants as Var
 use Rattle.interface.proofs.EncodeEntry.{type-below}
 use Rattle.interface.proofs.Packs.{GivenParts, resources-given, entry-given}
-use Rattle.stage_steps.specs.ListOut.{outputHeld}
-use Rattle.stage.specs.Given.{eachHeld, eachBelow, pairBelow, pairsBelow}
-use Rattle.stage.specs.Resources.{resourceNth}
-use Rattle.stage.proofs.ResourceParts.{listed-held}
+use Rattle.output_steps.specs.inner.ListOut.{outputHeld}
+use Rattle.resource_steps.specs.inner.Given.{eachHeld, eachBelow, pairBelow, pairsBelow}
+use Rattle.resource_steps.specs.Resources.{resourceNth}
+use Rattle.resource_steps.proofs.ResourceParts.{listed-held}
 
 pair-in : (resources : List Resource) (listed : List ℕ) (p : SamplingPair) → pairGood resources listed p ≡ true → pairBelow (length resources) p ≡ true
 pair-in resources listed p h =

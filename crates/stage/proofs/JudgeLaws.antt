@@ -9,19 +9,19 @@ use lib.ListN.{drop, take, length}
 use Rattle.word.specs.Choice.{pick}
 use Rattle.word.proofs.Tests.{yes-true, yes-false}
 use Rattle.word.specs.Words.{wordAt, contentOf, bits}
-use Rattle.word.specs.Answers.{accepted}
+use Rattle.word.specs.Answers.{accepted, both}
 use Rattle.word.specs.declared.answer.Answer.{Answer}
-use Rattle.resource.specs.declared.types.Resource.{Resource}
+use Rattle.bindings.specs.declared.types.Resource.{Resource}
 use Rattle.varying.specs.Format.{payloadOf}
 use Rattle.varying.specs.declared.Payload.{Payload}
-use Rattle.lists.specs.Layouts.{Layout}
-use Rattle.lists.specs.StageLists.{StageIo}
-use Rattle.lists.specs.declared.stage_types.PrimitiveIndex.{PrimitiveIndex}
-use Rattle.lists.specs.StageListFormat.{encodeStage}
+use Rattle.layouts.specs.Meaning.{Layout}
+use Rattle.stage_lists.specs.Meaning.{StageIo}
+use Rattle.stage_lists.specs.declared.types.PrimitiveIndex.{PrimitiveIndex}
+use Rattle.stage_lists.specs.Format.{encodeStage}
 use Rattle.interface.specs.Meaning.{EntryPoint, Interface}
 use Rattle.interface.specs.Format.{topologyAt, pairsOf}
-use Rattle.interface.specs.Reads.{standing, varyings}
-use Rattle.interface.specs.Parts.{Placed, varyingsEnd}
+use Rattle.interface.specs.inner.Reads.{standing, varyings}
+use Rattle.interface.specs.inner.Parts.{Placed, varyingsEnd}
 use Rattle.interface.specs.declared.types.ShaderStage.{ShaderStage}
 use Rattle.interface.specs.declared.types.MeshRecord.{MeshRecord}
 use Rattle.interface.specs.declared.types.MeshRecord.the-variants as Mesh
@@ -29,14 +29,18 @@ use Rattle.interface.specs.declared.types.PrimitiveTopology.{PrimitiveTopology}
 use Rattle.interface.specs.declared.types.WorkgroupSize.{WorkgroupSize}
 use Rattle.interface.specs.declared.types.EntryParts.{EntryParts}
 use Rattle.interface.specs.declared.types.Limits.{Limits}
-use Rattle.stage_steps.specs.Meaning.{both}
-use Rattle.stage_steps.specs.declared.types.Request.{Request}
-use Rattle.stage_steps.specs.Interfaces.{workgroupStep, placesStep, lastUses, lastStep, inputSteps, startWalk, walked, stageOut}
-use Rattle.stage_steps.specs.declared.types.InputWalk.{InputWalk}
-use Rattle.stage_steps.specs.declared.types.Walked.{Walked}
-use Rattle.stage.specs.Resources.{pairUses}
-use Rattle.stage.specs.Given.{resourceTable, pairsBelow, Given}
-use Rattle.stage.specs.Judging.{judgedInputs, stopAt, judged}
+use Rattle.output_steps.specs.declared.types.Request.{Request}
+use Rattle.input_steps.specs.Workgroup.{workgroupStep}
+use Rattle.output_steps.specs.Outputs.{placesStep}
+use Rattle.output_steps.specs.Last.{lastUses, lastStep}
+use Rattle.input_steps.specs.Inputs.{inputSteps, startWalk, walked}
+use Rattle.output_steps.specs.ListOut.{stageOut}
+use Rattle.input_steps.specs.declared.types.InputWalk.{InputWalk}
+use Rattle.input_steps.specs.declared.types.Walked.{Walked}
+use Rattle.resource_steps.specs.Resources.{pairUses}
+use Rattle.resource_steps.specs.inner.Given.{resourceTable, pairsBelow}
+use Rattle.stage.specs.inner.Given.{Given}
+use Rattle.stage.specs.inner.Judging.{judgedInputs, stopAt, judged}
 use Rattle.stage.specs.Stage.{pairStep, inputWalk, behindInputs, behindPairs, handedOut}
 
 module _ (q : Request) (l : Limits) (e : EntryPoint) (inputs : StageIo) (w : InputWalk) (a : Answer) (k : Limits) (ek : k ≡ l) (ea : a ≡ placesStep (q .stage) q k e (w .locals)) where

@@ -1,12 +1,4 @@
-pub mod ResourceParts
-pub mod ResourceLaws
-pub mod ResourceWalk
-pub mod ProvideLaws
-pub mod DeriveLaws
-pub mod PairLaws
 pub mod GivenLaws
 pub mod JudgeLaws
 pub mod RunLaws
 pub mod CheckLaws
-pub mod Numbers
-pub mod Demand1

@@ -6,26 +6,26 @@ use mathlib.Core.List.{List}
 use native.Mathlib.Omega.{arith}
 use borrow.Author.Tests.{eq-eqb, ne-eqb}
 use Rattle.word.specs.declared.answer.Answer.{Answer}
-use Rattle.word.specs.Answers.{refused}
+use Rattle.word.specs.Answers.{refused, both}
 use Rattle.word.proofs.Truth.{by-test}
-use Rattle.lists.specs.Layouts.{Layout}
-use Rattle.lists.specs.Sizes.{Sizes}
-use Rattle.lists.specs.StageLists.{StageIo}
+use Rattle.layouts.specs.Meaning.{Layout}
+use Rattle.sizes.specs.Meaning.{Sizes}
+use Rattle.stage_lists.specs.Meaning.{StageIo}
 use lib.Dec.{eqb}
-use Rattle.stage_steps.specs.Meaning.{both}
-use Rattle.lists.specs.LayoutFormat.{layoutFiled, decodeLayout}
-use Rattle.lists.specs.SizeFormat.{sizesFiled, decodeSizes}
-use Rattle.lists.specs.StageListFormat.{decodeStage}
-use Rattle.lists.proofs.LayoutLists as layouts
-use Rattle.lists.proofs.SizeLists as sizes
+use Rattle.layouts.specs.Format.{layoutFiled, decodeLayout}
+use Rattle.sizes.specs.Format.{sizesFiled, decodeSizes}
+use Rattle.stage_lists.specs.Format.{decodeStage}
+use Rattle.layouts.proofs.LayoutLists as layouts
+use Rattle.sizes.proofs.SizeLists as sizes
 use Rattle.interface.specs.Meaning.{EntryPoint, Interface}
 use Rattle.interface.specs.Format.{Decoded, Torn, Misfiled, Pack, decode, decodedNumber}
-use Rattle.interface.specs.Reads.{interfaceOf}
-use Rattle.stage_steps.specs.declared.types.Request.{Request}
+use Rattle.interface.specs.inner.Reads.{interfaceOf}
+use Rattle.output_steps.specs.declared.types.Request.{Request}
 use Rattle.stage.specs.declared.types.Codes.{Codes}
-use Rattle.stage.specs.Meaning.{Lent, lent, Call, call, Outcome, outcome, State, state, andThen}
-use Rattle.stage.specs.Resources.{resourceSteps}
-use Rattle.stage.specs.Judging.{bindingSteps}
+use Rattle.stage.specs.Meaning.{Lent, lent, Call, call, Outcome, outcome, andThen}
+use Rattle.resource_steps.specs.Meaning.{State, state}
+use Rattle.resource_steps.specs.Resources.{resourceSteps}
+use Rattle.stage.specs.inner.Judging.{bindingSteps}
 use Rattle.stage.specs.Stage.{pairStep, inputWalk, behindPairs, judgement, stageBody, listsGood, codesGood, callGood, unchanged, handedOut, finish, runBody, onNamed, onDecoded, checkStage}
 
 -- ---- the body

@@ -1,6 +1,3 @@
 pub mod Meaning
-pub mod Resources
 pub mod Stage
-pub mod Given
-pub mod Judging
-pub mod Table
+pub mod inner

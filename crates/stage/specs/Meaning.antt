@@ -4,9 +4,10 @@ use mathlib.Core.List.{List}
 use lib.Dec.{eqb}
 use Rattle.word.specs.Choice.{pick}
 use Rattle.word.specs.declared.answer.Answer.{Answer}
-use Rattle.lists.specs.Layouts.{Layout}
-use Rattle.lists.specs.Sizes.{Sizes}
+use Rattle.layouts.specs.Meaning.{Layout}
+use Rattle.sizes.specs.Meaning.{Sizes}
 use Rattle.stage.specs.declared.types.Codes.{Codes}
+use Rattle.resource_steps.specs.Meaning.{State}
 
 -- the numbers of a call by themselves
 abbrev pub codes : ℕ → ℕ → ℕ → ℕ → ℕ → Codes
@@ -42,15 +43,6 @@ pub record Outcome : Type 0 where
 
 abbrev pub outcome : Answer → List ℕ → List ℕ → List ℕ → Outcome
 outcome a l s o = record { answer = a; layout = l; sizes = s; out = o }
-
--- an answer, and the layout and sizes with what the steps so far recorded
-pub record State : Type 0 where
-  pub answer : Answer
-  pub layout : Layout
-  pub sizes : Sizes
-
-abbrev pub state : Answer → Layout → Sizes → State
-state a L S = record { answer = a; layout = L; sizes = S }
 
 -- 'first failure ending it': a second step where the first accepted
 abbrev pub andThen : State → (Layout → Sizes → State) → State

@@ -5,30 +5,34 @@ use mathlib.Core.List.{List}
 use lib.Dec.{eqb, ltb}
 use lib.ListN.{length}
 use Rattle.word.specs.Choice.{pick, yes}
-use Rattle.word.specs.Answers.{answer, accepted, refused}
+use Rattle.word.specs.Answers.{answer, accepted, refused, both}
 use Rattle.word.specs.declared.answer.Answer.{Answer}
-use Rattle.resource.specs.declared.types.Resource.{Resource}
-use Rattle.lists.specs.Layouts.{Layout}
-use Rattle.lists.specs.Sizes.{Sizes}
-use Rattle.lists.specs.StageLists.{StageIo}
-use Rattle.lists.specs.LayoutFormat.{layoutFiled, decodeLayout, encodeLayout}
-use Rattle.lists.specs.SizeFormat.{sizesFiled, decodeSizes, encodeSizes}
-use Rattle.lists.specs.StageListFormat.{stageFiled, decodeStage, encodeStage}
+use Rattle.bindings.specs.declared.types.Resource.{Resource}
+use Rattle.layouts.specs.Meaning.{Layout}
+use Rattle.sizes.specs.Meaning.{Sizes}
+use Rattle.stage_lists.specs.Meaning.{StageIo}
+use Rattle.layouts.specs.Format.{layoutFiled, decodeLayout, encodeLayout}
+use Rattle.sizes.specs.Format.{sizesFiled, decodeSizes, encodeSizes}
+use Rattle.stage_lists.specs.Format.{stageFiled, decodeStage, encodeStage}
 use Rattle.interface.specs.Meaning.{EntryPoint, Interface}
 use Rattle.interface.specs.Format.{Decoded, Torn, Misfiled, Pack, decode, stageAt}
-use Rattle.interface.specs.Reads.{entryNth}
-use Rattle.interface.specs.Rules.{findEntryPoint}
+use Rattle.interface.specs.inner.Reads.{entryNth}
+use Rattle.entry_points.specs.Rules.{findEntryPoint}
 use Rattle.interface.specs.declared.types.ShaderStage.{ShaderStage}
 use Rattle.interface.specs.declared.types.Limits.{Limits}
-use Rattle.interface.specs.declared.choose.Chosen.{Chosen}
-use Rattle.interface.specs.declared.choose.Chosen.the-variants as Ch
-use Rattle.stage_steps.specs.Meaning.{both}
-use Rattle.stage_steps.specs.Interfaces.{workgroupStep, inputSteps, startWalk, placesStep, lastStep, stageOut, localCount}
-use Rattle.stage_steps.specs.declared.types.Request.{Request}
-use Rattle.stage_steps.specs.declared.types.InputWalk.{InputWalk}
-use Rattle.stage_steps.specs.declared.types.Walked.{Walked}
-use Rattle.stage.specs.Meaning.{Lent, Call, Outcome, outcome, State, state, andThen}
-use Rattle.stage.specs.Resources.{resourceSteps, pairUses}
+use Rattle.entry_points.specs.declared.choose.Chosen.{Chosen}
+use Rattle.entry_points.specs.declared.choose.Chosen.the-variants as Ch
+use Rattle.input_steps.specs.Workgroup.{workgroupStep}
+use Rattle.input_steps.specs.Inputs.{inputSteps, startWalk}
+use Rattle.output_steps.specs.Outputs.{placesStep, localCount}
+use Rattle.output_steps.specs.Last.{lastStep}
+use Rattle.output_steps.specs.ListOut.{stageOut}
+use Rattle.output_steps.specs.declared.types.Request.{Request}
+use Rattle.input_steps.specs.declared.types.InputWalk.{InputWalk}
+use Rattle.input_steps.specs.declared.types.Walked.{Walked}
+use Rattle.stage.specs.Meaning.{Lent, Call, Outcome, outcome, andThen}
+use Rattle.resource_steps.specs.Meaning.{State, state}
+use Rattle.resource_steps.specs.Resources.{resourceSteps, pairUses}
 use Rattle.stage.specs.declared.types.Codes.{Codes}
 
 -- ---- the steps behind the resources: they alter no list

@@ -2,17 +2,21 @@
 ghost use mathlib.Core.Path.{_≡_};
 ghost use mathlib.Core.Bool.{true, false};
 ghost use Prim.Native.Nat.{_+_};
-ghost use Rattle.lists.specs.LayoutFormat.{layoutFiled, decodeLayout};
-ghost use Rattle.lists.specs.StageListFormat.{outFiled, decodeStage};
+ghost use Rattle.layouts.specs.Format.{layoutFiled, decodeLayout};
+ghost use Rattle.stage_lists.specs.Format.{outFiled, decodeStage};
 ghost use Rattle.interface.specs.Format.{decode, decodedNumber};
-ghost use Rattle.interface.specs.Reads.{interfaceOf, standing};
-ghost use Rattle.interface.specs.Parts.{Placed};
-ghost use Rattle.stage_steps.specs.Given.{Summed};
-ghost use Rattle.stage_steps.specs.Interfaces.{workgroupStep, walked, startWalk};
-ghost use Rattle.stage.specs.Given.{Given};
-ghost use Rattle.stage.specs.Judging.{judgedInputs, judged};
+ghost use Rattle.interface.specs.inner.Reads.{interfaceOf, standing};
+ghost use Rattle.interface.specs.inner.Parts.{Placed};
+ghost use Rattle.output_steps.specs.inner.Given.{Summed};
+ghost use Rattle.input_steps.specs.Workgroup.{workgroupStep};
+ghost use Rattle.input_steps.specs.Inputs.{walked, startWalk};
+ghost use Rattle.stage.specs.inner.Given.{Given};
+ghost use Rattle.stage.specs.inner.Judging.{judgedInputs, judged};
 ghost use Rattle.stage.specs.Stage.{pairStep, behindInputs};
-use crate::pairs::pair_uses;
+use input_steps::inputs::input_steps;
+use input_steps::types::InputWalk;
+use input_steps::types::Walked;
+use input_steps::workgroup::workgroup_step;
 use interface::parts::inputs_counted;
 use interface::parts::pairs_counted;
 use interface::reads::limits;
@@ -22,14 +26,11 @@ use interface::types::EntryPointMeshInfo;
 use interface::types::MeshRecord;
 use interface::types::ShaderStage;
 use interface::types::WorkgroupSize;
-use stage_steps::inputs::input_steps;
-use stage_steps::last::last_step;
-use stage_steps::outputs::places_step;
-use stage_steps::types::InputWalk;
-use stage_steps::types::Request;
-use stage_steps::types::Summary;
-use stage_steps::types::Walked;
-use stage_steps::workgroup::workgroup_step;
+use output_steps::last::last_step;
+use output_steps::outputs::places_step;
+use output_steps::types::Request;
+use output_steps::types::Summary;
+use resource_steps::pairs::pair_uses;
 use varying::Payload;
 use word::answer::Answer;
 use word::content;
@@ -93,8 +94,8 @@ fn after_inputs(
     }
     let mesh = mesh_of(pack, parts);
     let payload = payload_of(pack, parts);
-    let input = lists::stage_io::payload(inputs);
-    let written = lists::stage_io::primitive_index(inputs);
+    let input = stage_lists::stage_io::payload(inputs);
+    let written = stage_lists::stage_io::primitive_index(inputs);
     last_step(request, limits(pack), mesh, payload, input, written, walk)
 }
 

@@ -1,5 +1,4 @@
 // What a stage check is given, and what its steps come to.
-use word::answer::Answer;
 
 // The numbers of a call.
 pub struct Codes {
@@ -8,10 +7,4 @@ pub struct Codes {
     pub mode: u32,
     pub dual_source: u32,
     pub depth: u32,
-}
-
-// Resources in list order, up to the first that is refused: the answer, and how many passed.
-pub struct Checked {
-    pub answer: Answer,
-    pub passed: u32,
 }

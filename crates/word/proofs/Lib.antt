@@ -4,3 +4,4 @@ pub mod Lists
 pub mod Sums
 pub mod Parse
 pub mod ParseReads
+pub mod Both

@@ -1,9 +1,9 @@
 // Words of 32 bits: a total read, the kind and the content of a word, the closing sum, and the answer of a check.
+pub mod answer;
+
 ghost use mathlib.Core.Path.{_≡_};
 ghost use Prim.Native.Nat.{_<_, _^_};
 ghost use Rattle.word.specs.Words.{wordAt, kindOf, contentOf, closingSum};
-
-pub mod answer;
 
 // The word at a position, 0 past the end.
 pub fn word(s: &[u32], at: usize) -> u32

@@ -1,7 +1,7 @@
 use Rattle.interface.proofs.ReadsParts.{end-begins, end-onward, end-ended}
 use Prim.Native.Nat.{_+_, _*_, _≤_}
 use mathlib.Core.Path.{_≡_}
-use Rattle.interface.specs.Parts.{entriesAt, endFrom, resourceEnd}
+use Rattle.interface.specs.inner.Parts.{entriesAt, endFrom, resourceEnd}
 use borrow.Author.Needs.{needs}
 use Rattle.interface.proofs.parts.entries_at.Statement.{statement}
 use Rattle.interface.proofs.parts.entries_at.Tie as tie

@@ -2,7 +2,7 @@ use Rattle.interface.proofs.ReadsParts.{varyings-start, next-inside, va
 use Prim.Native.Nat.{_<_}
 use mathlib.Core.Path.{_≡_}
 use lib.ListN.{length}
-use Rattle.interface.specs.Parts.{varyingsEnd}
+use Rattle.interface.specs.inner.Parts.{varyingsEnd}
 use borrow.Author.Needs.{needs}
 use Rattle.interface.proofs.parts.varyings_end.Statement.{statement}
 use Rattle.interface.proofs.parts.varyings_end.Tie as tie

@@ -3,8 +3,8 @@ use mathlib.Core.Path.{_≡_}
 use mathlib.Core.List.{[]}
 use lib.ListN.{length, take, drop}
 use Rattle.interface.specs.Format.{decode}
-use Rattle.interface.specs.Reads.{interfaceOf}
-use Rattle.interface.specs.Parts.{endFrom, entryEnd}
+use Rattle.interface.specs.inner.Reads.{interfaceOf}
+use Rattle.interface.specs.inner.Parts.{endFrom, entryEnd}
 use Rattle.interface.proofs.ReadsParts.{left-of, entries-begin, ends-begin, short-pack, ends-onward, entry-within, head-within, name-within}
 use Rattle.report.specs.Report.{ran, runEntries}
 use Rattle.report.proofs.Running.{run-begin, run-onward, run-ended, behind-onward}

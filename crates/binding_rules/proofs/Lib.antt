@@ -1,0 +1,4 @@
+pub mod AnswerLaws
+pub mod DeriveLaws
+pub mod Examples
+pub mod UseLaws

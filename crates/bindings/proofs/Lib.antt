@@ -1,0 +1,11 @@
+pub mod ResourceLaws
+pub mod CodeLaws
+pub mod EntryLaws
+pub mod ReadLaws
+pub mod HandBack
+pub mod EntryFormat
+pub mod ResourceFormat
+pub mod SameBinding
+pub mod WordLaws
+pub mod WordTextures
+pub mod WordUses

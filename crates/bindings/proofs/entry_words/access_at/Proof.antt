@@ -1,0 +1,12 @@
+use Rattle.word.proofs.Tests.{tests}
+use Rattle.bindings.proofs.entry_words.access_at.Statement.{statement}
+use Rattle.bindings.proofs.entry_words.access_at.Tie as tie
+
+pub access-at-spec : {M : Type 1} → statement M
+access-at-spec =
+    tie.close
+    (tie.spec
+    (λ c. search tests)  -- returns
+    (λ c. search tests)  -- returns-2
+    (λ c. search tests)  -- returns-3
+    (λ c. search tests))  -- returns-4

@@ -1,0 +1,13 @@
+use Rattle.bindings.proofs.WordTextures.{external-number, external-view}
+use borrow.Author.Needs.{needs}
+use Rattle.bindings.proofs.word_textures.external_number.Statement.{statement}
+use Rattle.bindings.proofs.word_textures.external_number.Tie as tie
+
+pub external-number-spec : {M : Type 1} → statement M
+external-number-spec =
+    tie.close
+    (tie.spec
+    (λ c κs. search needs)  -- view-fits-requires
+    (λ c κs. search needs)  -- class-number-requires
+    (λ c. search external-number)  -- returns
+    (λ c. search external-view))  -- returns-2

@@ -1,0 +1,264 @@
+-- When a layout entry serves a shader's resource, and the entry that a resource asks for
+-- (WebGPU, 'validating shader binding' and 'default pipeline layout'; document 01, refusals 22 to 30).
+use Prim.Native.Nat.{ℕ}
+use mathlib.Core.Bool.{Bool, true, false, not, _&&_, _||_}
+use lib.Dec.{eqb, ltb}
+use Rattle.word.specs.Choice.{pick, yes}
+use Rattle.bindings.specs.declared.types.AddressSpace.{AddressSpace}
+use Rattle.bindings.specs.declared.types.AddressSpace.the-variants as Space
+use Rattle.bindings.specs.declared.types.ImageDimension.{ImageDimension}
+use Rattle.bindings.specs.declared.types.ImageDimension.the-variants as Dim
+use Rattle.bindings.specs.declared.types.SampleKind.{SampleKind}
+use Rattle.bindings.specs.declared.types.SampleKind.the-variants as Kind
+use Rattle.bindings.specs.declared.types.ImageClass.{ImageClass}
+use Rattle.bindings.specs.declared.types.ImageClass.the-variants as Class
+use Rattle.bindings.specs.declared.types.ResourceType.{ResourceType}
+use Rattle.bindings.specs.declared.types.ResourceType.the-variants as Res
+use Rattle.bindings.specs.declared.types.BufferBindingType.{BufferBindingType}
+use Rattle.bindings.specs.declared.types.BufferBindingType.the-variants as Buf
+use Rattle.bindings.specs.declared.types.SamplerBindingType.{SamplerBindingType}
+use Rattle.bindings.specs.declared.types.SamplerBindingType.the-variants as Samp
+use Rattle.bindings.specs.declared.types.TextureSampleType.{TextureSampleType}
+use Rattle.bindings.specs.declared.types.TextureSampleType.the-variants as Sample
+use Rattle.bindings.specs.declared.types.TextureViewDimension.{TextureViewDimension}
+use Rattle.bindings.specs.declared.types.TextureViewDimension.the-variants as View
+use Rattle.bindings.specs.declared.types.StorageTextureAccess.{StorageTextureAccess}
+use Rattle.bindings.specs.declared.types.StorageTextureAccess.the-variants as Acc
+use Rattle.bindings.specs.declared.types.BindingType.{BindingType}
+use Rattle.bindings.specs.declared.types.BindingType.the-variants as Bind
+use Rattle.bindings.specs.declared.types.BindingUse.{BindingUse}
+use Rattle.bindings.specs.declared.types.BindingUse.the-variants as Use
+use Rattle.bindings.specs.declared.types.Derived.{Derived}
+use Rattle.bindings.specs.declared.types.Derived.the-variants as Der
+
+-- ---- numbers of the enums that are compared (document 01's codes)
+
+abbrev pub kindCode : SampleKind → ℕ
+kindCode Kind.Float = 0
+kindCode Kind.Sint = 1
+kindCode Kind.Uint = 2
+
+abbrev pub viewCode : TextureViewDimension → ℕ
+viewCode View.D1 = 0
+viewCode View.D2 = 1
+viewCode View.D2Array = 2
+viewCode View.Cube = 3
+viewCode View.CubeArray = 4
+viewCode View.D3 = 5
+
+-- 'Access is 1 load, 2 store, 4 atomic, summed': an atomic entry is compared with all three
+abbrev pub accessOf : StorageTextureAccess → ℕ
+accessOf Acc.ReadOnly = 1
+accessOf Acc.WriteOnly = 2
+accessOf Acc.ReadWrite = 3
+accessOf Acc.Atomic = 7
+
+abbrev pub sameBool : Bool → Bool → Bool
+sameBool a b = pick (yes a) b (not b)
+
+-- 'Storable: 0–42 but not 28 and 31'
+abbrev pub storable : ℕ → Bool
+storable format = ltb format 43 && (not (eqb format 28) && not (eqb format 31))
+
+-- ---- buffers
+
+-- the address space that a buffer entry stands for: read-only storage is load, other storage load with store
+abbrev pub spaceOf : BufferBindingType → AddressSpace
+spaceOf Buf.Uniform = Space.Uniform
+spaceOf (Buf.Storage read-only) = Space.Storage (pick (yes read-only) 1 3)
+
+unfoldable pub sameSpace : AddressSpace → AddressSpace → Bool
+sameSpace Space.Uniform Space.Uniform = true
+sameSpace Space.Uniform (Space.Storage b) = false
+sameSpace Space.Uniform Space.Other = false
+sameSpace (Space.Storage a) Space.Uniform = false
+sameSpace (Space.Storage a) (Space.Storage b) = eqb a b
+sameSpace (Space.Storage a) Space.Other = false
+sameSpace Space.Other Space.Uniform = false
+sameSpace Space.Other (Space.Storage b) = false
+sameSpace Space.Other Space.Other = true
+
+-- a least size that is set and smaller than the shader's is 25
+abbrev pub sizeUse : ℕ → ℕ → BindingUse
+sizeUse size least = pick (eqb least 0) Use.Accepted (pick (ltb least size) Use.WrongBufferSize Use.Accepted)
+
+unfoldable pub bufferUse : ℕ → AddressSpace → BindingType → BindingUse
+bufferUse size space (Bind.Buffer ty dynamic least) = pick (sameSpace space (spaceOf ty)) (sizeUse size least) Use.WrongAddressSpace
+bufferUse size space (Bind.Sampler ty) = Use.WrongType
+bufferUse size space (Bind.Texture sample view multi) = Use.WrongType
+bufferUse size space (Bind.StorageTexture access format view) = Use.WrongType
+bufferUse size space Bind.ExternalTexture = Use.WrongType
+bufferUse size space (Bind.AccelerationStructure returns) = Use.WrongType
+
+-- ---- samplers
+
+abbrev pub comparing : SamplerBindingType → Bool
+comparing Samp.Filtering = false
+comparing Samp.NonFiltering = false
+comparing Samp.Comparison = true
+
+unfoldable pub samplerUse : Bool → BindingType → BindingUse
+samplerUse comparison (Bind.Sampler ty) = pick (sameBool comparison (comparing ty)) Use.Accepted Use.WrongSamplerComparison
+samplerUse comparison (Bind.Buffer ty dynamic least) = Use.WrongType
+samplerUse comparison (Bind.Texture sample view multi) = Use.WrongType
+samplerUse comparison (Bind.StorageTexture access format view) = Use.WrongType
+samplerUse comparison Bind.ExternalTexture = Use.WrongType
+samplerUse comparison (Bind.AccelerationStructure returns) = Use.WrongType
+
+-- ---- textures
+
+abbrev pub sameView : TextureViewDimension → TextureViewDimension → Bool
+sameView a b = eqb (viewCode a) (viewCode b)
+
+-- an arrayed texture is 2D or cube; 1D and 3D have no arrayed view
+unfoldable pub viewFits : ImageDimension → Bool → TextureViewDimension → Bool
+viewFits Dim.D1 arrayed view = pick (yes arrayed) false (sameView view View.D1)
+viewFits Dim.D2 arrayed view = pick (yes arrayed) (sameView view View.D2Array) (sameView view View.D2)
+viewFits Dim.D3 arrayed view = pick (yes arrayed) false (sameView view View.D3)
+viewFits Dim.Cube arrayed view = pick (yes arrayed) (sameView view View.CubeArray) (sameView view View.Cube)
+
+-- the class that a sampled entry stands for
+abbrev pub classOf : TextureSampleType → Bool → ImageClass
+classOf (Sample.Float filterable) multi = Class.Sampled Kind.Float multi
+classOf Sample.Depth multi = Class.Depth multi
+classOf Sample.Sint multi = Class.Sampled Kind.Sint multi
+classOf Sample.Uint multi = Class.Sampled Kind.Uint multi
+
+-- whether a shader's class is that of a sampled entry
+unfoldable pub sampledFits : ImageClass → ImageClass → Bool
+sampledFits (Class.Sampled kind multi) (Class.Sampled k m) = eqb (kindCode kind) (kindCode k) && sameBool multi m
+sampledFits (Class.Sampled kind multi) (Class.Depth m) = false
+sampledFits (Class.Sampled kind multi) (Class.Storage f a) = false
+sampledFits (Class.Sampled kind multi) Class.External = false
+sampledFits (Class.Depth multi) (Class.Sampled k m) = false
+sampledFits (Class.Depth multi) (Class.Depth m) = sameBool multi m
+sampledFits (Class.Depth multi) (Class.Storage f a) = false
+sampledFits (Class.Depth multi) Class.External = false
+sampledFits (Class.Storage format access) class = false
+sampledFits Class.External class = false
+
+-- formats are equal, and accesses too, or a store-only shader stands on an entry of load and store
+unfoldable pub storageFits : ImageClass → ℕ → ℕ → Bool
+storageFits (Class.Storage format access) f a = eqb format f && (eqb access a || (eqb access 2 && eqb a 3))
+storageFits (Class.Sampled kind multi) f a = false
+storageFits (Class.Depth multi) f a = false
+storageFits Class.External f a = false
+
+abbrev pub isExternal : ImageClass → Bool
+isExternal (Class.Sampled kind multi) = false
+isExternal (Class.Depth multi) = false
+isExternal (Class.Storage format access) = false
+isExternal Class.External = true
+
+abbrev pub classUse : Bool → BindingUse
+classUse fits = pick fits Use.Accepted Use.WrongTextureClass
+
+-- a texture on an entry that is none is 26, as is a view of another dimension; a format that can't be stored is 30; else the classes
+unfoldable pub textureUse : ImageDimension → Bool → ImageClass → BindingType → BindingUse
+textureUse dim arrayed class (Bind.Texture sample view multi) =
+    pick (viewFits dim arrayed view) (classUse (sampledFits class (classOf sample multi))) Use.WrongTextureViewDimension
+textureUse dim arrayed class (Bind.StorageTexture access format view) =
+    pick (viewFits dim arrayed view) (pick (storable format) (classUse (storageFits class format (accessOf access))) Use.BadStorageFormat)
+    Use.WrongTextureViewDimension
+textureUse dim arrayed class Bind.ExternalTexture =
+    pick (viewFits dim arrayed View.D2) (classUse (isExternal class)) Use.WrongTextureViewDimension
+textureUse dim arrayed class (Bind.Buffer ty dynamic least) = Use.WrongTextureViewDimension
+textureUse dim arrayed class (Bind.Sampler ty) = Use.WrongTextureViewDimension
+textureUse dim arrayed class (Bind.AccelerationStructure returns) = Use.WrongTextureViewDimension
+
+-- ---- any resource
+
+unfoldable pub accelerationUse : Bool → BindingType → BindingUse
+accelerationUse returns (Bind.AccelerationStructure r) = pick (sameBool returns r) Use.Accepted Use.WrongType
+accelerationUse returns (Bind.Buffer ty dynamic least) = Use.WrongType
+accelerationUse returns (Bind.Sampler ty) = Use.WrongType
+accelerationUse returns (Bind.Texture sample view multi) = Use.WrongType
+accelerationUse returns (Bind.StorageTexture access format view) = Use.WrongType
+accelerationUse returns Bind.ExternalTexture = Use.WrongType
+
+-- whether a layout entry serves a resource
+unfoldable pub checkBindingUse : ResourceType → BindingType → BindingUse
+checkBindingUse (Res.Buffer size space) entry = bufferUse size space entry
+checkBindingUse (Res.Sampler comparison) entry = samplerUse comparison entry
+checkBindingUse (Res.Texture dim arrayed class) entry = textureUse dim arrayed class entry
+checkBindingUse (Res.AccelerationStructure returns) entry = accelerationUse returns entry
+
+-- document 01's number of each answer
+abbrev pub useNumber : BindingUse → ℕ
+useNumber Use.Accepted = 0
+useNumber Use.WrongType = 22
+useNumber Use.WrongAddressSpace = 23
+useNumber Use.WrongBufferSize = 25
+useNumber Use.WrongTextureViewDimension = 26
+useNumber Use.WrongTextureClass = 27
+useNumber Use.WrongSamplerComparison = 28
+useNumber Use.BadStorageFormat = 30
+
+-- ---- deriving an entry's type
+
+abbrev pub derivedView : ImageDimension → Bool → TextureViewDimension
+derivedView Dim.D1 arrayed = View.D1
+derivedView Dim.D2 arrayed = pick (yes arrayed) View.D2Array View.D2
+derivedView Dim.D3 arrayed = View.D3
+derivedView Dim.Cube arrayed = pick (yes arrayed) View.CubeArray View.Cube
+
+-- a float texture is filterable where a pair of the entry point names it
+abbrev pub derivedSample : SampleKind → Bool → TextureSampleType
+derivedSample Kind.Float named = Sample.Float named
+derivedSample Kind.Sint named = Sample.Sint
+derivedSample Kind.Uint named = Sample.Uint
+
+-- load, store, both; any other access has atomic in it
+abbrev pub derivedAccess : ℕ → StorageTextureAccess
+derivedAccess access = pick (eqb access 1) Acc.ReadOnly (pick (eqb access 2) Acc.WriteOnly (pick (eqb access 3) Acc.ReadWrite Acc.Atomic))
+
+unfoldable pub derivedTexture : ImageClass → TextureViewDimension → Bool → BindingType
+derivedTexture (Class.Sampled kind multi) view named = Bind.Texture (derivedSample kind named) view multi
+derivedTexture (Class.Depth multi) view named = Bind.Texture Sample.Depth view multi
+derivedTexture (Class.Storage format access) view named = Bind.StorageTexture (derivedAccess access) format view
+derivedTexture Class.External view named = Bind.ExternalTexture
+
+-- storage of load alone is read-only; a space that is neither uniform nor storage is 24
+abbrev pub derivedBuffer : ℕ → AddressSpace → Derived
+derivedBuffer size Space.Uniform = Der.Binding (Bind.Buffer Buf.Uniform false size)
+derivedBuffer size (Space.Storage access) = Der.Binding (Bind.Buffer (Buf.Storage (eqb access 1)) false size)
+derivedBuffer size Space.Other = Der.WrongBufferAddressSpace
+
+unfoldable pub deriveBindingType : ResourceType → Bool → Derived
+deriveBindingType (Res.Buffer size space) named = derivedBuffer size space
+deriveBindingType (Res.Sampler comparison) named = Der.Binding (Bind.Sampler (pick (yes comparison) Samp.Comparison Samp.Filtering))
+deriveBindingType (Res.Texture dim arrayed class) named = Der.Binding (derivedTexture class (derivedView dim arrayed) named)
+deriveBindingType (Res.AccelerationStructure returns) named = Der.Binding (Bind.AccelerationStructure returns)
+
+-- ---- demand 3's conditions on a resource
+
+-- 'storage buffers are load or load with store, its arrayed textures 2D or cube, its external textures 2D and not arrayed,
+-- its atomic storage textures also load and store'
+abbrev pub spaceKept : AddressSpace → Bool
+spaceKept Space.Uniform = true
+spaceKept (Space.Storage access) = eqb access 1 || eqb access 3
+spaceKept Space.Other = true
+
+abbrev pub arrayKept : ImageDimension → Bool → Bool
+arrayKept Dim.D1 arrayed = not arrayed
+arrayKept Dim.D2 arrayed = true
+arrayKept Dim.D3 arrayed = not arrayed
+arrayKept Dim.Cube arrayed = true
+
+abbrev pub flat : ImageDimension → Bool → Bool
+flat Dim.D1 arrayed = false
+flat Dim.D2 arrayed = not arrayed
+flat Dim.D3 arrayed = false
+flat Dim.Cube arrayed = false
+
+abbrev pub classKept : ImageDimension → Bool → ImageClass → Bool
+classKept dim arrayed (Class.Sampled kind multi) = true
+classKept dim arrayed (Class.Depth multi) = true
+classKept dim arrayed (Class.Storage format access) = ltb access 4 || eqb access 7
+classKept dim arrayed Class.External = flat dim arrayed
+
+unfoldable pub handBack : ResourceType → Bool
+handBack (Res.Buffer size space) = spaceKept space
+handBack (Res.Sampler comparison) = true
+handBack (Res.Texture dim arrayed class) = arrayKept dim arrayed && classKept dim arrayed class
+handBack (Res.AccelerationStructure returns) = true

@@ -1,0 +1,65 @@
+-- A call: refused with its lists as they were, or come to its steps.
+use Prim.Native.Nat.{ℕ}
+use native.Mathlib.Omega.{arith}
+use mathlib.Core.Path.{_≡_, refl, ap}
+use mathlib.Core.Bool.{true, false}
+use lib.Dec.{ltb}
+use lib.ListN.{length}
+use Rattle.word.specs.Answers.{accepted}
+use Rattle.word.proofs.Truth.{by-test}
+use Rattle.interface.specs.Meaning.{EntryPoint, Interface}
+use Rattle.interface.specs.Format.{Decoded, Torn, Misfiled, Pack, decode}
+use Rattle.interface.specs.inner.Reads.{entryNth}
+use Rattle.entry_points.specs.Rules.{findEntryPoint}
+use Rattle.entry_points.specs.declared.choose.Chosen.{Chosen}
+use Rattle.entry_points.specs.declared.choose.Chosen.the-variants as Ch
+use Rattle.stage.specs.Meaning.{Call, Outcome}
+use Rattle.stage.specs.Stage.{callGood, requestOf, derivedOf, unchanged, outWords, runBody, onDecoded, onChosen, checkStage}
+
+-- the steps of a call
+abbrev pub runOf : Call → Interface → EntryPoint → Outcome
+runOf c i e = runBody (derivedOf (c .codes)) (requestOf (c .codes)) (c .lent) i e
+
+-- a call that comes to its steps
+pub record Runs (c : Call) : Type 0 where
+  pub interface : Interface
+  pub position : ℕ
+  pub decoded : decode (c .pack) ≡ Pack interface
+  pub good : callGood (c .lent) (c .codes) ≡ true
+  pub chosen : findEntryPoint (requestOf (c .codes) .stage) (c .name) (interface .entries) ≡ Ch.At position
+  pub room : ltb (length (c .lent .out)) (outWords (entryNth (interface .entries) position)) ≡ false
+
+pub runs-on : (c : Call) (b : Runs c) → checkStage c ≡ runOf c (b .interface) (entryNth (b .interface .entries) (b .position))
+unfolding checkStage
+runs-on c b = rw (b .decoded, b .good, b .chosen, b .room)
+
+module _ (P : Outcome → Type 0) (c : Call) (refusal : (n : ℕ) → (n ≡ 0 → ⊥) → P (unchanged (c .lent) n))
+    (steps : (b : Runs c) → P (runOf c (b .interface) (entryNth (b .interface .entries) (b .position)))) where
+  chosen-call : (i : Interface) → decode (c .pack) ≡ Pack i → callGood (c .lent) (c .codes) ≡ true → (x : Chosen)
+      → findEntryPoint (requestOf (c .codes) .stage) (c .name) (i .entries) ≡ x → P (onChosen (derivedOf (c .codes)) (requestOf (c .codes)) (c .lent) i x)
+  chosen-call i d g (Ch.At k) e =
+      by-test (ltb (length (c .lent .out)) (outWords (entryNth (i .entries) k)))
+      (λ t. rw t (refusal 4 (omega arith)))
+      (λ n. rw n (steps (record { interface = i; position = k; decoded = d; good = g; chosen = e; room = n })))
+  chosen-call i d g Ch.Absent e = refusal 10 (omega arith)
+  chosen-call i d g Ch.Several e = refusal 10 (omega arith)
+
+  decoded-call : (x : Decoded) → decode (c .pack) ≡ x → P (onDecoded c x)
+  decoded-call Torn d = refusal 1 (omega arith)
+  decoded-call Misfiled d = refusal 2 (omega arith)
+  decoded-call (Pack i) d =
+      by-test (callGood (c .lent) (c .codes))
+      (λ t. rw t (chosen-call i d t (findEntryPoint (requestOf (c .codes) .stage) (c .name) (i .entries)) refl))
+      (λ n. rw n (refusal 3 (omega arith)))
+
+  -- what holds of every refusal that changes nothing and of every call that comes to its steps holds of every call
+  pub by-call : P (checkStage c)
+  unfolding checkStage
+  by-call = decoded-call (decode (c .pack)) refl
+
+-- an accepted call came to its steps
+pub accepted-runs : (c : Call) → checkStage c .answer ≡ accepted → Runs c
+accepted-runs c =
+    by-call (λ o. o .answer ≡ accepted → Runs c) c
+    (λ n z e. absurd (z (ap (λ a. a .number) e)))
+    (λ b e. b)

@@ -1,0 +1,2 @@
+pub mod ReadsChoice
+pub mod ReadsNames

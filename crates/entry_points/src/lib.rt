@@ -1,0 +1,3 @@
+// entry_points
+pub mod choose;
+pub mod names;

@@ -1,0 +1,4 @@
+pub mod InputLaws
+pub mod LendLaws
+pub mod VaryingLaws
+pub mod WorkgroupLaws

@@ -1,0 +1,4 @@
+// input_steps
+pub mod inputs;
+pub mod types;
+pub mod workgroup;

@@ -1,0 +1,151 @@
+// A layout list: whether it is one, what it holds, a new entry, and a stage joined to one.
+ghost use mathlib.Core.Path.{_≡_};
+ghost use mathlib.Core.Bool.{true, false};
+ghost use Prim.Native.Nat.{_+_, _*_, _<_, _≤_};
+ghost use lib.ListN.{length, drop};
+ghost use Rattle.word.specs.Choice.{pick};
+ghost use Rattle.word.specs.Words.{wordAt};
+ghost use Rattle.bindings.specs.Format.{placeOf, entryFiled, entryOf};
+ghost use Rattle.layouts.specs.Meaning.{findEntry, entryHas, pushed, joined};
+ghost use Rattle.places.specs.Places.{foundBelow};
+ghost use Rattle.places.specs.Records.{fits, countOf, each};
+ghost use Rattle.layouts.specs.Format.{groupsOf, entryGood, entryFits, layoutHead, layoutFiled, decodeLayout, encodeLayout};
+use crate::visibility::join_bit;
+use bindings::entry_words::words_filed;
+use places::found::Found;
+use places::heads::counted;
+use places::places::distinct_places;
+use places::places::find_near;
+use places::places::find_within;
+use places::stores::store_four;
+use word::content;
+use word::word;
+
+fn layout_head(l: &[u32]) -> bool
+    ensures { λ r. ⌜ r ≡ layoutHead (now (l .entry)) ⌝ }
+{
+    let w = word(l, 0);
+    if w / 0x800_0000 != 17 {
+        return false;
+    }
+    if 8 < w / 0x1_0000 % 0x800 {
+        return false;
+    }
+    let n = (w % 0x1_0000) as usize;
+    1 + 4 * n <= l.len()
+}
+
+// Whether an entry stands at a position, with its group below the count.
+fn entry_good(l: &[u32], at: usize, groups: u32) -> bool
+    requires { ⌜ at + 4 ≤ length (now l) ⌝ }
+    ensures { λ r. ⌜ r ≡ entryGood groups (drop at (now (l .entry))) ⌝ }
+{
+    let place = l[at];
+    if words_filed(place, l[at + 1], l[at + 2], l[at + 3]) {
+        return place / 0x80_0000 % 16 < groups;
+    }
+    false
+}
+
+fn entries_good(l: &[u32]) -> bool
+    requires { ⌜ 1 + 4 * countOf (now l) ≤ length (now l) ⌝ }
+    ensures { λ r. ⌜ r ≡ each 4 (entryGood (groupsOf (now (l .entry)))) (countOf (now (l .entry))) (drop 1 (now (l .entry))) ⌝ }
+{
+    let bound = l[0] / 0x1_0000 % 0x800;
+    let mut at: usize = 1;
+    let mut left = counted(l);
+    while left != 0 {
+        if !entry_good(l, at, bound) {
+            return false;
+        }
+        at += 4;
+        left -= 1;
+    }
+    true
+}
+
+// Whether words are a layout list.
+pub fn layout_filed(l: &[u32]) -> bool
+    ensures { λ r. ⌜ r ≡ layoutFiled (now (l .entry)) ⌝ }
+{
+    if 1024 < l.len() {
+        return false;
+    }
+    if !layout_head(l) {
+        return false;
+    }
+    if !entries_good(l) {
+        return false;
+    }
+    distinct_places(l, 4)
+}
+
+pub fn group_count(l: &[u32]) -> u32
+    ensures { λ r. ⌜ r ≡ decodeLayout (now (l .entry)) .groups ⌝ }
+{
+    word(l, 0) / 0x1_0000 % 0x800
+}
+
+// The position of the entry at the place that a word tells.
+pub fn find_entry_word(l: &[u32], place: u32) -> Found
+    requires { ⌜ layoutFiled (now l) ≡ true ⌝ }
+    ensures { λ r. ⌜ r ≡ findEntry (placeOf place) (decodeLayout (now (l .entry))) ⌝ }
+    ensures { λ r. ⌜ foundBelow (length (decodeLayout (now (l .entry)) .entries)) r ≡ true ⌝ }
+{
+    find_within(l, 1, counted(l), 4, content(place))
+}
+
+// The same where a position is likely to have the entry: that one is tried first.
+pub fn find_entry_near(l: &[u32], place: u32, near: usize) -> Found
+    requires { ⌜ layoutFiled (now l) ≡ true ⌝ }
+    ensures { λ r. ⌜ r ≡ findEntry (placeOf place) (decodeLayout (now (l .entry))) ⌝ }
+    ensures { λ r. ⌜ foundBelow (length (decodeLayout (now (l .entry)) .entries)) r ≡ true ⌝ }
+{
+    find_near(l, counted(l), 4, content(place), near)
+}
+
+// One of the four words of the entry at a position.
+pub fn entry_word(l: &[u32], index: usize, k: usize) -> u32
+    requires { ⌜ layoutFiled (now l) ≡ true ⌝ }
+    requires { ⌜ (index < length (decodeLayout (now l) .entries)) × (k < 4) ⌝ }
+    ensures { λ r. ⌜ r ≡ wordAt (now (l .entry)) (1 + 4 * index + k) ⌝ }
+{
+    l[1 + 4 * index + k]
+}
+
+// A new entry of four words at the end, or nothing where the free room is too small.
+pub fn push_words(l: &mut [u32], place: u32, ty: u32, least: u32, visibility: u32) -> bool
+    requires { ⌜ layoutFiled (now l) ≡ true ⌝ }
+    requires { ⌜ entryFiled place ty least visibility ≡ true ⌝ }
+    requires { ⌜ entryFits (decodeLayout (now l) .groups) (entryOf place ty least visibility) ≡ true ⌝ }
+    requires { ⌜ entryHas (entryOf place ty least visibility .bind) (decodeLayout (now l) .entries) ≡ false ⌝ }
+    ensures { λ r. ⌜ r ≡ fits 4 (decodeLayout (now (l .entry)) .room) ⌝ }
+    ensures { λ r. ⌜ now (l .exit)
+        ≡ encodeLayout (pick r (pushed (decodeLayout (now (l .entry))) (entryOf place ty least visibility)) (decodeLayout (now (l .entry)))) ⌝ }
+    ensures { λ r. ⌜ decodeLayout (now (l .exit))
+        ≡ pick r (pushed (decodeLayout (now (l .entry))) (entryOf place ty least visibility)) (decodeLayout (now (l .entry))) ⌝ }
+    ensures { λ r. ⌜ layoutFiled (now (l .exit)) ≡ true ⌝ }
+{
+    let n = counted(l);
+    let at = 1 + 4 * n;
+    if l.len() < at + 4 {
+        return false;
+    }
+    let head = l[0];
+    store_four(l, at, place, ty, least, visibility);
+    l[0] = head + 1;
+    true
+}
+
+// A stage's bit joined to the visibility of the entry at a position.
+pub fn join_visibility(l: &mut [u32], index: usize, stage: u32)
+    requires { ⌜ layoutFiled (now l) ≡ true ⌝ }
+    requires { ⌜ (index < length (decodeLayout (now l) .entries)) × (stage ≤ 4) ⌝ }
+    ensures { λ _. ⌜ now (l .exit) ≡ encodeLayout (joined stage (decodeLayout (now (l .entry))) index) ⌝ }
+    ensures { λ _. ⌜ decodeLayout (now (l .exit)) ≡ joined stage (decodeLayout (now (l .entry))) index ⌝ }
+    ensures { λ _. ⌜ layoutFiled (now (l .exit)) ≡ true ⌝ }
+{
+    let at = 1 + 4 * index + 3;
+    let visibility = join_bit(content(word(l, at)), stage);
+    l[at] = 0x9800_0000 + visibility;
+}

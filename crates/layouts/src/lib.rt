@@ -1,0 +1,3 @@
+// layouts
+pub mod layout;
+pub mod visibility;

@@ -1,9 +1,0 @@
-pub mod Records
-pub mod Places
-pub mod Marks
-pub mod Layouts
-pub mod LayoutFormat
-pub mod Sizes
-pub mod SizeFormat
-pub mod StageLists
-pub mod StageListFormat

@@ -1,7 +1,0 @@
-// The largest size that shaders ask for at a place.
-use resource::types::ResourceBinding;
-
-pub struct SizeRecord {
-    pub bind: ResourceBinding,
-    pub size: u64,
-}

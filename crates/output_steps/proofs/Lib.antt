@@ -1,0 +1,3 @@
+pub mod LastLaws
+pub mod ListOutLaws
+pub mod OutputLaws

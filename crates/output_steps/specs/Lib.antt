@@ -1,0 +1,4 @@
+pub mod Last
+pub mod ListOut
+pub mod Outputs
+pub mod inner

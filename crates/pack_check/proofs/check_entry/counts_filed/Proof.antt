@@ -1,0 +1,13 @@
+use Rattle.pack_check.proofs.CheckWords.{kind-first}
+use Rattle.word.proofs.Tests.{tests}
+use borrow.Author.Needs.{needs}
+use Rattle.pack_check.proofs.check_entry.counts_filed.Statement.{statement}
+use Rattle.pack_check.proofs.check_entry.counts_filed.Tie as tie
+
+pub counts-filed-spec : {M : Type 1} → statement M
+counts-filed-spec =
+    tie.close
+    (tie.spec
+    (λ c κs. search needs)  -- kind-requires
+    (λ c. search (kind-first, tests))  -- returns
+    (λ c. search (kind-first, tests)))  -- returns-2

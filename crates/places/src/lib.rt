@@ -1,0 +1,5 @@
+// places
+pub mod found;
+pub mod heads;
+pub mod places;
+pub mod stores;

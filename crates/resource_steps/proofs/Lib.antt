@@ -1,0 +1,6 @@
+pub mod DeriveLaws
+pub mod PairLaws
+pub mod ProvideLaws
+pub mod ResourceLaws
+pub mod ResourceParts
+pub mod ResourceWalk

@@ -1,0 +1,157 @@
+-- The ways of resources through a provided layout.
+use Prim.Native.Nat.{ℕ, _+_, _-_, _*_, _^_, _<_, _≤_}
+use native.Mathlib.Omega.{arith}
+use mathlib.Core.Path.{_≡_, refl, sym, _∙_}
+use mathlib.Core.Bool.{Bool, true, false, not, _&&_, true≢false}
+use mathlib.Core.List.{List}
+use lib.Dec.{eqb, ltb}
+use lib.ListN.{length, take, drop}
+use borrow.Author.Tests.{eq-eqb, ne-eqb, eqb-false, not-true, not-false}
+use Rattle.word.specs.Words.{wordAt, kindOf, contentOf, bits}
+use Rattle.word.specs.Answers.{accepted}
+use Rattle.word.specs.declared.answer.Answer.{Answer}
+use Rattle.bindings.specs.Rules.{checkBindingUse, useNumber}
+use Rattle.bindings.specs.Format.{placeFiled, placeOf, typeCode, isBuffer, spaceAt, resourceTypeOf, resourceAt, sizeFiled, typeHeld, spaceHeld, bindingTypeOf, entryOf}
+use Rattle.bindings.specs.Answers.{bindingAnswer}
+use Rattle.bindings.specs.declared.types.ResourceBinding.{ResourceBinding}
+use Rattle.bindings.specs.declared.types.Resource.{Resource}
+use Rattle.bindings.specs.declared.types.ResourceType.{ResourceType}
+use Rattle.word.proofs.Truth.{second, by-test}
+use Rattle.layouts.specs.Meaning.{Layout, findEntry, entryNth, seesBit}
+use Rattle.sizes.specs.Meaning.{Sizes, sizeHas, sizeFits, recorded}
+use Rattle.places.specs.Records.{fits}
+use Rattle.layouts.specs.Format.{decodeLayout}
+use Rattle.layouts.proofs.LayoutStores.{entry-there}
+use Rattle.places.specs.declared.found.Found.{Found}
+use Rattle.places.specs.declared.found.Found.the-variants.{At, Nothing}
+use Rattle.interface.specs.Format.{stageCode, contents}
+use Rattle.interface.specs.declared.types.ShaderStage.{ShaderStage}
+use Rattle.resource_steps.specs.inner.Given.{resourceTable}
+use Rattle.resource_steps.specs.Resources.{resourceNth, sizesAfter, recordSize, entryUse, providedUse, provideStep, ProvideResult, provideResult, provideSteps}
+use Rattle.resource_steps.proofs.ResourceParts.{nth-at}
+use Rattle.resource_steps.proofs.ResourceWalk.{index-next, index-none, one-more}
+
+-- ---- the entry of a resource
+
+module _ (stage : ShaderStage) (ty : ResourceType) (l : List ℕ) (i c x v : ℕ) (b : Bool) (h : i < length (decodeLayout l .entries)) (s : c ≡ stageCode stage)
+    (p : x ≡ wordAt l (1 + 4 * i + 3)) (e : v ≡ contentOf x) (q : b ≡ seesBit c v) where
+  pub entry-unseen : not b ≡ true → 21 ≡ entryUse stage ty (entryNth (decodeLayout l .entries) i)
+  unfolding entryOf
+  entry-unseen n = rw (entry-there l i h, ← s, ← p, ← e, ← q, not-true b n)
+
+  pub entry-seen : (t least u : ℕ) → not b ≡ false → t ≡ wordAt l (1 + 4 * i + 1) → least ≡ wordAt l (1 + 4 * i + 2)
+      → u ≡ useNumber (checkBindingUse ty (bindingTypeOf t (contentOf least))) → u ≡ entryUse stage ty (entryNth (decodeLayout l .entries) i)
+  unfolding entryOf
+  entry-seen t least u n f g k = rw (entry-there l i h, ← s, ← p, ← e, ← q, not-false b n, ← f, ← g) k
+
+module _ (stage : ShaderStage) (L : Layout) (r : Resource) (f : Found) (a : Answer) (q : f ≡ findEntry (r .bind) L) where
+  pub provided-none : f ≡ Nothing → a ≡ bindingAnswer 20 (r .bind) → a ≡ providedUse stage L r
+  unfolding providedUse
+  provided-none n h = rw (← q, n) h
+
+  pub provided-at : (i u : ℕ) → f ≡ At i → u ≡ entryUse stage (r .ty) (entryNth (L .entries) i) → a ≡ bindingAnswer u (r .bind) → a ≡ providedUse stage L r
+  unfolding providedUse
+  provided-at i u n x h = rw (← q, n, ← x) h
+
+-- ---- the size of a resource
+
+-- a size that has no room is not recorded
+not-recorded : (bind : ResourceBinding) (size : ℕ) (S : Sizes) (h b : Bool) → sizeHas bind (S .records) ≡ h → fits 2 (S .room) ≡ b
+    → sizeFits bind S ≡ false → recorded bind size S ≡ S
+unfolding recorded
+not-recorded bind size S true b p q e = let z : true ≡ false = rw p at e in absurd (true≢false z)
+not-recorded bind size S false true p q e = let z : true ≡ false = rw (p, q) at e in absurd (true≢false z)
+not-recorded bind size S false false p q e = rw (p, q)
+
+-- a resource that is no buffer has no size
+module _ (bind : ResourceBinding) (w size : ℕ) (S : Sizes) where
+  none-recorded : isBuffer w ≡ false → recordSize bind (resourceTypeOf w size) S ≡ sizesAfter accepted S
+  unfolding resourceTypeOf recordSize
+  none-recorded n0 =
+      by-test (eqb (typeCode w) 1) (λ t. rw (n0, t) refl) λ n1.
+      by-test (eqb (typeCode w) 2) (λ t. rw (n0, n1, t) refl) λ n2.
+      by-test (eqb (typeCode w) 3) (λ t. rw (n0, n1, n2, t) refl) λ n3.
+      by-test (eqb (typeCode w) 4) (λ t. rw (n0, n1, n2, n3, t) refl) λ n4.
+      by-test (eqb (typeCode w) 5) (λ t. rw (n0, n1, n2, n3, n4, t) refl) (λ n5. rw (n0, n1, n2, n3, n4, n5) refl)
+
+  pub size-none : (a : Answer) → (typeCode w ≡ 0 → ⊥) → a ≡ accepted → sizesAfter a S ≡ recordSize bind (resourceTypeOf w size) S
+  size-none a n h = rw h (sym (none-recorded (ne-eqb (typeCode w) 0 n)))
+
+-- the place and the size of a buffer that words can hold
+pub place-filed : (p : ℕ) → p < 2 ^ 27 → placeFiled (0x20000000 + p) ≡ true
+place-filed p h = eq-eqb (kindOf (0x20000000 + p)) 4 (omega arith)
+
+module _ (w size : ℕ) (z : typeCode w ≡ 0) where
+  pub size-filed : (x : ℕ) → typeHeld (resourceTypeOf w (contentOf size)) ≡ true → x ≡ contentOf size → sizeFiled (0x30000000 + x) ≡ true
+  unfolding resourceTypeOf typeHeld
+  size-filed x h e =
+      let t : spaceHeld (spaceAt (bits 4 3 w) (bits 2 0 w)) && (ltb (contentOf size) (2 ^ 27) && not (eqb (contentOf size) 0)) ≡ true = rw (eq-eqb (typeCode w) 0 z) at h in
+      let n : contentOf size ≡ 0 → ⊥ = eqb-false (contentOf size) 0 (not-true (eqb (contentOf size) 0) (search second)) in
+      let k : kindOf (0x30000000 + x) ≡ 6 = omega arith in
+      rw (k, ne-eqb (contentOf (0x30000000 + x)) 0 (λ q. n (omega arith)))
+
+  module _ (place : ℕ) (S T : Sizes) (a : Answer) (b : Bool) (p x : ℕ) (ep : p ≡ contentOf place) (ex : x ≡ contentOf size)
+      (q : b ≡ sizeFits (placeOf (0x20000000 + p)) S) (r : T ≡ recorded (placeOf (0x20000000 + p)) (contentOf (0x30000000 + x)) S) where
+    same-place : placeOf (0x20000000 + p) ≡ placeOf place
+    same-place =
+        let g : bits 26 23 (0x20000000 + p) ≡ bits 26 23 place = omega arith in
+        let n : bits 22 0 (0x20000000 + p) ≡ bits 22 0 place = omega arith in
+        rw (g, n)
+
+    same-size : contentOf (0x30000000 + x) ≡ contentOf size
+    same-size = omega arith
+
+    pub size-recorded : b ≡ true → a ≡ accepted → sizesAfter a T ≡ recordSize (placeOf place) (resourceTypeOf w (contentOf size)) S
+    unfolding recordSize resourceTypeOf
+    size-recorded t h = rw (eq-eqb (typeCode w) 0 z, ← same-place, ← q, t, r, same-size, h)
+
+    pub size-full : b ≡ false → a ≡ bindingAnswer 5 (placeOf place) → sizesAfter a T ≡ recordSize (placeOf place) (resourceTypeOf w (contentOf size)) S
+    unfolding recordSize resourceTypeOf
+    size-full t h =
+        let n : sizeFits (placeOf place) S ≡ false = rw (← same-place) (sym q ∙ t) in
+        rw (eq-eqb (typeCode w) 0 z, n, r, same-place, not-recorded (placeOf place) (contentOf (0x30000000 + x)) S (sizeHas (placeOf place) (S .records)) (fits 2 (S .room)) refl refl n, h)
+
+-- ---- one resource, by its index
+
+module _ (ws offsets : List ℕ) (i o : ℕ) (k : i < length (resourceTable ws offsets)) (q : o ≡ wordAt offsets i) (stage : ShaderStage) (L : Layout) (S T : Sizes) (a : Answer)
+    (e : sizesAfter a T ≡ recordSize (resourceAt ws o .bind) (resourceAt ws o .ty) S) where
+  pub provide-ended : (a .number ≡ 0 → ⊥) → sizesAfter a T ≡ provideStep stage L (resourceNth (resourceTable ws offsets) i) S
+  unfolding provideStep
+  provide-ended n = rw (nth-at ws offsets i k, ← q, ← e, ne-eqb (a .number) 0 n)
+
+  pub provide-went : (b : Answer) → a .number ≡ 0 → b ≡ providedUse stage L (resourceAt ws o)
+      → sizesAfter b T ≡ provideStep stage L (resourceNth (resourceTable ws offsets) i) S
+  unfolding provideStep
+  provide-went b z h = rw (nth-at ws offsets i k, ← q, ← e, eq-eqb (a .number) 0 z, ← h)
+
+-- ---- one after the other
+
+-- a result behind as many resources that passed
+abbrev pub provideBehind : ℕ → ProvideResult → ProvideResult
+provideBehind k x = provideResult (x .answer) (k + x .passed) (x .sizes)
+
+pub provide-start : (ws : List ℕ) (stage : ShaderStage) (L : Layout) (resources : List Resource) (n at : ℕ) (S : Sizes)
+    → provideSteps stage L resources (contents (take n (drop at ws))) S ≡ provideBehind 0 (provideSteps stage L resources (contents (take (n - 0) (drop at ws))) S)
+provide-start ws stage L resources n at S =
+    let z : n - 0 ≡ n = omega arith in
+    let r : 0 + provideSteps stage L resources (contents (take n (drop at ws))) S .passed ≡ provideSteps stage L resources (contents (take n (drop at ws))) S .passed = omega arith in
+    rw (z, r)
+
+module _ (ws offsets : List ℕ) (stage : ShaderStage) (L : Layout) (n k at : ℕ) (S : Sizes) (goal : ProvideResult)
+    (inv : goal ≡ provideBehind k (provideSteps stage L (resourceTable ws offsets) (contents (take (n - k) (drop at ws))) S)) where
+  module _ (w i : ℕ) (T : Sizes) (a : Answer) (m : k ≡ n → ⊥) (l : k ≤ n) (h : at + (n - k) ≤ length ws) (p : w ≡ wordAt ws at) (q : i ≡ contentOf w)
+      (e : sizesAfter a T ≡ provideStep stage L (resourceNth (resourceTable ws offsets) i) S) where
+    pub provide-refused : (a .number ≡ 0 → ⊥) → provideResult a k T ≡ goal
+    unfolding provideSteps
+    provide-refused z =
+        let r : k + 0 ≡ k = omega arith in
+        sym (inv ∙ rw (index-next ws n k at m l h, ← p, ← q, ← e, ne-eqb (a .number) 0 z, r))
+
+    pub provide-onward : a .number ≡ 0
+        → goal ≡ provideBehind (k + 1) (provideSteps stage L (resourceTable ws offsets) (contents (take (n - (k + 1)) (drop (at + 1) ws))) T)
+    unfolding provideSteps
+    provide-onward z = inv ∙ rw (index-next ws n k at m l h, ← p, ← q, ← e, eq-eqb (a .number) 0 z, one-more k (provideSteps stage L (resourceTable ws offsets) (contents (take (n - (k + 1)) (drop (at + 1) ws))) T .passed))
+
+  pub provide-done : k ≡ n → (a : Answer) → a ≡ accepted → provideResult a n S ≡ goal
+  unfolding provideSteps
+  provide-done z a h = let r : k + 0 ≡ n = omega arith in sym (inv ∙ rw (index-none ws n k at z, r, h))

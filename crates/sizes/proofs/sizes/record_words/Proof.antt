@@ -1,0 +1,28 @@
+use Rattle.places.proofs.PlaceWays.{content-tells}
+use Rattle.sizes.proofs.SizeStores.{head-there, records-within, sizes-differ, index-inside, index-scaled, index-placed, index-next, size-lacks, size-fits, size-raised, record-decoded, record-filed, raised-filed}
+use borrow.Author.Needs.{needs}
+use Rattle.sizes.proofs.sizes.record_words.Statement.{statement}
+use Rattle.sizes.proofs.sizes.record_words.Tie as tie
+
+pub record-words-spec : {M : Type 1} → statement M
+record-words-spec =
+    tie.close
+    (tie.spec
+    (λ c κs. search head-there)  -- counted-requires
+    (λ c κs. search needs)  -- content-requires
+    (λ c κs. search needs)  -- noted-requires
+    (λ c. search needs)  -- cast-find-near
+    (λ c κs. ((search needs, search needs, search needs, search records-within, search needs), search sizes-differ))  -- find-near-requires
+    (λ c. search needs)  -- enum-known-index
+    (λ c. search (index-next, needs))  -- add-next
+    (λ c. search (index-next, needs))  -- cast-next
+    (λ c. search needs)  -- element-write-next
+    (λ c. search index-scaled)  -- mul-raise-word
+    (λ c. search index-placed)  -- add-raise-word
+    (λ c κs. search index-inside)  -- raise-word-requires
+    (λ c. search needs)  -- enum-told
+    (λ c κs. (search needs, (search needs, search (size-lacks, content-tells))))  -- push-size-requires
+    (λ c. search needs)  -- same-length
+    (λ c. (search (size-fits, content-tells), (search (size-raised, content-tells), (search (record-decoded, size-raised, content-tells), search raised-filed))))  -- returns
+    (λ c. search needs)  -- same-length-2
+    (λ c. (search needs, (search needs, (search record-decoded, search record-filed)))))  -- returns-2

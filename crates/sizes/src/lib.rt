@@ -1,0 +1,3 @@
+// sizes
+pub mod size_record;
+pub mod sizes;

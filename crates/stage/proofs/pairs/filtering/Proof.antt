@@ -1,9 +1,0 @@
-use Rattle.stage.proofs.PairLaws.{filtering-word}
-use Rattle.stage.proofs.pairs.filtering.Statement.{statement}
-use Rattle.stage.proofs.pairs.filtering.Tie as tie
-
-pub filtering-spec : {M : Type 1} → statement M
-filtering-spec =
-    tie.close
-    (tie.spec
-    (λ c. search filtering-word))  -- returns

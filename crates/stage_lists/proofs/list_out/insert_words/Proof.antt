@@ -1,0 +1,15 @@
+use Rattle.stage_lists.proofs.OutStores.{located-filed, out-fits, out-good, out-rises, head-sum, out-inserted, inserted-decoded, inserted-filed}
+use borrow.Author.Needs.{needs}
+use Rattle.stage_lists.proofs.list_out.insert_words.Statement.{statement}
+use Rattle.stage_lists.proofs.list_out.insert_words.Tie as tie
+
+pub insert-words-spec : {M : Type 1} → statement M
+insert-words-spec =
+    tie.close
+    (tie.spec
+    (λ c. search needs)  -- cast-n
+    (λ c κs. search needs)  -- var-word-requires
+    (λ c κs. ((search out-fits, search needs, search out-good), (search needs, search located-filed, search out-rises)))  -- place-last-requires
+    (λ c. search head-sum)  -- add-result
+    (λ c. search needs)  -- same-length
+    (λ c. (search out-inserted, (search (inserted-decoded, out-inserted), search (inserted-filed, out-inserted)))))  -- returns

@@ -1,4 +1,0 @@
-pub mod Meaning
-pub mod Interfaces
-pub mod ListOut
-pub mod Given
