@@ -168,7 +168,7 @@ unfolding yes sumOf closingSum several typeFiled typeOf typeWord sameSpace buffe
     entryOf bindingCode entryWords varFiled varOf varWord payloadFiled payloadOf payloadWord placeFrom placeIn distinctPlaces entryNth pushed joinAt
     joined raiseAt recorded varyingAt rising insert past records each flat put groupsOf countOf layoutHead layoutFiled decodeLayout encodeLayout
     sizesHead sizesFiled decodeSizes encodeSizes stageHead outFiled decodeStage encodeStage readVarying clips bytesOf noZero allZero readName
-    readWorkgroup readMesh contents among ofType pairsOf readEntryPoint sameBytes hasName distinctNames readPack torn decode flat packName
+    readWorkgroup readMesh contents among ofType pairsOf readEntryPoint sameBytes hasName distinctNames readPack torn decode packName
     entryPointWords recordWords encode interface-entryNth findFrom workgroupUse workgroupStep inputStep inputSteps clipPlaces builtInPlaces localCount
     locationUses vertexOutputs anyOf attachmentUse fragmentPlaces fragmentOutputs placesStep meshUse payloadMatch primitiveUse drawUse perVertexUse
     lastStep localsOf stageOut resourceNth recordSize providedUse provideStep provideSteps occupied vacant deriveStep namedTexture deriveSteps resourceSteps
@@ -259,7 +259,7 @@ unfolding allRight cases yes sumOf closingSum several typeFiled typeOf typeWord 
     entryOf bindingCode entryWords varFiled varOf varWord payloadFiled payloadOf payloadWord placeFrom placeIn distinctPlaces entryNth pushed joinAt
     joined raiseAt recorded varyingAt rising insert past records each flat put groupsOf countOf layoutHead layoutFiled decodeLayout encodeLayout
     sizesHead sizesFiled decodeSizes encodeSizes stageHead outFiled decodeStage encodeStage readVarying clips bytesOf noZero allZero readName
-    readWorkgroup readMesh contents among ofType pairsOf readEntryPoint sameBytes hasName distinctNames readPack torn decode flat packName
+    readWorkgroup readMesh contents among ofType pairsOf readEntryPoint sameBytes hasName distinctNames readPack torn decode packName
     entryPointWords recordWords encode interface-entryNth findFrom workgroupUse workgroupStep inputStep inputSteps clipPlaces builtInPlaces localCount
     locationUses vertexOutputs anyOf attachmentUse fragmentPlaces fragmentOutputs placesStep meshUse payloadMatch primitiveUse drawUse perVertexUse
     lastStep localsOf stageOut resourceNth recordSize providedUse provideStep provideSteps occupied vacant deriveStep namedTexture deriveSteps resourceSteps

@@ -62,6 +62,7 @@ recordSize bind (Res.AccelerationStructure returns) S = sizesAfter accepted S
 abbrev pub entryUse : ShaderStage → ResourceType → BindGroupLayoutEntry → ℕ
 entryUse stage ty e = pick (seesBit (stageCode stage) (e .visibility)) (useNumber (checkBindingUse ty (e .ty))) 21
 
+-- no entry at the place is 20
 abbrev pub foundUse : ShaderStage → ResourceType → Layout → Found → ℕ
 foundUse stage ty L (At i) = entryUse stage ty (entryNth (L .entries) i)
 foundUse stage ty L Nothing = 20
@@ -102,10 +103,12 @@ unfoldable pub vacant : ShaderStage → ResourceBinding → BindingType → Layo
 vacant stage bind ty L =
     pick (fits 4 (L .room)) (layoutAfter accepted (pushed L (newEntry stage bind ty))) (layoutAfter (bindingAnswer 5 bind) L)
 
+-- a derived type at its place
 abbrev pub placeStep : ShaderStage → ResourceBinding → BindingType → Found → Layout → LayoutAfter
 placeStep stage bind ty (At i) L = occupied stage bind ty i L
 placeStep stage bind ty Nothing L = vacant stage bind ty L
 
+-- what was derived, at its place
 abbrev pub derivedStep : ShaderStage → ResourceBinding → Derived → Layout → LayoutAfter
 derivedStep stage bind (Der.Binding ty) L = placeStep stage bind ty (findEntry bind L) L
 derivedStep stage bind Der.WrongBufferAddressSpace L = layoutAfter (bindingAnswer 24 bind) L
@@ -132,6 +135,7 @@ provideOn x k =
     let rest = k (x .sizes) in
     pick (eqb (x .answer .number) 0) (provideResult (rest .answer) (suc (rest .passed)) (rest .sizes)) (provideResult (x .answer) 0 (x .sizes))
 
+-- 'Each resource in list order', provided
 unfoldable pub provideSteps : ShaderStage → Layout → List Resource → List ℕ → Sizes → ProvideResult
 provideSteps stage L resources [] S = provideResult accepted 0 S
 provideSteps stage L resources (i ∷ is) S = provideOn (provideStep stage L (resourceNth resources i) S) λ S. provideSteps stage L resources is S
@@ -145,6 +149,7 @@ pub record DeriveResult : Type 0 where
 abbrev pub deriveResult : Answer → ℕ → Layout → DeriveResult
 deriveResult a n L = record { answer = a; passed = n; layout = L }
 
+-- a step that derives, and the others in the same way
 abbrev pub deriveOn : LayoutAfter → (Layout → DeriveResult) → DeriveResult
 deriveOn x k =
     let rest = k (x .layout) in
@@ -155,15 +160,17 @@ unfoldable pub namedTexture : ℕ → List SamplingPair → Bool
 namedTexture i [] = false
 namedTexture i (p ∷ ps) = let rest = namedTexture i ps in pick (eqb (p .texture) i) true rest
 
+-- 'Each resource in list order', derived
 unfoldable pub deriveSteps : ShaderStage → List Resource → List SamplingPair → List ℕ → Layout → DeriveResult
 deriveSteps stage resources pairs [] L = deriveResult accepted 0 L
 deriveSteps stage resources pairs (i ∷ is) L =
     deriveOn (deriveStep stage (namedTexture i pairs) (resourceNth resources i) L) λ L. deriveSteps stage resources pairs is L
 
--- the list that a mode does not touch stays as it is
+-- provided mode leaves the layout as it is
 abbrev pub providedOver : Layout → ProvideResult → State
 providedOver L x = state (x .answer) L (x .sizes)
 
+-- derived mode leaves the sizes as they are
 abbrev pub derivedBeside : Sizes → DeriveResult → State
 derivedBeside S x = state (x .answer) (x .layout) S
 
