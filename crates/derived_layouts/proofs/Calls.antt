@@ -7,9 +7,8 @@ use lib.Dec.{ltb}
 use lib.ListN.{length}
 use Rattle.word.specs.Answers.{accepted}
 use Rattle.word.proofs.Truth.{by-test}
-use Rattle.interface.specs.Meaning.{EntryPoint, Interface}
+use Rattle.interface.specs.Meaning.{EntryPoint, Interface, entryNth}
 use Rattle.interface.specs.Format.{Decoded, Torn, Misfiled, Pack, decode}
-use Rattle.interface.specs.inner.Reads.{entryNth}
 use Rattle.entry_points.specs.Rules.{findEntryPoint}
 use Rattle.entry_points.specs.declared.choose.Chosen.{Chosen}
 use Rattle.entry_points.specs.declared.choose.Chosen.the-variants as Ch

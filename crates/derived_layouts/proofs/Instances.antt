@@ -18,7 +18,7 @@ use Rattle.bindings.specs.declared.types.Resource.{Resource}
 use Rattle.bindings.specs.declared.types.ResourceType.{ResourceType}
 use Rattle.bindings.specs.declared.types.ResourceType.the-variants as Res
 use Rattle.varying.specs.declared.Payload.the-variants as Pay
-use Rattle.interface.specs.Meaning.{Interface}
+use Rattle.interface.specs.Meaning.{Interface, entryNth as interface-entryNth}
 use Rattle.interface.specs.Format.{stageCode, readVarying, clips, bytesOf, noZero, allZero, readName, readWorkgroup, readMesh, contents, ofType, pairsOf}
 use Rattle.interface.specs.declared.types.ShaderStage.{ShaderStage}
 use Rattle.interface.specs.declared.types.ShaderStage.the-variants as Stage
@@ -52,7 +52,6 @@ use Rattle.layouts.specs.Format.{groupsOf, layoutHead, layoutFiled, decodeLayou
 use Rattle.sizes.specs.Format.{sizesHead, sizesFiled, decodeSizes, encodeSizes}
 use Rattle.stage_lists.specs.Format.{stageHead, outFiled, decodeStage, encodeStage}
 use Rattle.interface.specs.Format.{readEntryPoint, sameBytes, hasName, distinctNames, readPack, torn, decode, packName, entryPointWords, recordWords, encode}
-use Rattle.interface.specs.inner.Reads.{entryNth as interface-entryNth}
 use Rattle.entry_points.specs.Rules.{findFrom}
 use Rattle.resource_steps.specs.Resources.{resourceNth, recordSize, providedUse, provideStep, provideSteps, occupied, vacant, deriveStep, namedTexture, deriveSteps, resourceSteps}
 use Rattle.resource_steps.specs.Resources.{pairNumber, pairUse, pairUses}

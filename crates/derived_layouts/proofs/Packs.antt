@@ -7,8 +7,7 @@ use Rattle.bindings.specs.Rules.{handBack}
 use Rattle.bindings.specs.declared.types.Resource.{Resource}
 use Rattle.word.proofs.Truth.{first, second}
 use Rattle.word.proofs.Lists.{first-passes, rest-passes}
-use Rattle.interface.specs.Meaning.{EntryPoint, Interface}
-use Rattle.interface.specs.inner.Reads.{entryNth}
+use Rattle.interface.specs.Meaning.{EntryPoint, Interface, entryNth}
 use Rattle.resource_steps.specs.Resources.{resourceNth}
 use Rattle.derived_layouts.specs.HandBack.{pairsKept, entriesKept, resourcesKept, packKept}
 

@@ -12,8 +12,7 @@ use Rattle.layouts.specs.Format.{layoutFiled, layoutGood, decodeLayout, encodeL
 use Rattle.sizes.specs.Format.{decodeSizes}
 use Rattle.stage_lists.specs.Format.{decodeStage, encodeStage}
 use Rattle.layouts.proofs.LayoutLists.{good-decode, filed-encode, decode-encode}
-use Rattle.interface.specs.Meaning.{Interface, EntryPoint}
-use Rattle.interface.specs.inner.Reads.{entryNth}
+use Rattle.interface.specs.Meaning.{Interface, EntryPoint, entryNth}
 use Rattle.output_steps.specs.ListOut.{stageOut}
 use Rattle.output_steps.specs.declared.types.Request.{Request}
 use Rattle.stage.specs.Meaning.{Lent, Call}

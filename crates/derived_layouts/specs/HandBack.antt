@@ -20,9 +20,8 @@ use Rattle.sizes.specs.Format.{sizesFiled, decodeSizes}
 use Rattle.places.specs.Records.{countOf}
 use Rattle.sizes.specs.declared.size_record.SizeRecord.{SizeRecord}
 use Rattle.interface.specs.Meaning.{EntryPoint, Interface}
-use Rattle.interface.specs.Format.{decode}
-use Rattle.interface.specs.inner.Reads.{interfaceOf}
-use Rattle.interface.specs.inner.Reads as Packs
+use Rattle.interface.specs.Format.{decode, interfaceOf}
+use Rattle.interface.specs.Meaning as Packs
 use Rattle.entry_points.specs.Rules.{findEntryPoint}
 use Rattle.entry_points.specs.declared.choose.Chosen.{Chosen}
 use Rattle.entry_points.specs.declared.choose.Chosen.the-variants as Ch

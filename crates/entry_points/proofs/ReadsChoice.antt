@@ -14,9 +14,9 @@ use Rattle.word.specs.Choice.{pick}
 use Rattle.word.specs.Words.{wordAt}
 use Rattle.word.specs.Answers.{answer, refused}
 use Rattle.word.specs.declared.answer.Answer.{Answer}
-use Rattle.interface.specs.Meaning.{EntryPoint}
-use Rattle.interface.specs.Format.{stageAt, stageCode, named, sameBytes, Decoded, Torn, Misfiled, Pack, decode, decodedNumber}
-use Rattle.interface.specs.inner.Reads.{nameAt, standing, interfaceOf, entryNth}
+use Rattle.interface.specs.Meaning.{EntryPoint, entryNth}
+use Rattle.interface.specs.Format.{stageAt, stageCode, named, sameBytes, Decoded, Torn, Misfiled, Pack, decode, decodedNumber, interfaceOf}
+use Rattle.interface.specs.inner.Reads.{nameAt, standing}
 use Rattle.entry_points.specs.Rules.{ofStage, findFrom, onlyFrom, onlyEntryPoint, onlyAnswer, finalizeName, met, chosenIn}
 use Rattle.interface.specs.inner.Parts.{partsAt, entryEnd, entryAt, entryCount, entriesAt, Heads}
 use Rattle.interface.specs.declared.types.ShaderStage.{ShaderStage}

@@ -20,12 +20,11 @@ use Rattle.word.proofs.Lists.{every-first, every-others}
 use Rattle.word.proofs.Parse.{Yields, yields-next, yields-pick}
 use Rattle.varying.specs.Format.{locationFiled, varFiled, payloadFiled, payloadHeld}
 use Rattle.varying.proofs.Joined.{var-held, payload-held}
-use Rattle.interface.specs.Meaning.{EntryPoint, Interface}
+use Rattle.interface.specs.Meaning.{EntryPoint, Interface, entryNth}
 use Rattle.interface.specs.Format.{readVarying, builtInFiled, clips, contents, indexFiled, pairGood, pairFiled, pairOf, pairsOf}
 use Rattle.interface.specs.Format.{headFiled, readName, readWorkgroup, readMesh, countsFiled, readEntryPoint, ofWord}
 use Rattle.interface.specs.Format.{editionFiled, totalsFiled, distinctNames, readPack, torn, Pack, whole, body, decode}
 use Rattle.interface.specs.Held.{count, builtInHeld, varyingHeld}
-use Rattle.interface.specs.inner.Reads.{entryNth}
 use Rattle.interface.specs.declared.types.BuiltIn.the-variants as In
 use Rattle.interface.specs.declared.types.Varying.{Varying}
 use Rattle.interface.proofs.Passing.{yields-as, yields-known, yields-both, one-yields, several-yields, all-read}

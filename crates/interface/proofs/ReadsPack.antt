@@ -18,7 +18,7 @@ use Rattle.bindings.proofs.ReadLaws.{type-sizeless}
 use Rattle.word.proofs.Truth.{first, second, neither}
 use Rattle.interface.specs.Meaning.{Interface}
 use Rattle.interface.specs.Format.{readPack, readEntryPoint, editionFiled, totalsFiled, ofWord, limitsOf, distinctNames, Decoded, Torn, Misfiled, Pack, torn, whole, body, decode, decodedNumber}
-use Rattle.interface.specs.inner.Reads.{interfaceOf}
+use Rattle.interface.specs.Format.{interfaceOf}
 use Rattle.interface.specs.inner.Parts.{endFrom, resourceEnd, entryEnd, entryAt, resourceCount, entryCount, resourcesOf, entriesAt, entriesOf}
 use Rattle.interface.proofs.ReadsRecords.{ReadsAt, several-records}
 use Rattle.interface.proofs.ReadsEntry.{entry-stands}

@@ -9,9 +9,9 @@ use lib.ListN.{length, drop, List·getD-eq-default}
 use Rattle.word.specs.Choice.{pick}
 use Rattle.word.specs.Words.{wordAt, bits, bit}
 use Rattle.word.proofs.Truth.{by-test}
-use Rattle.interface.specs.Meaning.{EntryPoint}
-use Rattle.interface.specs.Format.{nameWords, decode, decodedNumber}
-use Rattle.interface.specs.inner.Reads.{varyingWidth, interfaceOf, standing, entryNth}
+use Rattle.interface.specs.Meaning.{EntryPoint, entryNth}
+use Rattle.interface.specs.Format.{nameWords, decode, decodedNumber, interfaceOf}
+use Rattle.interface.specs.inner.Reads.{varyingWidth, standing}
 use Rattle.interface.specs.inner.Parts.{recordsFrom, endFrom, varyingEnd, varyingsEnd, resourceEnd, countsAt, inputsAt, partsAt, entryEnd, entryAt, entriesAt, resourceCount, entryCount, headAt, Placed, Heads, workgroupAt}
 use Rattle.interface.specs.declared.types.EntryParts.{EntryParts}
 use Rattle.interface.proofs.ReadsRecords.{end-left, end-none, records-length}

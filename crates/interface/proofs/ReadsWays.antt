@@ -10,8 +10,8 @@ use lib.ListN.{length, drop}
 use lib.Seq.{getD-drop}
 use Rattle.word.specs.Words.{wordAt, kindOf, contentOf}
 use Rattle.word.proofs.Parse.{first-of}
-use Rattle.interface.specs.Format.{decode, decodedNumber, limitsBy, limitsOf}
-use Rattle.interface.specs.inner.Reads.{varyingWidth, interfaceOf}
+use Rattle.interface.specs.Format.{decode, decodedNumber, limitsBy, limitsOf, interfaceOf}
+use Rattle.interface.specs.inner.Reads.{varyingWidth}
 use Rattle.interface.specs.inner.Parts.{resourceCount, entryCount, resourceEnd, entryEnd, entriesAt, entryAt}
 use Rattle.bindings.specs.Format.{resourceAt}
 use Rattle.interface.specs.declared.types.Limits.{Limits}

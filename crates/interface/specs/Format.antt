@@ -436,3 +436,9 @@ openWords i = ofKind 1 (2 ^ 16 * 1 + (length (recordWords i) + 2)) ∷ recordWor
 -- the pack, closed by its sum
 unfoldable pub encode : Interface → List ℕ
 encode i = openWords i ++ ((sumOf (openWords i) % 2 ^ 32) ∷ [])
+
+-- the interface of an accepted pack
+abbrev pub interfaceOf : Decoded → Interface
+interfaceOf Torn = record { limits = limitsOf []; resources = []; entries = [] }
+interfaceOf Misfiled = record { limits = limitsOf []; resources = []; entries = [] }
+interfaceOf (Pack i) = i

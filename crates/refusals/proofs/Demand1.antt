@@ -12,9 +12,8 @@ use Rattle.layouts.specs.Format.{decodeLayout, encodeLayout}
 use Rattle.sizes.specs.Format.{decodeSizes, encodeSizes}
 use Rattle.stage_lists.specs.Format.{decodeStage}
 use Rattle.word.specs.Lists.{among}
-use Rattle.interface.specs.Meaning.{EntryPoint, Interface}
+use Rattle.interface.specs.Meaning.{EntryPoint, Interface, entryNth}
 use Rattle.interface.specs.Format.{Decoded, Torn, Misfiled, Pack, decode}
-use Rattle.interface.specs.inner.Reads.{entryNth}
 use Rattle.entry_points.specs.Rules.{findEntryPoint}
 use Rattle.entry_points.specs.declared.choose.Chosen.{Chosen}
 use Rattle.entry_points.specs.declared.choose.Chosen.the-variants as Ch

@@ -11,7 +11,7 @@ use Rattle.interface.specs.Format.{bytesOf, nameWords}
 use Rattle.interface.specs.inner.Reads.{nameAt}
 use Rattle.interface.specs.inner.Parts.{workgroupAt}
 use Rattle.interface.proofs.EncodeNames.{bytes-long}
-use Rattle.report.specs.Written.{Wrote}
+use Rattle.report.specs.inner.Written.{Wrote}
 use Rattle.report.proofs.Writing.{wrote-none, wrote-more, wrote-length}
 
 pub word-written : {t u v w x : List ℕ} {at b c d end : ℕ} (h : ℕ) → Wrote t u at b ((h % 256) ∷ []) → Wrote u v b c ((h / 256 % 256) ∷ [])

@@ -5,7 +5,7 @@ use mathlib.Core.Path.{_≡_, refl}
 use mathlib.Core.List.{List, [], _∷_, _++_}
 use lib.ListN.{length, take, set, getD}
 use Rattle.report.specs.Text.{wordsOf, wordOf}
-use Rattle.report.specs.Written.{Wrote}
+use Rattle.report.specs.inner.Written.{Wrote}
 use Rattle.report.proofs.Writing.{wrote-none, wrote-byte, wrote-more}
 
 -- the word of the four bytes from a position on

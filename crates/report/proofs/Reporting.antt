@@ -14,10 +14,9 @@ use Rattle.varying.specs.Format.{payloadWord}
 use Rattle.layouts.specs.Format.{encodeLayout}
 use Rattle.stage_lists.specs.Format.{encodeStage}
 use Rattle.places.specs.Records.{countOf}
-use Rattle.interface.specs.Format.{Decoded, Torn, Misfiled, Pack, decode, decodedNumber}
-use Rattle.interface.specs.inner.Reads.{interfaceOf}
+use Rattle.interface.specs.Format.{Decoded, Torn, Misfiled, Pack, decode, decodedNumber, interfaceOf}
 use Rattle.report.specs.Text.{wordsOf, hexLines, line}
-use Rattle.report.specs.Written.{Wrote}
+use Rattle.report.specs.inner.Written.{Wrote}
 use Rattle.report.specs.Report.{Run, ran, runEntries, usedWords, runText, startRun, refusedPack, decodedText, report}
 use Rattle.report.proofs.Writing.{wrote-before, wrote-more, wrote-length}
 

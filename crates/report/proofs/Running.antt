@@ -24,7 +24,7 @@ use Rattle.interface.proofs.ReadsRecords.{records-left, records-none}
 use Rattle.interface.proofs.ReadsParts.{left-of}
 use Rattle.interface.specs.Meaning.{EntryPoint}
 use Rattle.report.specs.Text.{line}
-use Rattle.report.specs.Written.{Wrote}
+use Rattle.report.specs.inner.Written.{Wrote}
 use Rattle.report.specs.Report.{Run, ran, derived, fedOn, runEntry, runEntries}
 use Rattle.report.proofs.Writing.{wrote-before}
 

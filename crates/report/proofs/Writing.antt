@@ -9,7 +9,7 @@ use lib.ListN.{length, take, drop, set, getD, length-append, length-drop, take-a
 use lib.Seq.{length-take-le, take-suc, take-length, set-split, take-at, drop-at, drop-drop}
 use Rattle.word.specs.declared.answer.Answer.{Answer}
 use Rattle.report.specs.Text.{digits, decimal, hexDigit, hexHalf, hexLine, hexLines, answerText, line}
-use Rattle.report.specs.Written.{Wrote}
+use Rattle.report.specs.inner.Written.{Wrote}
 
 module _ {t u : List ℕ} {at end : ℕ} {bytes : List ℕ} (w : Wrote t u at end bytes) where
   front : length (take at t ++ bytes) ≡ end

@@ -1,11 +1,16 @@
 // What the program that checks a pack prints: a line for each entry point and the layout words, or why the pack is refused.
+pub mod names;
+pub mod run;
+pub mod text;
+pub mod words;
+
 ghost use mathlib.Core.Path.{_≡_};
 ghost use mathlib.Core.List.{_++_};
 ghost use Prim.Native.Nat.{_+_, _*_, _≤_, _<_};
 ghost use lib.ListN.{length, take, drop};
 ghost use Rattle.interface.specs.Format.{decode};
 ghost use Rattle.report.specs.Text.{hexLines};
-ghost use Rattle.report.specs.Written.{Wrote};
+ghost use Rattle.report.specs.inner.Written.{Wrote};
 ghost use Rattle.report.specs.Report.{usedWords, refusedPack, decodedText, report};
 use crate::run::run_entries;
 use crate::text::push_hex_lines;

@@ -7,7 +7,7 @@ ghost use Rattle.word.specs.Words.{bits};
 ghost use Rattle.interface.specs.Format.{bytesOf};
 ghost use Rattle.interface.specs.inner.Reads.{nameAt};
 ghost use Rattle.interface.specs.inner.Parts.{workgroupAt};
-ghost use Rattle.report.specs.Written.{Wrote};
+ghost use Rattle.report.specs.inner.Written.{Wrote};
 use crate::text::push_byte;
 use entry_points::names::name_count;
 use interface::parts::name_words;

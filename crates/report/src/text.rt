@@ -4,7 +4,7 @@ ghost use mathlib.Core.List.{[], _∷_, _++_};
 ghost use Prim.Native.Nat.{_+_, _*_, _<_, _≤_};
 ghost use lib.ListN.{length};
 ghost use Rattle.report.specs.Text.{digits, decimal, hexDigit, hexHalf, hexLine, hexLines, answerText, line};
-ghost use Rattle.report.specs.Written.{Wrote};
+ghost use Rattle.report.specs.inner.Written.{Wrote};
 use word::answer::Answer;
 
 pub(crate) fn push_byte(text: &mut [u8], at: usize, b: u8) -> usize

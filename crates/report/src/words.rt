@@ -3,7 +3,7 @@ ghost use mathlib.Core.Path.{_≡_};
 ghost use Prim.Native.Nat.{_+_, _*_, _/_, _<_, _≤_};
 ghost use lib.ListN.{length, getD};
 ghost use Rattle.report.specs.Text.{wordsOf, wordOf};
-ghost use Rattle.report.specs.Written.{Wrote};
+ghost use Rattle.report.specs.inner.Written.{Wrote};
 
 fn wide(b: u8) -> u32
     ensures { λ r. ⌜ (r ≡ b) × (r < 256) ⌝ }

@@ -23,6 +23,7 @@ use Rattle.stage_lists.specs.Format.{stageHead as stage_lists-stageHead, outFil
 use Rattle.stage_lists.specs.Meaning.{varyingAt as stage_lists-varyingAt, rising as stage_lists-rising, insert as stage_lists-insert, inserted as stage_lists-inserted}
 use Rattle.interface.specs.Format.{readVarying as interface-readVarying, clips as interface-clips, bytesOf as interface-bytesOf, noZero as interface-noZero, allZero as interface-allZero, readName as interface-readName, readWorkgroup as interface-readWorkgroup, readMesh as interface-readMesh, contents as interface-contents, ofType as interface-ofType, pairsOf as interface-pairsOf, readEntryPoint as interface-readEntryPoint, sameBytes as interface-sameBytes, hasName as interface-hasName, distinctNames as interface-distinctNames, readPack as interface-readPack, torn as interface-torn, decode as interface-decode, packName as interface-packName, entryPointWords as interface-entryPointWords, recordWords as interface-recordWords, encode as interface-encode}
 use Rattle.interface.specs.Held.{entryPointHeld as interface-entryPointHeld, interfaceHeld as interface-interfaceHeld}
+use Rattle.interface.specs.Meaning.{entryNth as interface-entryNth}
 use Rattle.input_steps.specs.Inputs.{vertexInput as input_steps-vertexInput, fragmentInput as input_steps-fragmentInput, inputNumber as input_steps-inputNumber, inputStep as input_steps-inputStep, inputSteps as input_steps-inputSteps}
 use Rattle.input_steps.specs.Workgroup.{workgroupUse as input_steps-workgroupUse, workgroupStep as input_steps-workgroupStep}
 use Rattle.output_steps.specs.Last.{meshUse as output_steps-meshUse, payloadMatch as output_steps-payloadMatch, primitiveUse as output_steps-primitiveUse, drawUse as output_steps-drawUse, perVertexUse as output_steps-perVertexUse, lastStep as output_steps-lastStep}
@@ -35,5 +36,5 @@ use Rattle.required_examples.specs.Deliveries.{locals, deliveries}
 use Rattle.required_examples.specs.Kinds.{startsWith, allHold}
 
 pub deliveries-hold : allHold deliveries ≡ true
-unfolding word-yes word-every word-among word-flat word-several word-sumOf word-closingSum numeric-typeFiled numeric-typeOf numeric-readType numeric-typeWord numeric-compareTypes numeric-shapeFits numeric-subtypeOf bindings-checkWords bindings-deriveWords bindings-resourceTypeFiled bindings-resourceTypeOf bindings-readResource bindings-resourceWords bindings-typeHeld bindings-bindingTypeFiled bindings-bindingTypeOf bindings-entryFiled bindings-entryOf bindings-bindingCode bindings-entryWords bindings-sameSpace bindings-bufferUse bindings-samplerUse bindings-viewFits bindings-sampledFits bindings-storageFits bindings-textureUse bindings-accelerationUse bindings-checkBindingUse bindings-derivedTexture bindings-deriveBindingType bindings-handBack varying-varFiled varying-varOf varying-varWord varying-payloadFiled varying-payloadOf varying-payloadWord varying-samePayload formats-floatVertexFormat formats-vertexFormat formats-otherTextureFormat formats-textureFormat formats-checkTextureFormat places-placeFrom places-placeIn places-distinctPlaces places-countOf places-past places-records places-each places-put layouts-groupsOf layouts-layoutHead layouts-layoutFiled layouts-decodeLayout layouts-encodeLayout layouts-layoutGood layouts-entryNth layouts-pushed layouts-joinAt layouts-joined sizes-sizesHead sizes-sizesFiled sizes-decodeSizes sizes-encodeSizes sizes-sizesGood sizes-sizeAt sizes-raiseAt sizes-recorded stage_lists-stageHead stage_lists-outFiled stage_lists-decodeStage stage_lists-encodeStage stage_lists-outGood stage_lists-varyingAt stage_lists-rising stage_lists-insert stage_lists-inserted interface-readVarying interface-clips interface-bytesOf interface-noZero interface-allZero interface-readName interface-readWorkgroup interface-readMesh interface-contents interface-ofType interface-pairsOf interface-readEntryPoint interface-sameBytes interface-hasName interface-distinctNames interface-readPack interface-torn interface-decode interface-packName interface-entryPointWords interface-recordWords interface-encode interface-entryPointHeld interface-interfaceHeld input_steps-vertexInput input_steps-fragmentInput input_steps-inputNumber input_steps-inputStep input_steps-inputSteps input_steps-workgroupUse input_steps-workgroupStep output_steps-meshUse output_steps-payloadMatch output_steps-primitiveUse output_steps-drawUse output_steps-perVertexUse output_steps-lastStep output_steps-localsOf output_steps-stageOut output_steps-clipPlaces output_steps-builtInPlaces output_steps-localCount output_steps-locationUses output_steps-vertexOutputs output_steps-anyOf output_steps-attachmentUse output_steps-fragmentPlaces output_steps-fragmentOutputs output_steps-placesStep entry_points-findFrom entry_points-onlyFrom entry_points-finalizeName resource_steps-resourceNth resource_steps-recordSize resource_steps-providedUse resource_steps-provideStep resource_steps-occupied resource_steps-vacant resource_steps-deriveStep resource_steps-provideSteps resource_steps-namedTexture resource_steps-deriveSteps resource_steps-resourceSteps resource_steps-pairNumber resource_steps-pairUse resource_steps-pairUses stage-behindInputs stage-judgement stage-stageBody stage-listsGood stage-callGood stage-finish stage-runBody stage-checkStage locals deliveries startsWith allHold
+unfolding word-yes word-every word-among word-flat word-several word-sumOf word-closingSum numeric-typeFiled numeric-typeOf numeric-readType numeric-typeWord numeric-compareTypes numeric-shapeFits numeric-subtypeOf bindings-checkWords bindings-deriveWords bindings-resourceTypeFiled bindings-resourceTypeOf bindings-readResource bindings-resourceWords bindings-typeHeld bindings-bindingTypeFiled bindings-bindingTypeOf bindings-entryFiled bindings-entryOf bindings-bindingCode bindings-entryWords bindings-sameSpace bindings-bufferUse bindings-samplerUse bindings-viewFits bindings-sampledFits bindings-storageFits bindings-textureUse bindings-accelerationUse bindings-checkBindingUse bindings-derivedTexture bindings-deriveBindingType bindings-handBack varying-varFiled varying-varOf varying-varWord varying-payloadFiled varying-payloadOf varying-payloadWord varying-samePayload formats-floatVertexFormat formats-vertexFormat formats-otherTextureFormat formats-textureFormat formats-checkTextureFormat places-placeFrom places-placeIn places-distinctPlaces places-countOf places-past places-records places-each places-put layouts-groupsOf layouts-layoutHead layouts-layoutFiled layouts-decodeLayout layouts-encodeLayout layouts-layoutGood layouts-entryNth layouts-pushed layouts-joinAt layouts-joined sizes-sizesHead sizes-sizesFiled sizes-decodeSizes sizes-encodeSizes sizes-sizesGood sizes-sizeAt sizes-raiseAt sizes-recorded stage_lists-stageHead stage_lists-outFiled stage_lists-decodeStage stage_lists-encodeStage stage_lists-outGood stage_lists-varyingAt stage_lists-rising stage_lists-insert stage_lists-inserted interface-readVarying interface-clips interface-bytesOf interface-noZero interface-allZero interface-readName interface-readWorkgroup interface-readMesh interface-contents interface-ofType interface-pairsOf interface-readEntryPoint interface-sameBytes interface-hasName interface-distinctNames interface-readPack interface-torn interface-decode interface-packName interface-entryPointWords interface-recordWords interface-encode interface-entryPointHeld interface-interfaceHeld interface-entryNth input_steps-vertexInput input_steps-fragmentInput input_steps-inputNumber input_steps-inputStep input_steps-inputSteps input_steps-workgroupUse input_steps-workgroupStep output_steps-meshUse output_steps-payloadMatch output_steps-primitiveUse output_steps-drawUse output_steps-perVertexUse output_steps-lastStep output_steps-localsOf output_steps-stageOut output_steps-clipPlaces output_steps-builtInPlaces output_steps-localCount output_steps-locationUses output_steps-vertexOutputs output_steps-anyOf output_steps-attachmentUse output_steps-fragmentPlaces output_steps-fragmentOutputs output_steps-placesStep entry_points-findFrom entry_points-onlyFrom entry_points-finalizeName resource_steps-resourceNth resource_steps-recordSize resource_steps-providedUse resource_steps-provideStep resource_steps-occupied resource_steps-vacant resource_steps-deriveStep resource_steps-provideSteps resource_steps-namedTexture resource_steps-deriveSteps resource_steps-resourceSteps resource_steps-pairNumber resource_steps-pairUse resource_steps-pairUses stage-behindInputs stage-judgement stage-stageBody stage-listsGood stage-callGood stage-finish stage-runBody stage-checkStage locals deliveries startsWith allHold
 deliveries-hold = refl

@@ -18,9 +18,9 @@ use Rattle.word.specs.Lists.{every}
 use Rattle.layouts.specs.Format.{layoutFiled}
 use Rattle.sizes.specs.Format.{sizesFiled}
 use Rattle.stage_lists.specs.Format.{outFiled}
-use Rattle.interface.specs.Meaning.{EntryPoint, Interface}
-use Rattle.interface.specs.Format.{decode, decodedNumber, stageAt, contents, pairsOf}
-use Rattle.interface.specs.inner.Reads.{interfaceOf, entryNth, standing}
+use Rattle.interface.specs.Meaning.{EntryPoint, Interface, entryNth}
+use Rattle.interface.specs.Format.{decode, decodedNumber, stageAt, contents, pairsOf, interfaceOf}
+use Rattle.interface.specs.inner.Reads.{standing}
 use Rattle.interface.specs.inner.Parts.{Placed, Offsets}
 use Rattle.entry_points.specs.Rules.{chosenIn, findEntryPoint}
 use Rattle.entry_points.specs.declared.choose.Chosen.{Chosen}

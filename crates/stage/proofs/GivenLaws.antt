@@ -11,10 +11,9 @@ use Rattle.bindings.specs.Format.{resourceHeld}
 use Rattle.bindings.specs.declared.types.Resource.{Resource}
 use Rattle.word.proofs.Truth.{first, second}
 use Rattle.word.proofs.Lists.{every-as}
-use Rattle.interface.specs.Meaning.{EntryPoint, Interface}
-use Rattle.interface.specs.Format.{Decoded, Torn, Misfiled, Pack, decode, decodedNumber, isTexture, isSampler, ofType, pairGood}
+use Rattle.interface.specs.Meaning.{EntryPoint, Interface, entryNth}
+use Rattle.interface.specs.Format.{Decoded, Torn, Misfiled, Pack, decode, decodedNumber, isTexture, isSampler, ofType, pairGood, interfaceOf}
 use Rattle.interface.specs.Held.{varyingHeld}
-use Rattle.interface.specs.inner.Reads.{entryNth, interfaceOf}
 use Rattle.interface.specs.declared.types.SamplingPair.{SamplingPair}
 use Rattle.interface.specs.declared.types.Varying.{Varying}
 use Rattle.interface.specs.declared.types.Varying.the-variants as Var

@@ -18,8 +18,7 @@ use Rattle.stage_lists.specs.Format.{decodeStage}
 use Rattle.layouts.proofs.LayoutLists as layouts
 use Rattle.sizes.proofs.SizeLists as sizes
 use Rattle.interface.specs.Meaning.{EntryPoint, Interface}
-use Rattle.interface.specs.Format.{Decoded, Torn, Misfiled, Pack, decode, decodedNumber}
-use Rattle.interface.specs.inner.Reads.{interfaceOf}
+use Rattle.interface.specs.Format.{Decoded, Torn, Misfiled, Pack, decode, decodedNumber, interfaceOf}
 use Rattle.output_steps.specs.declared.types.Request.{Request}
 use Rattle.stage.specs.declared.types.Codes.{Codes}
 use Rattle.stage.specs.Meaning.{Lent, lent, Call, call, Outcome, outcome, andThen}

@@ -14,9 +14,8 @@ use Rattle.stage_lists.specs.Meaning.{StageIo}
 use Rattle.layouts.specs.Format.{layoutFiled, decodeLayout, encodeLayout}
 use Rattle.sizes.specs.Format.{sizesFiled, decodeSizes, encodeSizes}
 use Rattle.stage_lists.specs.Format.{stageFiled, decodeStage, encodeStage}
-use Rattle.interface.specs.Meaning.{EntryPoint, Interface}
+use Rattle.interface.specs.Meaning.{EntryPoint, Interface, entryNth}
 use Rattle.interface.specs.Format.{Decoded, Torn, Misfiled, Pack, decode, stageAt}
-use Rattle.interface.specs.inner.Reads.{entryNth}
 use Rattle.entry_points.specs.Rules.{findEntryPoint}
 use Rattle.interface.specs.declared.types.ShaderStage.{ShaderStage}
 use Rattle.interface.specs.declared.types.Limits.{Limits}

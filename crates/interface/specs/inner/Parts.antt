@@ -9,8 +9,8 @@ use Rattle.word.specs.Words.{wordAt, bits, bit}
 use Rattle.bindings.specs.Format.{resourceAt, isBuffer}
 use Rattle.bindings.specs.declared.types.Resource.{Resource}
 use Rattle.interface.specs.Meaning.{EntryPoint}
-use Rattle.interface.specs.Format.{mostWords, nameWords, decode, decodedNumber}
-use Rattle.interface.specs.inner.Reads.{varyingWidth, standing, resourcesAt, interfaceOf}
+use Rattle.interface.specs.Format.{mostWords, nameWords, decode, decodedNumber, interfaceOf}
+use Rattle.interface.specs.inner.Reads.{varyingWidth, standing, resourcesAt}
 use Rattle.interface.specs.declared.types.EntryParts.{EntryParts}
 
 -- as many records from a position on, where each says where the next begins; and the position behind them

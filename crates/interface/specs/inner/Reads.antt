@@ -1,6 +1,5 @@
 -- What stands at positions of a pack, read without asking whether it is well filed: what the functions behind the check of a pack read.
 use Prim.Native.Nat.{ℕ, zero, suc, _+_}
-use mathlib.Core.Bool.{false}
 use mathlib.Core.List.{List, [], _∷_}
 use lib.Dec.{eqb}
 use lib.ListN.{take, drop}
@@ -9,10 +8,8 @@ use Rattle.word.specs.Words.{wordAt, contentOf, bits, bit}
 use Rattle.bindings.specs.Format.{resourceAt}
 use Rattle.bindings.specs.declared.types.Resource.{Resource}
 use Rattle.varying.specs.Format.{locationFiled, payloadOf}
-use Rattle.varying.specs.declared.Payload.the-variants as Pay
-use Rattle.interface.specs.Meaning.{EntryPoint, Interface}
-use Rattle.interface.specs.Format.{Decoded, Torn, Misfiled, Pack, limitsOf, local, builtInOf, bytesOf, nameWords, stageAt, meshInfo, contents, pairsOf}
-use Rattle.interface.specs.declared.types.ShaderStage.the-variants as Stage
+use Rattle.interface.specs.Meaning.{EntryPoint}
+use Rattle.interface.specs.Format.{local, builtInOf, bytesOf, nameWords, stageAt, meshInfo, contents, pairsOf}
 use Rattle.interface.specs.declared.types.MeshRecord.{MeshRecord}
 use Rattle.interface.specs.declared.types.MeshRecord.the-variants as Mesh
 use Rattle.interface.specs.declared.types.Varying.{Varying}
@@ -61,31 +58,3 @@ standing ws p =
 unfoldable pub resourcesAt : List ℕ → List ℕ → List Resource
 resourcesAt ws [] = []
 resourcesAt ws (at ∷ others) = resourceAt ws at ∷ resourcesAt ws others
-
--- the interface of an accepted pack
-abbrev pub interfaceOf : Decoded → Interface
-interfaceOf Torn = record { limits = limitsOf []; resources = []; entries = [] }
-interfaceOf Misfiled = record { limits = limitsOf []; resources = []; entries = [] }
-interfaceOf (Pack i) = i
-
--- an entry point with nothing in it
-abbrev pub emptyEntryPoint : EntryPoint
-emptyEntryPoint =
-    record {
-      stage = Stage.Vertex;
-      name = [];
-      dual = false;
-      workgroup = record { x = 0; y = 0; z = 0 };
-      payload = Pay.Absent;
-      mesh = Mesh.Absent;
-      resources = [];
-      pairs = [];
-      inputs = [];
-      outputs = [];
-    }
-
--- the entry point at a position; past the end an empty one
-unfoldable pub entryNth : List EntryPoint → ℕ → EntryPoint
-entryNth [] i = emptyEntryPoint
-entryNth (e ∷ es) zero = e
-entryNth (e ∷ es) (suc i) = entryNth es i

@@ -1,8 +1,7 @@
 use Prim.Native.Nat.{_-_, _≤_}
 use mathlib.Core.Path.{_≡_}
 use lib.ListN.{drop}
-use Rattle.interface.specs.Format.{decode}
-use Rattle.interface.specs.inner.Reads.{interfaceOf}
+use Rattle.interface.specs.Format.{decode, interfaceOf}
 use Rattle.entry_points.specs.Rules.{findFrom, findEntryPoint}
 use Rattle.entry_points.proofs.ReadsChoice.{find-here, find-onward, find-ended, here-in}
 use borrow.Author.Needs.{needs}

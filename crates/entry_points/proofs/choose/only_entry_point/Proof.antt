@@ -2,8 +2,7 @@ use Prim.Native.Nat.{_-_, _≤_}
 use mathlib.Core.Path.{_≡_}
 use mathlib.Core.Bool.{true}
 use lib.ListN.{drop}
-use Rattle.interface.specs.Format.{decode}
-use Rattle.interface.specs.inner.Reads.{interfaceOf}
+use Rattle.interface.specs.Format.{decode, interfaceOf}
 use Rattle.entry_points.specs.Rules.{chosenIn, onlyFrom, onlyEntryPoint}
 use Rattle.entry_points.proofs.ReadsChoice.{only-onward, only-ended, ended-in}
 use borrow.Author.Needs.{needs}

@@ -2,7 +2,7 @@ use Prim.Native.Nat.{_≤_, _-_, _*_}
 use mathlib.Core.Path.{_≡_}
 use lib.ListN.{length, take, drop}
 use Rattle.interface.specs.Format.{bytesOf}
-use Rattle.report.specs.Written.{Wrote}
+use Rattle.report.specs.inner.Written.{Wrote}
 use Rattle.report.proofs.Naming.{bytes-begin, bytes-onward, bytes-ended}
 use borrow.Author.Needs.{needs}
 use Rattle.report.proofs.names.push_words.Statement.{statement}

@@ -2,8 +2,7 @@ use Prim.Native.Nat.{_+_, _*_, _<_, _≤_}
 use mathlib.Core.Path.{_≡_}
 use mathlib.Core.List.{[]}
 use lib.ListN.{length, take, drop}
-use Rattle.interface.specs.Format.{decode}
-use Rattle.interface.specs.inner.Reads.{interfaceOf}
+use Rattle.interface.specs.Format.{decode, interfaceOf}
 use Rattle.interface.specs.inner.Parts.{endFrom, entryEnd}
 use Rattle.interface.proofs.ReadsParts.{left-of, entries-begin, ends-begin, short-pack, ends-onward, entry-within, head-within, name-within}
 use Rattle.report.specs.Report.{ran, runEntries}

@@ -2,7 +2,7 @@ use Prim.Native.Nat.{_≤_, _-_, _+_, _*_}
 use mathlib.Core.Path.{_≡_}
 use lib.ListN.{length, take}
 use Rattle.report.specs.Text.{hexLines}
-use Rattle.report.specs.Written.{Wrote}
+use Rattle.report.specs.inner.Written.{Wrote}
 use Rattle.report.proofs.Writing.{hex-begins, hex-onward, hex-ended}
 use borrow.Author.Needs.{needs}
 use Rattle.report.proofs.text.push_hex_lines.Statement.{statement}
