@@ -23,7 +23,7 @@ use Rattle.interface.specs.declared.types.ShaderStage.{ShaderStage}
 use Rattle.stage_steps.specs.Interfaces.{stageOut}
 use Rattle.stage_steps.specs.declared.types.InputWalk.{InputWalk}
 use Rattle.stage.specs.Meaning.{Call}
-use Rattle.stage.specs.Resources.{resourceNth, namedTexture, providedUse, provideSteps, pairUses}
+use Rattle.stage.specs.Resources.{sizeRecordWidth, resourceNth, namedTexture, providedUse, provideSteps, pairUses}
 use Rattle.stage.specs.Stage.{callGood, requestOf, inputWalk, judgement, runBody, checkStage}
 use Rattle.stage.proofs.GivenLaws.{resource-held, entry-pairs}
 use Rattle.handback.specs.HandBack.{derivedOver, putAgain, packKept, interfaceOfCall, entryOfCall, lacking, RoomEnough, used, Again}
@@ -107,7 +107,7 @@ module _ (l final sizes out : List ℕ) (c : Call) (x : Leaves l c) (f : layoutF
   steps-again : provideSteps (stageAt (c .stage)) (decodeLayout final) (i .resources) (e .resources) (decodeSizes sizes) .answer ≡ accepted
   steps-again =
       provide-steps (stageAt (c .stage)) (decodeLayout final) (i .resources) (e .resources) (decodeSizes sizes) served-again
-      (leb-true (2 * lacking (i .resources) (e .resources) (decodeSizes sizes .records)) (length (decodeSizes sizes .room)) (rw (entry-is, interface-is) at (r .free)))
+      (leb-true (sizeRecordWidth * lacking (i .resources) (e .resources) (decodeSizes sizes .records)) (length (decodeSizes sizes .room)) (rw (entry-is, interface-is) at (r .free)))
 
   pairs-again : pairUses (decodeLayout final) (i .resources) (e .pairs) ≡ accepted
   pairs-again =

@@ -11,7 +11,7 @@ use borrow.Author.Tests.{eqb-true, leb-true, lt-ltb}
 use Rattle.word.specs.Answers.{accepted}
 use Rattle.word.specs.declared.answer.Answer.{Answer}
 use Rattle.resource.specs.Rules.{deriveBindingType}
-use Rattle.resource.specs.Format.{placeHeld, typeHeld, resourceHeld, sameBinding}
+use Rattle.resource.specs.Format.{entryWidth, placeHeld, typeHeld, resourceHeld, sameBinding}
 use Rattle.resource.specs.Answers.{bindingAnswer}
 use Rattle.resource.specs.declared.types.Resource.{Resource}
 use Rattle.resource.specs.declared.types.BindingType.{BindingType}
@@ -20,7 +20,7 @@ use Rattle.resource.specs.declared.types.Derived.the-variants as Der
 use Rattle.resource.proofs.SameBinding.{same-binding-eq}
 use Rattle.resource.proofs.HandBack.{derived-held}
 use Rattle.word.proofs.Truth.{first, second, by-test, never}
-use Rattle.lists.specs.Meaning.{Layout, samePlace, findEntry, entryPlaces, entryHas, entryNth, fits, pushed, seesBit, joined}
+use Rattle.lists.specs.Meaning.{Layout, samePlace, findEntry, entryPlaces, entryHas, entryNth, pushed, seesBit, joined}
 use Rattle.lists.specs.Format.{entryFits, layoutGood}
 use Rattle.lists.specs.declared.types.Found.{Found}
 use Rattle.lists.specs.declared.types.Found.the-variants.{At, Nothing}
@@ -32,7 +32,7 @@ use Rattle.interface.specs.declared.types.ShaderStage.{ShaderStage}
 use Rattle.interface.specs.declared.types.ShaderStage.the-variants as Stage
 use Rattle.interface.specs.declared.types.SamplingPair.{SamplingPair}
 use Rattle.interface.proofs.EncodeEntry.{stage-below}
-use Rattle.stage.specs.Resources.{resourceNth, LayoutAfter, layoutAfter, occupied, vacant, newEntry, placeStep, derivedStep, deriveStep, namedTexture}
+use Rattle.stage.specs.Resources.{roomForEntry, resourceNth, LayoutAfter, layoutAfter, occupied, vacant, newEntry, placeStep, derivedStep, deriveStep, namedTexture}
 use Rattle.stage.specs.Resources.{DeriveResult, deriveResult, deriveOn, deriveSteps}
 use Rattle.handback.proofs.Entries.{find-sound}
 use Rattle.handback.proofs.Growth.{join-sets, good-nth, Grows, grows-refl, grows-trans, grows-pushed, grows-joined}
@@ -147,11 +147,11 @@ module _ (stage : ShaderStage) (named : Bool) (r : Resource) (L : Layout) (g : l
         }))
         (λ n. rw n (refuses (bindingAnswer 29 (r .bind)) refl))
     place-step l Nothing q =
-        by-test (fits 4 (L .room))
+        by-test (roomForEntry L)
         (λ t.
         rw t
         (record {
-          good = good-pushed L g (newEntry stage (r .bind) ty) (new-fits l) (lacks q) (leb-true 4 (length (L .room)) t);
+          good = good-pushed L g (newEntry stage (r .bind) ty) (new-fits l) (lacks q) (leb-true entryWidth (length (L .room)) t);
           grows = grows-pushed L (newEntry stage (r .bind) ty);
           placed = λ z. pushes;
         }))

@@ -13,7 +13,7 @@ use Rattle.resource.specs.declared.types.ResourceType.{ResourceType}
 use Rattle.resource.specs.declared.types.ResourceType.the-variants as Res
 use Rattle.resource.specs.declared.types.ImageClass.the-variants as Class
 use Rattle.resource.specs.declared.types.SampleKind.the-variants as Kind
-use Rattle.lists.specs.Meaning.{Layout, entryNth, sizeHas, sizeRecord, seesBit}
+use Rattle.lists.specs.Meaning.{Layout, Sizes, entryNth, sizeHas, sizeRecord, seesBit}
 use Rattle.lists.specs.Format.{layoutFiled, sizesFiled, decodeLayout, decodeSizes, countOf}
 use Rattle.lists.specs.declared.types.SizeRecord.{SizeRecord}
 use Rattle.interface.specs.Meaning.{EntryPoint, Interface}
@@ -25,7 +25,7 @@ use Rattle.interface.specs.declared.types.Chosen.{Chosen}
 use Rattle.interface.specs.declared.types.Chosen.the-variants as Ch
 use Rattle.interface.specs.declared.types.SamplingPair.{SamplingPair}
 use Rattle.stage.specs.Meaning.{Call, Outcome}
-use Rattle.stage.specs.Resources.{resourceNth}
+use Rattle.stage.specs.Resources.{sizeRecordWidth, resourceNth}
 use Rattle.stage.specs.Stage.{checkStage, outWords}
 
 -- ---- running and putting again
@@ -151,14 +151,16 @@ lacking resources (i ∷ is) records =
     let rest = lacking resources is records in
     pick (isBuffer (resourceNth resources i .ty) && not (sizeHas (resourceNth resources i .bind) records)) new rest
 
+-- a size list has room for as many records
+abbrev pub roomForSizes : ℕ → Sizes → Bool
+roomForSizes n S = leb (sizeRecordWidth * n) (length (S .room))
+
 -- 'room enough is a list out that 4 passes and any size list that 3 passes, with free words for a record of each buffer place among the
 -- entry point's resources that the size list lacks'
 pub record RoomEnough (c : Call) (sizes out : List ℕ) : Type 0 where
   pub passes4 : ltb (length out) (outWords (entryOfCall c)) ≡ false
   pub passes3 : sizesFiled sizes ≡ true
-  pub free :
-      leb (2 * lacking (interfaceOfCall c .resources) (entryOfCall c .resources) (decodeSizes sizes .records)) (length (decodeSizes sizes .room))
-      ≡ true
+  pub free : roomForSizes (lacking (interfaceOfCall c .resources) (entryOfCall c .resources) (decodeSizes sizes .records)) (decodeSizes sizes) ≡ true
 
 -- ---- the same list out
 

@@ -11,7 +11,7 @@ use Rattle.word.specs.Choice.{yes}
 use Rattle.word.specs.Words.{kindOf, contentOf, bits, bit, ofKind}
 use Rattle.resource.specs.Rules.{viewCode}
 use Rattle.resource.specs.Format.{flag, bitSet, typeCode, isBuffer, viewAt, sampleAt, sampleCode, accessAt, accessCode, samplerAt, samplerCode, bufferAt, bufferCode}
-use Rattle.resource.specs.Format.{bindingTypeFiled, bindingTypeOf, bindingCode, leastSize, formatHeld, placeFiled, placeOf, placeWord, placeHeld}
+use Rattle.resource.specs.Format.{sizeLimit, bindingTypeFiled, bindingTypeOf, bindingCode, leastSize, formatHeld, placeFiled, placeOf, placeWord, placeHeld}
 use Rattle.resource.specs.Format.{entryFiled, entryOf, entryWords, entryHeld}
 use Rattle.resource.specs.declared.types.ResourceBinding.{ResourceBinding}
 use Rattle.resource.specs.declared.types.BufferBindingType.the-variants as Buf
@@ -243,11 +243,11 @@ least-back w least h =
     (λ e. refl) (λ e. z (λ y. omega arith)) (λ e. z (λ y. omega arith)) (λ e. z (λ y. omega arith)) (λ e. z (λ y. omega arith)) (λ n0 n1 n2 n4 n5. z n0)
 
 -- words can hold what a well filed type word means
-pub type-held : (w least : ℕ) → least < 2 ^ 27 → bindingTypeFiled w ≡ true → formatHeld (bindingTypeOf w least) ≡ true
+pub type-held : (w least : ℕ) → least < sizeLimit → bindingTypeFiled w ≡ true → formatHeld (bindingTypeOf w least) ≡ true
 unfolding bindingTypeOf
 type-held w least l h =
     binding-cases w h
-    (λ e f. rw e (lt-ltb least (2 ^ 27) l))
+    (λ e f. rw e (lt-ltb least sizeLimit l))
     (λ e f. rw e)
     (λ e f. rw e)
     (λ e f. rw e (search second))

@@ -1,5 +1,5 @@
 -- The binding type that a resource derives: words can hold it, and under demand 3's conditions it serves the resource.
-use Prim.Native.Nat.{ℕ, _^_, _<_}
+use Prim.Native.Nat.{ℕ, _<_}
 use native.Mathlib.Omega.{arith}
 use mathlib.Core.Path.{_≡_, refl}
 use mathlib.Core.Bool.{Bool, true, false, not, _&&_, _||_}
@@ -10,7 +10,7 @@ use Rattle.word.specs.Choice.{pick, yes}
 use Rattle.resource.specs.Rules.{storable, sameBool, spaceOf, sameSpace, sizeUse, bufferUse, samplerUse, viewFits, classOf, sampledFits, storageFits, accessOf}
 use Rattle.resource.specs.Rules.{textureUse, accelerationUse, checkBindingUse, useNumber, derivedView, derivedSample, derivedAccess, derivedTexture, deriveBindingType}
 use Rattle.resource.specs.Rules.{arrayKept, flat, handBack}
-use Rattle.resource.specs.Format.{typeHeld, formatHeld}
+use Rattle.resource.specs.Format.{sizeLimit, typeHeld, formatHeld}
 use Rattle.resource.specs.declared.types.AddressSpace.the-variants as Space
 use Rattle.resource.specs.declared.types.ImageDimension.{ImageDimension}
 use Rattle.resource.specs.declared.types.ImageDimension.the-variants as Dim
@@ -41,9 +41,9 @@ heldType Der.WrongBufferAddressSpace = true
 
 held-type : (r : ResourceType) (named : Bool) → typeHeld r ≡ true → heldType (deriveBindingType r named) ≡ true
 unfolding typeHeld deriveBindingType derivedTexture
-held-type (Res.Buffer size Space.Uniform) named h = first (ltb size (2 ^ 27)) (not (eqb size 0)) h
+held-type (Res.Buffer size Space.Uniform) named h = first (ltb size sizeLimit) (not (eqb size 0)) h
 held-type (Res.Buffer size (Space.Storage access)) named h =
-    first (ltb size (2 ^ 27)) (not (eqb size 0)) (second (ltb access 8) (ltb size (2 ^ 27) && not (eqb size 0)) h)
+    first (ltb size sizeLimit) (not (eqb size 0)) (second (ltb access 8) (ltb size sizeLimit && not (eqb size 0)) h)
 held-type (Res.Buffer size Space.Other) named h = refl
 held-type (Res.Sampler comparison) named h = refl
 held-type (Res.Texture dim arrayed (Class.Sampled kind multi)) named h = refl

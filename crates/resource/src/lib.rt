@@ -5,6 +5,7 @@ pub mod check_words;
 pub mod derives;
 pub mod entry_words;
 pub mod resource_words;
+pub mod sizes;
 pub mod texture_uses;
 pub mod types;
 pub mod uses;

@@ -28,7 +28,7 @@ use Rattle.varying.specs.declared.InterfaceVar.{InterfaceVar}
 use Rattle.varying.specs.declared.Located.{Located}
 use Rattle.varying.specs.declared.Payload.{Payload}
 use Rattle.varying.specs.declared.Payload.the-variants as Pay
-use Rattle.lists.specs.Meaning.{Layout, Sizes, StageIo, findEntry, sizeFits, fits, varyingAt, entryNth, seesBit}
+use Rattle.lists.specs.Meaning.{Layout, Sizes, StageIo, findEntry, sizeFits, varyingAt, entryNth, seesBit}
 use Rattle.lists.specs.declared.types.Found.{Found}
 use Rattle.lists.specs.declared.types.Found.the-variants.{At, Nothing}
 use Rattle.lists.specs.declared.types.Provided.{Provided}
@@ -52,7 +52,7 @@ use Rattle.stage_steps.specs.declared.types.InputWalk.{InputWalk}
 use Rattle.stage_steps.specs.declared.types.Walked.{Walked}
 use Rattle.stage.specs.Meaning.{State, state, andThen}
 use Rattle.stage.specs.Resources.{resourceNth, namedTexture, SizesAfter, sizesAfter, recordSize, foundUse, providedUse, provideStep, ProvideResult, provideResult, provideSteps, providedOver}
-use Rattle.stage.specs.Resources.{LayoutAfter, occupied, vacant, placeStep, derivedStep, deriveStep, DeriveResult, deriveResult, deriveSteps, derivedBeside, resourceSteps, sampleNumber, filtering, pairNumber, pairUse, pairUses, typeAt}
+use Rattle.stage.specs.Resources.{roomForEntry, LayoutAfter, occupied, vacant, placeStep, derivedStep, deriveStep, DeriveResult, deriveResult, deriveSteps, derivedBeside, resourceSteps, sampleNumber, filtering, pairNumber, pairUse, pairUses, typeAt}
 use Rattle.stage.specs.Stage.{pairStep, inputWalk, judgement, stageBody}
 use Rattle.stage.specs.Table.{among, stepNumbers}
 
@@ -144,7 +144,7 @@ Derives x = Step (x .answer)
 place-known : (stage : ShaderStage) (bind : ResourceBinding) (ty : BindingType) (f : Found) (L : Layout) → Derives (placeStep stage bind ty f L)
 unfolding occupied vacant among
 place-known stage bind ty (At i) L = either Derives (sameBinding ty (entryNth (L .entries) i .ty)) _ _ none (binding-known 29 bind (lit 29 refl))
-place-known stage bind ty Nothing L = either Derives (fits 4 (L .room)) _ _ none (binding-known 5 bind (lit 5 refl))
+place-known stage bind ty Nothing L = either Derives (roomForEntry L) _ _ none (binding-known 5 bind (lit 5 refl))
 
 derived-known : (stage : ShaderStage) (bind : ResourceBinding) (d : Derived) (L : Layout) → Derives (derivedStep stage bind d L)
 unfolding among

@@ -1,6 +1,6 @@
 -- The resources of an entry point against a layout, provided or derived, and its pairs of textures and samplers
 -- (document 01, 'Each resource in list order' and 'Provided only: each pair in pack order'; WebGPU, 'validating GPUProgrammableStage').
-use Prim.Native.Nat.{ℕ, zero, suc, _^_}
+use Prim.Native.Nat.{ℕ, zero, suc, _+_, _^_}
 use mathlib.Core.Bool.{Bool, true, false}
 use mathlib.Core.List.{List, [], _∷_}
 use lib.Dec.{eqb, ltb}
@@ -8,7 +8,7 @@ use Rattle.word.specs.Choice.{pick, yes}
 use Rattle.word.specs.Answers.{answer, accepted}
 use Rattle.word.specs.declared.answer.Answer.{Answer}
 use Rattle.resource.specs.Rules.{checkBindingUse, useNumber, deriveBindingType}
-use Rattle.resource.specs.Format.{sameBinding, placeWord}
+use Rattle.resource.specs.Format.{sizeWidth, entryWidth, sameBinding, placeWord}
 use Rattle.resource.specs.Answers.{bindingAnswer}
 use Rattle.resource.specs.declared.types.ResourceBinding.{ResourceBinding}
 use Rattle.resource.specs.declared.types.Resource.{Resource}
@@ -39,6 +39,16 @@ unfoldable pub resourceNth : List Resource → ℕ → Resource
 resourceNth [] i = noResource
 resourceNth (r ∷ rs) zero = r
 resourceNth (r ∷ rs) (suc i) = resourceNth rs i
+
+-- ---- room in the lists
+
+-- a layout has room for one more entry
+abbrev pub roomForEntry : Layout → Bool
+roomForEntry L = fits entryWidth (L .room)
+
+-- a record of the size list is a place and a size
+abbrev pub sizeRecordWidth : ℕ
+sizeRecordWidth = 1 + sizeWidth
 
 -- ---- provided
 
@@ -99,7 +109,7 @@ newEntry stage bind ty = record { bind = bind; ty = ty; visibility = 2 ^ stageCo
 -- 'else 5 or a new entry'
 unfoldable pub vacant : ShaderStage → ResourceBinding → BindingType → Layout → LayoutAfter
 vacant stage bind ty L =
-    pick (fits 4 (L .room)) (layoutAfter accepted (pushed L (newEntry stage bind ty))) (layoutAfter (bindingAnswer 5 bind) L)
+    pick (roomForEntry L) (layoutAfter accepted (pushed L (newEntry stage bind ty))) (layoutAfter (bindingAnswer 5 bind) L)
 
 abbrev pub placeStep : ShaderStage → ResourceBinding → BindingType → Found → Layout → LayoutAfter
 placeStep stage bind ty (At i) L = occupied stage bind ty i L
