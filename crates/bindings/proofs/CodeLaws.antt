@@ -6,7 +6,7 @@ use mathlib.Core.Bool.{Bool, true, false}
 use borrow.Author.Tests.{ltb-true}
 use Rattle.word.specs.Choice.{pick, yes}
 use Rattle.bindings.specs.Rules.{viewCode}
-use Rattle.bindings.specs.Format.{flag, bufferCode, samplerCode, sampleCode, accessCode, bindingCode, leastSize, formatHeld}
+use Rattle.bindings.specs.Format.{flag, bufferCode, samplerCode, sampleCode, accessCode, bindingCode, leastSize, formatHeld, sizeLimit}
 use Rattle.bindings.specs.declared.types.BufferBindingType.{BufferBindingType}
 use Rattle.bindings.specs.declared.types.BufferBindingType.the-variants as Buf
 use Rattle.bindings.specs.declared.types.SamplerBindingType.{SamplerBindingType}
@@ -100,8 +100,8 @@ code-fits (Bind.StorageTexture access format view) h = omega (arith, access-most
 code-fits Bind.ExternalTexture h = omega arith
 code-fits (Bind.AccelerationStructure returns) h = omega (arith, flag-most returns)
 
-pub least-fits : (ty : BindingType) → formatHeld ty ≡ true → leastSize ty < 2 ^ 27
-least-fits (Bind.Buffer b dynamic least) h = ltb-true least (2 ^ 27) h
+pub least-fits : (ty : BindingType) → formatHeld ty ≡ true → leastSize ty < sizeLimit
+least-fits (Bind.Buffer b dynamic least) h = ltb-true least sizeLimit h
 least-fits (Bind.Sampler s) h = omega arith
 least-fits (Bind.Texture sample view multi) h = omega arith
 least-fits (Bind.StorageTexture access format view) h = omega arith

@@ -25,6 +25,9 @@ use Rattle.bindings.specs.declared.types.StorageTextureAccess.the-varian
 use Rattle.bindings.specs.declared.types.BindingType.{BindingType}
 use Rattle.bindings.specs.declared.types.BindingType.the-variants as Bind
 use Rattle.bindings.specs.declared.types.BindGroupLayoutEntry.{BindGroupLayoutEntry}
+use Rattle.bindings.specs.Format.{flag, bitSet, typeCode, isBuffer, viewAt, sampleAt, sampleCode, accessAt, accessCode, samplerAt, samplerCode, bufferAt, bufferCode}
+use Rattle.bindings.specs.Format.{sizeLimit, bindingTypeFiled, bindingTypeOf, bindingCode, leastSize, formatHeld, placeFiled, placeOf, placeWord, placeHeld}
+use Rattle.bindings.specs.Format.{entryFiled, entryOf, entryWords, entryHeld}
 use Rattle.word.proofs.Truth.{first, second, or-right, by-test, never, codes-back}
 use Rattle.bindings.proofs.CodeLaws.{flag-most, sample-most, view-most, access-most, buffer-most, code-fits, least-fits}
 use Rattle.bindings.proofs.ReadLaws.{place-held}
@@ -243,11 +246,11 @@ least-back w least h =
     (λ e. refl) (λ e. z (λ y. omega arith)) (λ e. z (λ y. omega arith)) (λ e. z (λ y. omega arith)) (λ e. z (λ y. omega arith)) (λ n0 n1 n2 n4 n5. z n0)
 
 -- words can hold what a well filed type word means
-pub type-held : (w least : ℕ) → least < 2 ^ 27 → bindingTypeFiled w ≡ true → formatHeld (bindingTypeOf w least) ≡ true
+pub type-held : (w least : ℕ) → least < sizeLimit → bindingTypeFiled w ≡ true → formatHeld (bindingTypeOf w least) ≡ true
 unfolding bindingTypeOf
 type-held w least l h =
     binding-cases w h
-    (λ e f. rw e (lt-ltb least (2 ^ 27) l))
+    (λ e f. rw e (lt-ltb least sizeLimit l))
     (λ e f. rw e)
     (λ e f. rw e)
     (λ e f. rw e (search second))

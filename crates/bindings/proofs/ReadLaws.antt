@@ -15,6 +15,8 @@ use Rattle.bindings.specs.declared.types.ImageClass.the-variants as Clas
 use Rattle.bindings.specs.declared.types.ResourceType.{ResourceType}
 use Rattle.bindings.specs.declared.types.ResourceType.the-variants as Res
 use Rattle.bindings.specs.declared.types.Resource.{Resource}
+use Rattle.bindings.specs.Format.{placeFiled, placeOf, placeHeld, typeCode, bitSet, sampleKindAt, texture, spaceAt, spaceHeld, bufferFiled, storageFiled, resourceTypeFiled, resourceWordFiled}
+use Rattle.bindings.specs.Format.{sizeLimit, sizeFiled, isBuffer, resource, resourceTypeOf, readResource, resourceAt, typeHeld, resourceHeld}
 use Rattle.word.proofs.Truth.{first, second, by-test, never}
 
 -- a fault is no resource
@@ -115,7 +117,7 @@ space-held : (code access : ℕ) → access < 8 → spaceHeld (spaceAt code acce
 space-held code access h =
     by-test (eqb code 0) (λ e. rw e) (λ n. by-test (eqb code 1) (λ e. rw (n, e, lt-ltb access 8 h)) (λ m. rw (n, m)))
 
-pub type-held : (w size : ℕ) → resourceTypeFiled w ≡ true → (isBuffer w ≡ true → ltb size (2 ^ 27) && not (eqb size 0) ≡ true)
+pub type-held : (w size : ℕ) → resourceTypeFiled w ≡ true → (isBuffer w ≡ true → ltb size sizeLimit && not (eqb size 0) ≡ true)
     → typeHeld (resourceTypeOf w size) ≡ true
 unfolding resourceTypeOf typeHeld
 type-held w size h s =
@@ -135,4 +137,4 @@ read-held ws r rest h =
     (λ p t e f g w q. rw (q, place-held p) (type-held t 0 (second (eqb (kindOf t) 16) (resourceTypeFiled t) f) (λ y. never (isBuffer t) y g)))
     (λ p t s e f g d w q. rw (q, place-held p)
     (type-held t (contentOf s) (second (eqb (kindOf t) 16) (resourceTypeFiled t) f)
-    (λ y. rw (lt-ltb (contentOf s) (2 ^ 27) (omega arith)) (second (eqb (kindOf s) 6) (not (eqb (contentOf s) 0)) d))))
+    (λ y. rw (lt-ltb (contentOf s) sizeLimit (omega arith)) (second (eqb (kindOf s) 6) (not (eqb (contentOf s) 0)) d))))

@@ -22,6 +22,8 @@ use Rattle.bindings.specs.declared.types.ImageClass.the-variants as Clas
 use Rattle.bindings.specs.declared.types.ResourceType.{ResourceType}
 use Rattle.bindings.specs.declared.types.ResourceType.the-variants as Res
 use Rattle.bindings.specs.declared.types.Resource.{Resource}
+use Rattle.bindings.specs.Format.{flag, bitSet, typeCode, isBuffer, dimensionAt, dimensionCode, sampleKindAt, spaceAt, spaceCode, spaceHeld, resourceTypeFiled}
+use Rattle.bindings.specs.Format.{sizeLimit, resourceWordFiled, sizeFiled, resourceTypeOf, readResource, resourceCode, sizeWords, resourceWords, placeWord, placeHeld, typeHeld, resourceHeld}
 use Rattle.word.proofs.Truth.{first, second, by-test, codes-back}
 use Rattle.bindings.proofs.CodeLaws.{flag-most}
 use Rattle.bindings.proofs.ReadLaws.{read-cases, by-resource, type-cases, storage-parts}
@@ -171,7 +173,7 @@ type-again : (ty : ResourceType) → typeHeld ty ≡ true → Again ty
 unfolding resourceTypeFiled resourceTypeOf typeHeld yes
 type-again (Res.Buffer size Space.Uniform) h = (refl, refl)
 type-again (Res.Buffer size (Space.Storage access)) h =
-    storage-buffer size access (ltb-true access 8 (first (ltb access 8) (ltb size (2 ^ 27) && not (eqb size 0)) h))
+    storage-buffer size access (ltb-true access 8 (first (ltb access 8) (ltb size sizeLimit && not (eqb size 0)) h))
 type-again (Res.Buffer size Space.Other) h = (refl, refl)
 type-again (Res.Sampler true) h = (refl, refl)
 type-again (Res.Sampler false) h = (refl, refl)
@@ -193,7 +195,7 @@ module _ (bind : ResourceBinding) (ty : ResourceType) (rest : List ℕ) (p : pla
   sizes : sizeWords ty ≡ pick (isBuffer (wordOf ty)) (ofKind 6 (sizeOf ty) ∷ []) []
   sizes = rw (type-again ty h .1) at (sizes-back (wordOf ty) (sizeOf ty))
 
-  sized-read : isBuffer (wordOf ty) ≡ true → sizeOf ty < 2 ^ 27 → (sizeOf ty ≡ 0 → ⊥)
+  sized-read : isBuffer (wordOf ty) ≡ true → sizeOf ty < sizeLimit → (sizeOf ty ≡ 0 → ⊥)
       → readResource (placeWord bind ∷ wordOf ty ∷ ofKind 6 (sizeOf ty) ∷ rest) ≡ got (record { bind = bind; ty = ty }) rest
   unfolding readResource
   sized-read g l n =
@@ -212,7 +214,7 @@ read-parts : (bind : ResourceBinding) (ty : ResourceType) (rest : List ℕ) → 
     → readResource (placeWord bind ∷ wordOf ty ∷ (sizeWords ty ++ rest)) ≡ got (record { bind = bind; ty = ty }) rest
 unfolding typeHeld
 read-parts bind (Res.Buffer size space) rest p h =
-    let s : ltb size (2 ^ 27) && not (eqb size 0) ≡ true = second (spaceHeld space) (ltb size (2 ^ 27) && not (eqb size 0)) h in
+    let s : ltb size sizeLimit && not (eqb size 0) ≡ true = second (spaceHeld space) (ltb size sizeLimit && not (eqb size 0)) h in
     by-test (isBuffer (wordOf (Res.Buffer size space)))
     (λ g. sized-read bind (Res.Buffer size space) rest p h g (search (ltb-true, first)) (eqb-false size 0 (search (not-true, second))))
     (λ n. unlike (ofKind 6 size) (rw n at (sizes bind (Res.Buffer size space) rest p h)))

@@ -115,15 +115,15 @@ module _ (ws : List ℕ) (at : ℕ) where
 pub next-later : (at r : ℕ) → ((r ≡ 0 → ⊥) → at + 2 ≤ r) → (r ≡ 0 → ⊥) → at < r
 next-later at r h n = omega (arith, h n)
 
-pub resource-parts : (place w size s : ℕ) (bind : ResourceBinding) (ty : ResourceType) → bind ≡ placeOf place → s ≡ contentOf size → ty ≡ resourceTypeOf w s
-    → record { bind = bind; ty = ty } ≡ resource place w (contentOf size)
-resource-parts place w size s bind ty p q e = rw (p, e, q)
+pub resource-parts : (place w size : ℕ) (bind : ResourceBinding) (ty : ResourceType) → bind ≡ placeOf place → ty ≡ resourceTypeOf w size
+    → record { bind = bind; ty = ty } ≡ resource place w size
+resource-parts place w size bind ty p e = rw (p, e)
 
 -- past the end every word is 0
-pub resource-past : (ws : List ℕ) (at : ℕ) (x : Resource) → length ws ≤ at → x ≡ resource 0 0 (contentOf 0) → x ≡ resourceAt ws at
+pub resource-past : (ws : List ℕ) (at : ℕ) (x : Resource) → length ws ≤ at → x ≡ resource 0 0 0 → x ≡ resourceAt ws at
 resource-past ws at x h e =
     rw (List·getD-eq-default ws 0 {n = at} h, List·getD-eq-default ws 0 {n = at + 1} (omega arith), List·getD-eq-default ws 0 {n = at + 2} (omega arith)) e
 
-pub resource-there : (ws : List ℕ) (at p t s : ℕ) (x : Resource) → p ≡ wordAt ws at → t ≡ wordAt ws (at + 1) → s ≡ wordAt ws (at + 2)
-    → x ≡ resource p t (contentOf s) → x ≡ resourceAt ws at
-resource-there ws at p t s x pe te se e = rw (← pe, ← te, ← se) e
+pub resource-there : (ws : List ℕ) (at p t s size : ℕ) (x : Resource) → p ≡ wordAt ws at → t ≡ wordAt ws (at + 1) → s ≡ wordAt ws (at + 2) → size ≡ contentOf s
+    → x ≡ resource p t size → x ≡ resourceAt ws at
+resource-there ws at p t s size x pe te se ze e = rw (← pe, ← te, ← se, ← ze) e

@@ -119,9 +119,7 @@ word-agrees kind n w k =
     (λ t. let e : n ≡ contentOf w = eqb-true n (contentOf w) t in rw t (sym (eq-eqb w (ofKind kind n) (omega arith))))
     (λ f. let d : n ≡ contentOf w → ⊥ = eqb-false n (contentOf w) f in rw f (sym (ne-eqb w (ofKind kind n) (λ e. d (omega arith)))))
 
--- the words of a well filed entry mean a type where they are that type's words
-pub same-by-words : (entry least : ℕ) (ty : BindingType) → kindOf entry ≡ 18 → bindingTypeFiled entry ≡ true → kindOf least ≡ 6
-    → isBuffer entry || eqb (contentOf least) 0 ≡ true
-    → sameBinding ty (bindingTypeOf entry (contentOf least)) ≡ (eqb entry (ofKind 18 (bindingCode ty)) && eqb least (ofKind 6 (leastSize ty)))
-same-by-words entry least ty ke filed kl sized =
-    rw (type-back entry (contentOf least) filed, least-back entry (contentOf least) sized, word-agrees 18 (bindingCode ty) entry ke, word-agrees 6 (leastSize ty) least kl)
+-- the type word and the least size of a well filed entry mean a type where they are that type's
+pub same-by-words : (entry least : ℕ) (ty : BindingType) → kindOf entry ≡ 18 → bindingTypeFiled entry ≡ true → isBuffer entry || eqb least 0 ≡ true
+    → sameBinding ty (bindingTypeOf entry least) ≡ (eqb entry (ofKind 18 (bindingCode ty)) && eqb (leastSize ty) least)
+same-by-words entry least ty ke filed sized = rw (type-back entry least filed, least-back entry least sized, word-agrees 18 (bindingCode ty) entry ke)

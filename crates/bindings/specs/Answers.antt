@@ -9,7 +9,7 @@ use Rattle.word.specs.Parse.{Parsed, fault, got}
 use Rattle.word.specs.Answers.{answer, accepted, refused}
 use Rattle.word.specs.declared.answer.Answer.{Answer}
 use Rattle.bindings.specs.Rules.{checkBindingUse, useNumber, deriveBindingType}
-use Rattle.bindings.specs.Format.{readResource, entryFiled, entryOf, bindingCode, leastSize}
+use Rattle.bindings.specs.Format.{readResource, entryFiled, entryOf, bindingCode, leastSize, sizeWord}
 use Rattle.bindings.specs.declared.types.ResourceBinding.{ResourceBinding}
 use Rattle.bindings.specs.declared.types.Resource.{Resource}
 use Rattle.bindings.specs.declared.types.BindGroupLayoutEntry.{BindGroupLayoutEntry}
@@ -50,7 +50,7 @@ derivedWord Der.WrongBufferAddressSpace = 0
 
 -- the type word and the least-size word that a resource derives, as the first two details, or 24
 abbrev pub derivedAnswer : Derived → ResourceBinding → Answer
-derivedAnswer (Der.Binding ty) bind = answer 0 (ofKind 18 (bindingCode ty)) (ofKind 6 (leastSize ty)) 0
+derivedAnswer (Der.Binding ty) bind = answer 0 (ofKind 18 (bindingCode ty)) (sizeWord (leastSize ty)) 0
 derivedAnswer Der.WrongBufferAddressSpace bind = bindingAnswer 24 bind
 
 unfoldable pub deriveWords : List ℕ → Bool → Answer

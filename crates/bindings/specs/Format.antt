@@ -94,6 +94,24 @@ resourceTypeFiled w =
 abbrev pub resourceWordFiled : ℕ → Bool
 resourceWordFiled w = eqb (kindOf w) 16 && resourceTypeFiled w
 
+-- ---- sizes: 'kind 6, size'
+
+-- how many words a size takes
+abbrev pub sizeWidth : ℕ
+sizeWidth = 1
+
+-- sizes are below this
+abbrev pub sizeLimit : ℕ
+sizeLimit = 2 ^ 27
+
+-- the word of a size
+abbrev pub sizeWord : ℕ → ℕ
+sizeWord size = ofKind 6 size
+
+-- the size that stands at a position, read without asking whether it is well filed
+abbrev pub sizeStanding : List ℕ → ℕ → ℕ
+sizeStanding ws at = contentOf (wordAt ws at)
+
 -- 'kind 6, size, at least 1'
 abbrev pub sizeFiled : ℕ → Bool
 sizeFiled w = eqb (kindOf w) 6 && not (eqb (contentOf w) 0)
@@ -121,6 +139,10 @@ isBuffer w = eqb (typeCode w) 0
 
 abbrev pub resource : ℕ → ℕ → ℕ → Resource
 resource place type size = record { bind = placeOf place; ty = resourceTypeOf type size }
+
+-- the words of a resource that has a size
+abbrev pub resourceWidth : ℕ
+resourceWidth = 2 + sizeWidth
 
 -- 'Resource: kind 4; kind 16; for buffers kind 6'
 unfoldable pub readResource : List ℕ → Parsed Resource
@@ -151,7 +173,7 @@ resourceCode (Res.Texture dim arrayed class) = classCode class + textureCode dim
 resourceCode (Res.AccelerationStructure returns) = 2 ^ 23 * 6 + flag returns
 
 abbrev pub sizeWords : ResourceType → List ℕ
-sizeWords (Res.Buffer size space) = ofKind 6 size ∷ []
+sizeWords (Res.Buffer size space) = sizeWord size ∷ []
 sizeWords (Res.Sampler comparison) = []
 sizeWords (Res.Texture dim arrayed class) = []
 sizeWords (Res.AccelerationStructure returns) = []
@@ -176,7 +198,7 @@ classHeld (Class.Storage format access) = storable format && (ltb access 8 && no
 classHeld Class.External = true
 
 unfoldable pub typeHeld : ResourceType → Bool
-typeHeld (Res.Buffer size space) = spaceHeld space && (ltb size (2 ^ 27) && not (eqb size 0))
+typeHeld (Res.Buffer size space) = spaceHeld space && (ltb size sizeLimit && not (eqb size 0))
 typeHeld (Res.Sampler comparison) = true
 typeHeld (Res.Texture dim arrayed class) = classHeld class
 typeHeld (Res.AccelerationStructure returns) = true
@@ -288,14 +310,18 @@ leastSize (Bind.AccelerationStructure returns) = 0
 abbrev pub sameBinding : BindingType → BindingType → Bool
 sameBinding a b = eqb (bindingCode a) (bindingCode b) && eqb (leastSize a) (leastSize b)
 
--- the four words of an entry
+-- an entry is a place, a type, a least size and a visibility
+abbrev pub entryWidth : ℕ
+entryWidth = 3 + sizeWidth
+
+-- the words of an entry
 unfoldable pub entryWords : BindGroupLayoutEntry → List ℕ
 entryWords e =
-    placeWord (e .bind) ∷ ofKind 18 (bindingCode (e .ty)) ∷ ofKind 6 (leastSize (e .ty)) ∷ ofKind 19 (e .visibility) ∷ []
+    placeWord (e .bind) ∷ ofKind 18 (bindingCode (e .ty)) ∷ sizeWord (leastSize (e .ty)) ∷ ofKind 19 (e .visibility) ∷ []
 
 -- what a layout list can hold of an entry: the ranges of its numbers
 abbrev pub formatHeld : BindingType → Bool
-formatHeld (Bind.Buffer ty dynamic least) = ltb least (2 ^ 27)
+formatHeld (Bind.Buffer ty dynamic least) = ltb least sizeLimit
 formatHeld (Bind.Sampler ty) = true
 formatHeld (Bind.Texture sample view multi) = true
 formatHeld (Bind.StorageTexture access format view) = ltb format 77
@@ -308,7 +334,7 @@ entryHeld e = placeHeld (e .bind) && (formatHeld (e .ty) && ltb (e .visibility) 
 -- ---- what stands at a position, read without asking whether it is well filed
 
 abbrev pub resourceAt : List ℕ → ℕ → Resource
-resourceAt ws at = resource (wordAt ws at) (wordAt ws (at + 1)) (contentOf (wordAt ws (at + 2)))
+resourceAt ws at = resource (wordAt ws at) (wordAt ws (at + 1)) (sizeStanding ws (at + 2))
 
 abbrev pub entryFiledAt : List ℕ → ℕ → Bool
 entryFiledAt ws at = entryFiled (wordAt ws at) (wordAt ws (at + 1)) (wordAt ws (at + 2)) (wordAt ws (at + 3))

@@ -4,7 +4,8 @@ ghost use mathlib.Core.Bool.{true};
 ghost use Prim.Native.Nat.{_≤_};
 ghost use Rattle.word.specs.Words.{ofKind};
 ghost use Rattle.bindings.specs.Rules.{viewCode};
-ghost use Rattle.bindings.specs.Format.{flag, bufferCode, samplerCode, sampleCode, accessCode, bindingCode, leastSize, formatHeld};
+ghost use Rattle.bindings.specs.Format.{flag, bufferCode, samplerCode, sampleCode, accessCode, bindingCode, leastSize, formatHeld, sizeWord};
+use crate::sizes::size_word;
 use crate::types::BindingType;
 use crate::types::BufferBindingType;
 use crate::types::SamplerBindingType;
@@ -147,8 +148,7 @@ pub fn binding_word(ty: BindingType) -> u32
 // The least-size word of a binding type that words can hold.
 pub fn least_word(ty: BindingType) -> u32
     requires { ⌜ formatHeld ty ≡ true ⌝ }
-    ensures { λ r. ⌜ r ≡ ofKind 6 (leastSize ty) ⌝ }
+    ensures { λ r. ⌜ r ≡ sizeWord (leastSize ty) ⌝ }
 {
-    let least = least_size(ty) as u32;
-    0x3000_0000 + least
+    size_word(least_size(ty))
 }

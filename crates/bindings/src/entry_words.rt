@@ -6,6 +6,7 @@ ghost use Rattle.word.specs.Words.{kindOf, contentOf};
 ghost use Prim.Native.Nat.{_<_, _^_};
 ghost use Rattle.bindings.specs.Format.{placeHeld, isBuffer, viewAt, sampleAt, accessAt, samplerAt, bufferAt, fieldsFiled, bindingTypeFiled, bindingTypeOf, entryFiled, entryOf, entryFiledAt, entryAt};
 use crate::resource_words::place_of;
+use crate::sizes::word_size;
 use crate::types::BindGroupLayoutEntry;
 use crate::types::BindingType;
 use crate::types::BufferBindingType;
@@ -206,7 +207,7 @@ pub fn entry_of(place: u32, w: u32, least: u32, visibility: u32) -> BindGroupLay
     ensures { λ r. ⌜ r .visibility < 2 ^ 27 ⌝ }
 {
     let bind = place_of(place);
-    let ty = binding_type_of(w, word::content(least) as u64);
+    let ty = binding_type_of(w, word_size(least));
     BindGroupLayoutEntry {
         bind,
         ty,

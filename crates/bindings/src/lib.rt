@@ -3,6 +3,7 @@ pub mod answers;
 pub mod binding_codes;
 pub mod entry_words;
 pub mod resource_words;
+pub mod sizes;
 pub mod types;
 pub mod word_derives;
 pub mod word_textures;

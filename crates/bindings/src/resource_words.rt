@@ -3,12 +3,14 @@ ghost use mathlib.Core.Path.{_≡_};
 ghost use mathlib.Core.Bool.{true};
 ghost use Prim.Native.Nat.{_<_, _≤_, _^_};
 ghost use lib.ListN.{length, drop};
-ghost use Rattle.word.specs.Words.{contentOf};
 ghost use Rattle.word.specs.Choice.{pick};
 ghost use Rattle.word.specs.Parse.{one, from, behind, restAt};
 ghost use Rattle.bindings.specs.Rules.{storable};
 ghost use Rattle.bindings.specs.Format.{placeFiled, placeOf, placeWord, placeHeld, dimensionAt, sampleKindAt, spaceAt, bufferFiled, storageFiled};
 ghost use Rattle.bindings.specs.Format.{resourceTypeFiled, resourceWordFiled, sizeFiled, isBuffer, texture, resourceTypeOf, resource, readResource, resourceAt};
+ghost use Rattle.bindings.specs.Format.{placeFiled, placeOf, placeWord, placeHeld, dimensionAt, sampleKindAt, spaceAt, bufferFiled, storageFiled};
+ghost use Rattle.bindings.specs.Format.{resourceTypeFiled, resourceWordFiled, sizeFiled, isBuffer, texture, resourceTypeOf, resource, readResource, resourceAt};
+use crate::sizes::word_size;
 use crate::types::AddressSpace;
 use crate::types::ImageClass;
 use crate::types::ImageDimension;
@@ -265,14 +267,18 @@ pub fn resource_at(pack: &[u32], at: usize) -> Resource
     if pack.len() <= at {
         return resource_of(0, 0, 0);
     }
-    resource_of(word(pack, at), word(pack, at + 1), word(pack, at + 2))
+    resource_of(
+        word(pack, at),
+        word(pack, at + 1),
+        word_size(word(pack, at + 2)),
+    )
 }
 
-fn resource_of(place: u32, w: u32, size: u32) -> Resource
-    ensures { λ r. ⌜ r ≡ resource place w (contentOf size) ⌝ }
+fn resource_of(place: u32, w: u32, size: u64) -> Resource
+    ensures { λ r. ⌜ r ≡ resource place w size ⌝ }
     ensures { λ r. ⌜ placeHeld (r .bind) ≡ true ⌝ }
 {
     let bind = place_of(place);
-    let ty = resource_type_of(w, word::content(size) as u64);
+    let ty = resource_type_of(w, size);
     Resource { bind, ty }
 }

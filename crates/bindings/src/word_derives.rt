@@ -1,8 +1,8 @@
-// The entry that a resource asks for, in words.
+// The entry that a resource asks for: its type word and its least size.
 ghost use mathlib.Core.Path.{_≡_};
 ghost use Prim.Native.Nat.{ℕ, _≤_};
 ghost use Rattle.word.specs.Choice.{pick};
-ghost use Rattle.word.specs.Words.{contentOf, bits, ofKind};
+ghost use Rattle.word.specs.Words.{bits};
 ghost use Rattle.bindings.specs.Rules.{viewCode, derivedView, derivedSample, derivedAccess, derivedBuffer, deriveBindingType};
 ghost use Rattle.bindings.specs.Format.{bitSet, isBuffer, dimensionAt, sampleKindAt, spaceAt, resourceTypeOf, sampleCode, accessCode};
 ghost use Rattle.bindings.specs.Answers.{derivedWord};
@@ -106,12 +106,12 @@ pub fn derived_word(w: u32, named: bool) -> u32
     0x9300_0000 + w % 2
 }
 
-// The least-size word of that entry: only a buffer has a size.
-pub fn derived_least(w: u32, size: u32) -> u32
-    ensures { λ r. ⌜ r ≡ ofKind 6 (pick (isBuffer w) (contentOf size) 0) ⌝ }
+// The least size of that entry: only a buffer has a size.
+pub fn derived_least(w: u32, size: u64) -> u64
+    ensures { λ r. ⌜ r ≡ pick (isBuffer w) size 0 ⌝ }
 {
     if w / 0x80_0000 % 16 == 0 {
-        return 0x3000_0000 + size % 0x800_0000;
+        return size;
     }
-    0x3000_0000
+    0
 }

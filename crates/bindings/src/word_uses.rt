@@ -1,7 +1,7 @@
 // Whether an entry serves a resource, by the words of both.
 ghost use mathlib.Core.Path.{_≡_};
 ghost use Prim.Native.Nat.{ℕ};
-ghost use Rattle.word.specs.Words.{contentOf, bits};
+ghost use Rattle.word.specs.Words.{bits};
 ghost use Rattle.bindings.specs.Rules.{sameBool, spaceOf, sameSpace, sizeUse, bufferUse, samplerUse, accelerationUse, checkBindingUse, useNumber};
 ghost use Rattle.bindings.specs.Format.{bitSet, spaceAt, resourceTypeOf, bufferAt, bindingTypeOf};
 use crate::word_textures::depth_number;
@@ -31,22 +31,21 @@ fn spaces_agree(w: u32, entry: u32) -> bool
 }
 
 // A least size that is set and smaller than the shader's is 25.
-fn size_number(size: u32, least: u32) -> u32
-    ensures { λ r. ⌜ r ≡ useNumber (sizeUse (contentOf size) (contentOf least)) ⌝ }
+fn size_number(size: u64, least: u64) -> u32
+    ensures { λ r. ⌜ r ≡ useNumber (sizeUse size least) ⌝ }
 {
-    let provided = least % 0x800_0000;
-    if provided == 0 {
+    if least == 0 {
         return 0;
     }
-    if provided < size % 0x800_0000 {
+    if least < size {
         return 25;
     }
     0
 }
 
 // Whether an entry serves a buffer.
-fn buffer_number(w: u32, size: u32, entry: u32, least: u32) -> u32
-    ensures { λ r. ⌜ r ≡ useNumber (bufferUse (contentOf size) (spaceAt (bits 4 3 w) (bits 2 0 w)) (bindingTypeOf entry (contentOf least))) ⌝ }
+fn buffer_number(w: u32, size: u64, entry: u32, least: u64) -> u32
+    ensures { λ r. ⌜ r ≡ useNumber (bufferUse size (spaceAt (bits 4 3 w) (bits 2 0 w)) (bindingTypeOf entry least)) ⌝ }
 {
     if entry / 0x80_0000 % 16 != 0 {
         return 22;
@@ -87,9 +86,9 @@ fn acceleration_number(w: u32, entry: u32) -> u32
     22
 }
 
-// Whether an entry serves a resource, by the words of both: 0, or the number of the refusal.
-pub fn words_use(w: u32, size: u32, entry: u32, least: u32) -> u32
-    ensures { λ r. ⌜ r ≡ useNumber (checkBindingUse (resourceTypeOf w (contentOf size)) (bindingTypeOf entry (contentOf least))) ⌝ }
+// Whether an entry serves a resource, by the type words and the sizes of both: 0, or the number of the refusal.
+pub fn words_use(w: u32, size: u64, entry: u32, least: u64) -> u32
+    ensures { λ r. ⌜ r ≡ useNumber (checkBindingUse (resourceTypeOf w size) (bindingTypeOf entry least)) ⌝ }
 {
     let code = w / 0x80_0000 % 16;
     if code == 0 {

@@ -26,6 +26,7 @@ use Rattle.output_steps.specs.ListOut.{stageOut}
 use Rattle.input_steps.specs.declared.types.InputWalk.{InputWalk}
 use Rattle.stage.specs.Meaning.{Call}
 use Rattle.resource_steps.specs.Resources.{resourceNth, namedTexture, providedUse, provideSteps, pairUses}
+use Rattle.sizes.specs.Meaning.{sizeRecordWidth}
 use Rattle.stage.specs.Stage.{listsGood, codesGood, callGood, requestOf, inputWalk, checkStage}
 use Rattle.stage.proofs.GivenLaws.{resource-held, entry-pairs}
 use Rattle.derived_layouts.specs.HandBack.{derivedOver, putAgain, packKept, interfaceOfCall, entryOfCall, lacking, RoomEnough, used, Again}
@@ -111,7 +112,7 @@ module _ (l final sizes out : List ℕ) (c : Call) (x : Leaves l c) (f : layoutF
   steps-again : provideSteps (requestOf (c .codes) .stage) (decodeLayout final) (i .resources) (e .resources) (decodeSizes sizes) .answer ≡ accepted
   steps-again =
       provide-steps (requestOf (c .codes) .stage) (decodeLayout final) (i .resources) (e .resources) (decodeSizes sizes) served-again
-      (leb-true (2 * lacking (i .resources) (e .resources) (decodeSizes sizes .records)) (length (decodeSizes sizes .room)) (rw (entry-is, interface-is) at (r .free)))
+      (leb-true (sizeRecordWidth * lacking (i .resources) (e .resources) (decodeSizes sizes .records)) (length (decodeSizes sizes .room)) (rw (entry-is, interface-is) at (r .free)))
 
   pairs-again : pairUses (decodeLayout final) (i .resources) (e .pairs) ≡ accepted
   pairs-again =

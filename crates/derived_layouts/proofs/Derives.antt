@@ -12,7 +12,7 @@ use Rattle.word.specs.Answers.{accepted}
 use Rattle.word.specs.declared.answer.Answer.{Answer}
 use Rattle.word.specs.Lists.{among}
 use Rattle.bindings.specs.Rules.{deriveBindingType}
-use Rattle.bindings.specs.Format.{placeHeld, typeHeld, resourceHeld, sameBinding}
+use Rattle.bindings.specs.Format.{placeHeld, typeHeld, resourceHeld, sameBinding, entryWidth}
 use Rattle.bindings.specs.Answers.{bindingAnswer}
 use Rattle.bindings.specs.declared.types.Resource.{Resource}
 use Rattle.bindings.specs.declared.types.BindingType.{BindingType}
@@ -21,9 +21,8 @@ use Rattle.bindings.specs.declared.types.Derived.the-variants as Der
 use Rattle.bindings.proofs.SameBinding.{same-binding-eq}
 use Rattle.bindings.proofs.HandBack.{derived-held}
 use Rattle.word.proofs.Truth.{first, second, by-test, never}
-use Rattle.layouts.specs.Meaning.{Layout, findEntry, entryPlaces, entryHas, entryNth, pushed, seesBit, joined}
+use Rattle.layouts.specs.Meaning.{Layout, findEntry, entryPlaces, entryHas, entryNth, pushed, seesBit, joined, roomForEntry}
 use Rattle.places.specs.Places.{samePlace}
-use Rattle.places.specs.Records.{fits}
 use Rattle.layouts.specs.Format.{entryFits, layoutGood}
 use Rattle.places.specs.declared.found.Found.{Found}
 use Rattle.places.specs.declared.found.Found.the-variants.{At, Nothing}
@@ -39,6 +38,8 @@ use Rattle.resource_steps.specs.Resources.{resourceNth, LayoutAfter, layoutAfte
 use Rattle.resource_steps.specs.Resources.{DeriveResult, deriveResult, deriveOn, deriveSteps}
 use Rattle.derived_layouts.proofs.Entries.{find-sound}
 use Rattle.derived_layouts.proofs.Growth.{join-sets, good-nth, Grows, grows-refl, grows-trans, grows-pushed, grows-joined}
+use Rattle.resource_steps.specs.Resources.{resourceNth, LayoutAfter, layoutAfter, occupied, vacant, newEntry, placeStep, derivedStep, deriveStep, namedTexture}
+use Rattle.resource_steps.specs.Resources.{DeriveResult, deriveResult, deriveOn, deriveSteps}
 
 -- ---- a stage's bit
 
@@ -150,11 +151,11 @@ module _ (stage : ShaderStage) (named : Bool) (r : Resource) (L : Layout) (g : l
         }))
         (λ n. rw n (refuses (bindingAnswer 29 (r .bind)) refl))
     place-step l Nothing q =
-        by-test (fits 4 (L .room))
+        by-test (roomForEntry L)
         (λ t.
         rw t
         (record {
-          good = good-pushed L g (newEntry stage (r .bind) ty) (new-fits l) (lacks q) (leb-true 4 (length (L .room)) t);
+          good = good-pushed L g (newEntry stage (r .bind) ty) (new-fits l) (lacks q) (leb-true entryWidth (length (L .room)) t);
           grows = grows-pushed L (newEntry stage (r .bind) ty);
           placed = λ z. pushes;
         }))

@@ -20,7 +20,7 @@ use Rattle.bindings.specs.declared.types.ResourceType.the-variants as Res
 use Rattle.bindings.proofs.HandBack.{derived-accepted}
 use Rattle.word.proofs.Truth.{by-test}
 use Rattle.layouts.specs.Meaning.{Layout, findEntry, distinctEntries}
-use Rattle.sizes.specs.Meaning.{Sizes, sizePlaces, sizeHas, raiseAt, sizeRecord, recorded}
+use Rattle.sizes.specs.Meaning.{Sizes, sizePlaces, sizeHas, raiseAt, sizeRecord, recorded, sizeRecordWidth}
 use Rattle.places.specs.Records.{fits}
 use Rattle.sizes.specs.declared.size_record.SizeRecord.{SizeRecord}
 use Rattle.places.specs.declared.found.Found.the-variants.{At}
@@ -63,26 +63,26 @@ lacking-places resources (i ∷ is) a b e =
 pub record Sized (resources : List Resource) (is : List ℕ) (x : SizesAfter) : Type 0 where
   pub sizes : Sizes
   pub step : x ≡ sizesAfter accepted sizes
-  pub room : 2 * lacking resources is (sizes .records) ≤ length (sizes .room)
+  pub room : sizeRecordWidth * lacking resources is (sizes .records) ≤ length (sizes .room)
 
 -- a list with a record raised, and one with a new record
 abbrev raised : ResourceBinding → ℕ → Sizes → Sizes
 raised bind size S = record { records = raiseAt bind size (S .records); room = S .room }
 
 abbrev added : ResourceBinding → ℕ → Sizes → Sizes
-added bind size S = record { records = S .records ++ (sizeRecord bind size ∷ []); room = drop 2 (S .room) }
+added bind size S = record { records = S .records ++ (sizeRecord bind size ∷ []); room = drop sizeRecordWidth (S .room) }
 
 module _ (resources : List Resource) (is : List ℕ) (bind : ResourceBinding) (S : Sizes) where
   raises : (size : ℕ) (space : AddressSpace) → sizeHas bind (S .records) ≡ true → recordSize bind (Res.Buffer size space) S ≡ sizesAfter accepted (raised bind size S)
   unfolding recordSize recorded
   raises size space t = rw t
 
-  adds : (size : ℕ) (space : AddressSpace) → sizeHas bind (S .records) ≡ false → fits 2 (S .room) ≡ true
+  adds : (size : ℕ) (space : AddressSpace) → sizeHas bind (S .records) ≡ false → fits sizeRecordWidth (S .room) ≡ true
       → recordSize bind (Res.Buffer size space) S ≡ sizesAfter accepted (added bind size S)
   unfolding recordSize recorded
   adds size space n f = rw (n, f)
 
-  old-sized : (size : ℕ) (space : AddressSpace) → sizeHas bind (S .records) ≡ true → 2 * lacking resources is (S .records) ≤ length (S .room)
+  old-sized : (size : ℕ) (space : AddressSpace) → sizeHas bind (S .records) ≡ true → sizeRecordWidth * lacking resources is (S .records) ≤ length (S .room)
       → Sized resources is (recordSize bind (Res.Buffer size space) S)
   old-sized size space t h =
       record {
@@ -92,19 +92,19 @@ module _ (resources : List Resource) (is : List ℕ) (bind : ResourceBinding) (S
       }
 
   new-sized : (size : ℕ) (space : AddressSpace) → sizeHas bind (S .records) ≡ false
-      → 2 * suc (lacking resources is (S .records ++ (sizeRecord bind 1 ∷ []))) ≤ length (S .room) → Sized resources is (recordSize bind (Res.Buffer size space) S)
+      → sizeRecordWidth * suc (lacking resources is (S .records ++ (sizeRecord bind 1 ∷ []))) ≤ length (S .room) → Sized resources is (recordSize bind (Res.Buffer size space) S)
   new-sized size space n h =
       let one = sizeRecord bind 1 in
       let new = sizeRecord bind size in
       let same = lacking-places resources is (S .records ++ (new ∷ [])) (S .records ++ (one ∷ [])) (places-more new (S .records) ∙ sym (places-more one (S .records))) in
       record {
         sizes = added bind size S;
-        step = adds size space n (le-leb 2 (length (S .room)) (omega arith));
-        room = omega (arith, same, length-drop 2 (S .room));
+        step = adds size space n (le-leb sizeRecordWidth (length (S .room)) (omega arith));
+        room = omega (arith, same, length-drop sizeRecordWidth (S .room));
       }
 
   size-step : (ty : ResourceType)
-      → 2 * pick (isBuffer ty && not (sizeHas bind (S .records))) (suc (lacking resources is (S .records ++ (sizeRecord bind 1 ∷ [])))) (lacking resources is (S .records))
+      → sizeRecordWidth * pick (isBuffer ty && not (sizeHas bind (S .records))) (suc (lacking resources is (S .records ++ (sizeRecord bind 1 ∷ [])))) (lacking resources is (S .records))
       ≤ length (S .room)
       → Sized resources is (recordSize bind ty S)
   unfolding recordSize
@@ -129,7 +129,7 @@ module _ (stage : ShaderStage) (L : Layout) (resources : List Resource) where
   steps-on i is S T e = rw e
 
   pub provide-steps : (is : List ℕ) (S : Sizes) → ((i : ℕ) → among is i ≡ true → providedUse stage L (resourceNth resources i) ≡ accepted)
-      → 2 * lacking resources is (S .records) ≤ length (S .room) → provideSteps stage L resources is S .answer ≡ accepted
+      → sizeRecordWidth * lacking resources is (S .records) ≤ length (S .room) → provideSteps stage L resources is S .answer ≡ accepted
   unfolding provideSteps lacking among
   provide-steps [] S u h = refl
   provide-steps (i ∷ is) S u h =

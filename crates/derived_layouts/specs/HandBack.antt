@@ -3,7 +3,7 @@ use Prim.Native.Nat.{ℕ, suc, _+_, _*_, _<_}
 use mathlib.Core.Path.{_≡_}
 use mathlib.Core.Bool.{Bool, true, false, not, _&&_}
 use mathlib.Core.List.{List, [], _∷_, _++_}
-use lib.Dec.{leb, ltb}
+use lib.Dec.{ltb}
 use lib.ListN.{length, take}
 use Rattle.word.specs.Choice.{pick}
 use Rattle.word.specs.Answers.{accepted}
@@ -14,7 +14,7 @@ use Rattle.bindings.specs.declared.types.ResourceType.the-variants as Res
 use Rattle.bindings.specs.declared.types.ImageClass.the-variants as Class
 use Rattle.bindings.specs.declared.types.SampleKind.the-variants as Kind
 use Rattle.layouts.specs.Meaning.{Layout, entryNth, seesBit}
-use Rattle.sizes.specs.Meaning.{sizeHas, sizeRecord}
+use Rattle.sizes.specs.Meaning.{sizeHas, sizeRecord, roomForSizes}
 use Rattle.layouts.specs.Format.{layoutFiled, decodeLayout}
 use Rattle.sizes.specs.Format.{sizesFiled, decodeSizes}
 use Rattle.places.specs.Records.{countOf}
@@ -138,9 +138,7 @@ lacking resources (i ∷ is) records =
 pub record RoomEnough (c : Call) (sizes out : List ℕ) : Type 0 where
   pub passes4 : ltb (length out) (outWords (entryOfCall c)) ≡ false
   pub passes3 : sizesFiled sizes ≡ true
-  pub free :
-      leb (2 * lacking (interfaceOfCall c .resources) (entryOfCall c .resources) (decodeSizes sizes .records)) (length (decodeSizes sizes .room))
-      ≡ true
+  pub free : roomForSizes (lacking (interfaceOfCall c .resources) (entryOfCall c .resources) (decodeSizes sizes .records)) (decodeSizes sizes) ≡ true
 
 -- ---- the same list out
 

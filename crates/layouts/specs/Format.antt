@@ -6,8 +6,8 @@ use lib.Dec.{eqb, leb, ltb}
 use lib.ListN.{length, drop}
 use Rattle.bindings.specs.declared.types.BindGroupLayoutEntry.{BindGroupLayoutEntry}
 use Rattle.word.specs.Words.{wordAt, kindOf, bits, ofKind}
-use Rattle.bindings.specs.Format.{entryFiledAt, entryAt, entryWords, entryHeld}
-use Rattle.places.specs.Records.{shortEnough, countOf, past, records, each}
+use Rattle.bindings.specs.Format.{entryFiledAt, entryAt, entryWords, entryHeld, entryWidth}
+use Rattle.places.specs.Records.{shortEnough, countOf, past, records, each, mostListWords}
 use Rattle.word.specs.Lists.{every, flat}
 use Rattle.places.specs.Places.{readPlace}
 use Rattle.layouts.specs.Meaning.{Layout, distinctEntries}
@@ -26,22 +26,22 @@ entryGood groups ws = entryFiledAt ws 0 && ltb (readPlace ws .group) groups
 
 -- as many entries
 abbrev pub readEntries : ℕ → List ℕ → List BindGroupLayoutEntry
-readEntries n ws = records 4 readEntry n ws
+readEntries n ws = records entryWidth readEntry n ws
 
 -- the head: its kind, 'groups 0–8', and as many entries as it counts within the words
 unfoldable pub layoutHead : List ℕ → Bool
-layoutHead ws = eqb (kindOf (wordAt ws 0)) 17 && (leb (groupsOf ws) 8 && leb (1 + 4 * countOf ws) (length ws))
+layoutHead ws = eqb (kindOf (wordAt ws 0)) 17 && (leb (groupsOf ws) 8 && leb (1 + entryWidth * countOf ws) (length ws))
 
 -- words are a layout list
 unfoldable pub layoutFiled : List ℕ → Bool
 layoutFiled ws =
     shortEnough ws && (layoutHead ws
-    && (each 4 (entryGood (groupsOf ws)) (countOf ws) (drop 1 ws) && distinctEntries (readEntries (countOf ws) (drop 1 ws))))
+    && (each entryWidth (entryGood (groupsOf ws)) (countOf ws) (drop 1 ws) && distinctEntries (readEntries (countOf ws) (drop 1 ws))))
 
 -- the layout that words carry, free room behind its entries
 unfoldable pub decodeLayout : List ℕ → Layout
 decodeLayout ws =
-    record { groups = groupsOf ws; entries = readEntries (countOf ws) (drop 1 ws); room = past 4 (countOf ws) (drop 1 ws) }
+    record { groups = groupsOf ws; entries = readEntries (countOf ws) (drop 1 ws); room = past entryWidth (countOf ws) (drop 1 ws) }
 
 -- the words that carry a layout
 unfoldable pub encodeLayout : Layout → List ℕ
@@ -54,5 +54,5 @@ entryFits groups e = entryHeld e && ltb (e .bind .group) groups
 -- and of the layout as a whole
 unfoldable pub layoutGood : Layout → Bool
 layoutGood L =
-    leb (1 + 4 * length (L .entries) + length (L .room)) 1024
+    leb (1 + entryWidth * length (L .entries) + length (L .room)) mostListWords
     && (leb (L .groups) 8 && (every (entryFits (L .groups)) (L .entries) && distinctEntries (L .entries)))

@@ -8,6 +8,8 @@ use Rattle.word.specs.Choice.{pick}
 use Rattle.bindings.specs.declared.types.ResourceBinding.{ResourceBinding}
 use Rattle.bindings.specs.declared.types.BindingType.the-variants as Bind
 use Rattle.bindings.specs.declared.types.BindGroupLayoutEntry.{BindGroupLayoutEntry}
+use Rattle.bindings.specs.Format.{entryWidth}
+use Rattle.places.specs.Records.{fits}
 use Rattle.places.specs.Places.{placeFrom, placeIn, distinctPlaces}
 use Rattle.places.specs.declared.found.Found.{Found}
 
@@ -43,9 +45,13 @@ entryNth [] i = emptyEntry
 entryNth (e ∷ es) zero = e
 entryNth (e ∷ es) (suc i) = entryNth es i
 
--- 'New entries go last'; they take four words of the free room
+-- a layout has room for one more entry
+abbrev pub roomForEntry : Layout → Bool
+roomForEntry L = fits entryWidth (L .room)
+
+-- 'New entries go last'; they take words of the free room
 unfoldable pub pushed : Layout → BindGroupLayoutEntry → Layout
-pushed L e = record { groups = L .groups; entries = L .entries ++ (e ∷ []); room = drop 4 (L .room) }
+pushed L e = record { groups = L .groups; entries = L .entries ++ (e ∷ []); room = drop entryWidth (L .room) }
 
 -- 'bit s for stage s'
 abbrev pub seesBit : ℕ → ℕ → Bool

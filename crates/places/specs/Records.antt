@@ -7,9 +7,13 @@ use lib.ListN.{length, drop, take}
 use Rattle.word.specs.Choice.{pick}
 use Rattle.word.specs.Words.{wordAt, bits}
 
--- 'Lists have at most 1,024 words', free room included
+-- 'Lists have at most 1,024 words'
+abbrev pub mostListWords : ℕ
+mostListWords = 1024
+
+-- free room included
 abbrev pub shortEnough : List ℕ → Bool
-shortEnough ws = leb (length ws) 1024
+shortEnough ws = leb (length ws) mostListWords
 
 -- how many records a list counts: 'entries 15–0', 'count 15–0', 'varyings 15–0' of its first word
 unfoldable pub countOf : List ℕ → ℕ

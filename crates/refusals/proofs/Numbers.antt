@@ -29,10 +29,9 @@ use Rattle.varying.specs.declared.InterfaceVar.{InterfaceVar}
 use Rattle.varying.specs.declared.Located.{Located}
 use Rattle.varying.specs.declared.Payload.{Payload}
 use Rattle.varying.specs.declared.Payload.the-variants as Pay
-use Rattle.layouts.specs.Meaning.{Layout, findEntry, entryNth, seesBit}
+use Rattle.layouts.specs.Meaning.{Layout, findEntry, entryNth, seesBit, roomForEntry}
 use Rattle.sizes.specs.Meaning.{Sizes, sizeFits}
 use Rattle.stage_lists.specs.Meaning.{StageIo, varyingAt}
-use Rattle.places.specs.Records.{fits}
 use Rattle.places.specs.declared.found.Found.{Found}
 use Rattle.places.specs.declared.found.Found.the-variants.{At, Nothing}
 use Rattle.stage_lists.specs.declared.types.Provided.{Provided}
@@ -64,6 +63,8 @@ use Rattle.resource_steps.specs.Resources.{LayoutAfter, occupied, vacant, place
 use Rattle.stage.specs.Stage.{pairStep, inputWalk, behindInputs, judgement, stageBody}
 use Rattle.refusals.specs.Table.{stepNumbers}
 use Rattle.resource_steps.specs.Resources.{recordSize, foundUse, providedUse, provideStep, occupied, vacant, placeStep, derivedStep, deriveStep, resourceSteps, resourceNth, namedTexture, sampleNumber, filtering, pairNumber, pairUse, pairUses, typeAt}
+use Rattle.resource_steps.specs.Resources.{resourceNth, namedTexture, SizesAfter, sizesAfter, recordSize, foundUse, providedUse, provideStep, ProvideResult, provideResult, provideSteps, providedOver}
+use Rattle.resource_steps.specs.Resources.{LayoutAfter, occupied, vacant, placeStep, derivedStep, deriveStep, DeriveResult, deriveResult, deriveSteps, derivedBeside, resourceSteps, sampleNumber, filtering, pairNumber, pairUse, pairUses, typeAt}
 
 -- a number, and an answer, of a step
 pub record Known (n : ℕ) : Type 0 where
@@ -153,7 +154,7 @@ Derives x = Step (x .answer)
 place-known : (stage : ShaderStage) (bind : ResourceBinding) (ty : BindingType) (f : Found) (L : Layout) → Derives (placeStep stage bind ty f L)
 unfolding occupied vacant among
 place-known stage bind ty (At i) L = either Derives (sameBinding ty (entryNth (L .entries) i .ty)) _ _ none (binding-known 29 bind (lit 29 refl))
-place-known stage bind ty Nothing L = either Derives (fits 4 (L .room)) _ _ none (binding-known 5 bind (lit 5 refl))
+place-known stage bind ty Nothing L = either Derives (roomForEntry L) _ _ none (binding-known 5 bind (lit 5 refl))
 
 derived-known : (stage : ShaderStage) (bind : ResourceBinding) (d : Derived) (L : Layout) → Derives (derivedStep stage bind d L)
 unfolding among

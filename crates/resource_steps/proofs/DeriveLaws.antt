@@ -12,7 +12,7 @@ use Rattle.word.specs.Words.{wordAt, contentOf, bits, ofKind}
 use Rattle.word.specs.Answers.{accepted}
 use Rattle.word.specs.declared.answer.Answer.{Answer}
 use Rattle.bindings.specs.Rules.{derivedTexture, deriveBindingType}
-use Rattle.bindings.specs.Format.{placeOf, placeWord, typeCode, isBuffer, resourceTypeOf, resource, resourceAt, typeHeld}
+use Rattle.bindings.specs.Format.{placeOf, placeWord, typeCode, isBuffer, resourceTypeOf, resource, typeHeld}
 use Rattle.bindings.specs.Format.{bindingTypeOf, bindingCode, leastSize, sameBinding, formatHeld, entryFiled, entryOf, entryHeld, entryFiledAt}
 use Rattle.bindings.specs.Answers.{bindingAnswer, derivedWord}
 use Rattle.bindings.specs.declared.types.ResourceBinding.{ResourceBinding}
@@ -27,8 +27,7 @@ use Rattle.bindings.proofs.ReadLaws.{place-held}
 use Rattle.bindings.proofs.EntryFormat.{type-read, entry-filed, entry-read}
 use Rattle.bindings.proofs.HandBack.{derived-held}
 use Rattle.bindings.proofs.WordLaws.{derived-least, same-by-words}
-use Rattle.layouts.specs.Meaning.{Layout, entryPlaces, findEntry, entryHas, entryNth, pushed, joined}
-use Rattle.places.specs.Records.{fits}
+use Rattle.layouts.specs.Meaning.{Layout, entryPlaces, findEntry, entryHas, entryNth, pushed, joined, roomForEntry}
 use Rattle.layouts.specs.Format.{entryFits, layoutFiled, decodeLayout}
 use Rattle.places.proofs.PlaceWays.{place-lacks}
 use Rattle.layouts.proofs.LayoutStores.{entry-there, entry-filed-there}
@@ -41,25 +40,31 @@ use Rattle.resource_steps.specs.inner.Given.{resourceTable, TypeWords}
 use Rattle.resource_steps.specs.Resources.{resourceNth, layoutAfter, occupied, vacant, placeStep, deriveStep, namedTexture, DeriveResult, deriveResult, deriveSteps}
 use Rattle.resource_steps.proofs.ResourceParts.{pairs-cons, pairs-none, nth-at}
 use Rattle.resource_steps.proofs.ResourceWalk.{index-next, index-none, one-more}
+use Rattle.bindings.specs.Format.{placeOf, placeWord, typeCode, isBuffer, sizeLimit, sizeWord, sizeStanding, resourceTypeOf, resource, typeHeld}
+use Rattle.bindings.specs.Format.{bindingTypeOf, bindingCode, leastSize, sameBinding, formatHeld, entryFiled, entryOf, entryHeld, entryFiledAt}
+use Rattle.resource_steps.proofs.ResourceLaws.{least-word}
 
 -- ---- a type at its place
 
 -- the entry at a position is of a type where its words are that type's
 module _ (ty least i : ℕ) (l : List ℕ) (b : BindingType) (f : layoutFiled l ≡ true) (t : TypeWords ty least b) (h : i < length (decodeLayout l .entries)) where
-  same-there : sameBinding b (entryNth (decodeLayout l .entries) i .ty) ≡ (eqb (wordAt l (1 + 4 * i + 1)) ty && eqb (wordAt l (1 + 4 * i + 2)) least)
+  same-there : sameBinding b (entryNth (decodeLayout l .entries) i .ty) ≡ (eqb (wordAt l (1 + 4 * i + 1)) ty && eqb least (contentOf (wordAt l (1 + 4 * i + 2))))
   unfolding entryFiled entryOf
   same-there =
       let d : entryFiledAt l (1 + 4 * i) ≡ true = entry-filed-there l i h f in
-      let e = same-by-words (wordAt l (1 + 4 * i + 1)) (wordAt l (1 + 4 * i + 2)) b (search (eqb-true, first, second) depth 8) (search (first, second) depth 8)
-      (search (eqb-true, first, second) depth 8) (search (first, second) depth 8) in
-      rw (entry-there l i h) (rw (← t .type-word, ← t .least-word) at e)
+      rw (entry-there l i h, t .type-word, t .least-size)
+      (same-by-words (wordAt l (1 + 4 * i + 1)) (contentOf (wordAt l (1 + 4 * i + 2))) b (search (eqb-true, first, second) depth 8) (search (first, second) depth 8)
+      (search (first, second) depth 8))
 
   module _ (x : ℕ) (ex : x ≡ wordAt l (1 + 4 * i + 1)) where
     pub type-differs : (x ≡ ty → ⊥) → false ≡ sameBinding b (entryNth (decodeLayout l .entries) i .ty)
     type-differs n = rw (same-there, ← ex, ne-eqb x ty n)
 
-    pub type-by-least : (y : ℕ) → x ≡ ty → y ≡ wordAt l (1 + 4 * i + 2) → eqb y least ≡ sameBinding b (entryNth (decodeLayout l .entries) i .ty)
-    type-by-least y z ey = rw (same-there, ← ex, ← ey, eq-eqb x ty z)
+    pub type-by-least : (y : ℕ) → x ≡ ty → y ≡ leastSize (entryNth (decodeLayout l .entries) i .ty)
+        → eqb least y ≡ sameBinding b (entryNth (decodeLayout l .entries) i .ty)
+    type-by-least y z ey =
+        let e : y ≡ contentOf (wordAt l (1 + 4 * i + 2)) = ey ∙ least-word l i f h in
+        rw (same-there, ← ex, ← e, eq-eqb x ty z)
 
 module _ (stage : ShaderStage) (place i : ℕ) (b : BindingType) (L : Layout) (a : Answer) (k : Bool) (q : k ≡ sameBinding b (entryNth (L .entries) i .ty)) where
   pub occupied-joined : (M : Layout) (c : ℕ) → k ≡ true → c ≡ stageCode stage → M ≡ joined c L i → a ≡ accepted
@@ -75,13 +80,17 @@ module _ (stage : ShaderStage) (place i : ℕ) (b : BindingType) (L : Layout) (a
 none-there : (place : ResourceBinding) (L : Layout) → findEntry place L ≡ Nothing → entryHas place (L .entries) ≡ false
 none-there place L h = sym (place-lacks place (entryPlaces (L .entries)) (findEntry place L) refl h)
 
+-- the least size of a type that a layout list can hold
+pub new-small : (ty least : ℕ) (b : BindingType) → TypeWords ty least b → least < sizeLimit
+new-small ty least b t = rw (t .least-size) (least-fits b (t .held))
+
 -- the words of a new entry
-module _ (place ty least p v : ℕ) (b : BindingType) (t : TypeWords ty least b) (ep : p ≡ contentOf place) (hv : v ≤ 16) where
+module _ (place ty least p s v : ℕ) (b : BindingType) (t : TypeWords ty least b) (ep : p ≡ contentOf place) (es : s ≡ sizeWord least) (hv : v ≤ 16) where
   abbrev new : BindGroupLayoutEntry
   new = record { bind = placeOf place; ty = b; visibility = v }
 
   abbrev words : BindGroupLayoutEntry
-  words = entryOf (0x20000000 + p) ty least (0x98000000 + v)
+  words = entryOf (0x20000000 + p) ty s (0x98000000 + v)
 
   new-held : entryHeld new ≡ true
   new-held = rw (place-held place, t .held, lt-ltb v 32 (omega arith))
@@ -89,11 +98,14 @@ module _ (place ty least p v : ℕ) (b : BindingType) (t : TypeWords ty least b)
   place-again : 0x20000000 + p ≡ placeWord (placeOf place)
   place-again = omega arith
 
-  pub new-filed : entryFiled (0x20000000 + p) ty least (0x98000000 + v) ≡ true
-  new-filed = rw (place-again, t .type-word, t .least-word) (entry-filed new new-held)
+  size-again : s ≡ sizeWord (leastSize b)
+  size-again = es ∙ ap sizeWord (t .least-size)
+
+  pub new-filed : entryFiled (0x20000000 + p) ty s (0x98000000 + v) ≡ true
+  new-filed = rw (place-again, t .type-word, size-again) (entry-filed new new-held)
 
   new-mean : words ≡ new
-  new-mean = rw (place-again, t .type-word, t .least-word) (entry-read new new-held)
+  new-mean = rw (place-again, t .type-word, size-again) (entry-read new new-held)
 
   pub new-fits : (L : Layout) → placeOf place .group < L .groups → entryFits (L .groups) words ≡ true
   new-fits L g = rw (new-mean, new-held, lt-ltb (placeOf place .group) (L .groups) g)
@@ -101,11 +113,11 @@ module _ (place ty least p v : ℕ) (b : BindingType) (t : TypeWords ty least b)
   pub new-lacks : (L : Layout) → findEntry (placeOf place) L ≡ Nothing → entryHas (words .bind) (L .entries) ≡ false
   new-lacks L n = rw new-mean (none-there (placeOf place) L n)
 
-  module _ (stage : ShaderStage) (c : ℕ) (s : c ≡ stageCode stage) (ev : v ≡ 2 ^ c) (L M : Layout) (a : Answer) (k : Bool) (q : k ≡ fits 4 (L .room))
+  module _ (stage : ShaderStage) (c : ℕ) (ec : c ≡ stageCode stage) (ev : v ≡ 2 ^ c) (L M : Layout) (a : Answer) (k : Bool) (q : k ≡ roomForEntry L)
       (m : M ≡ pick k (pushed L words) L) where
     pub vacant-pushed : k ≡ true → a ≡ accepted → layoutAfter a M ≡ vacant stage (placeOf place) b L
     unfolding vacant
-    vacant-pushed y h = rw (← q, ← s, ← ev, m, y, new-mean, h)
+    vacant-pushed y h = rw (← q, ← ec, ← ev, m, y, new-mean, h)
 
     pub vacant-full : k ≡ false → a ≡ bindingAnswer 5 (placeOf place) → layoutAfter a M ≡ vacant stage (placeOf place) b L
     unfolding vacant
@@ -137,42 +149,41 @@ some-derived Der.WrongBufferAddressSpace x e n k = absurd (omega arith)
 pub within-groups : (L : Layout) (place g : ℕ) → g ≡ L .groups → bits 26 23 place < g → placeOf place .group < L .groups
 within-groups L place g q n = rw q at n
 
-module _ (named : Bool) (w size ty least : ℕ) (h : typeHeld (resourceTypeOf w (contentOf size)) ≡ true)
-    (e : (n : ℕ) → derivedWord (deriveBindingType (resourceTypeOf w n) named) ≡ ty) (z : 0 < ty) (s : least ≡ ofKind 6 (pick (isBuffer w) (contentOf size) 0)) where
+module _ (named : Bool) (w size ty least : ℕ) (h : typeHeld (resourceTypeOf w size) ≡ true)
+    (e : (n : ℕ) → derivedWord (deriveBindingType (resourceTypeOf w n) named) ≡ ty) (z : 0 < ty) (s : least ≡ pick (isBuffer w) size 0) where
   abbrev d : Derived
-  d = deriveBindingType (resourceTypeOf w (contentOf size)) named
+  d = deriveBindingType (resourceTypeOf w size) named
 
-  typed : {P : Type 0} → ((b : BindingType) → d ≡ Der.Binding b → TypeWords ty least b → bindingTypeOf ty (contentOf least) ≡ b → P) → P
+  typed : {P : Type 0} → ((b : BindingType) → d ≡ Der.Binding b → TypeWords ty least b → bindingTypeOf ty least ≡ b → P) → P
   typed k =
-      some-derived d ty (e (contentOf size)) z λ b q x.
-      let f : formatHeld b ≡ true = derived-held (resourceTypeOf w (contentOf size)) named b h q in
-      let y : least ≡ ofKind 6 (leastSize b) = rw (derived-least w (contentOf size) named b q) s in
-      let c : contentOf least ≡ leastSize b = omega (arith, least-fits b f) in
-      k b q (record { held = f; type-word = x; least-word = y }) (rw (c, x) (type-read b f))
+      some-derived d ty (e size) z λ b q x.
+      let f : formatHeld b ≡ true = derived-held (resourceTypeOf w size) named b h q in
+      let y : least ≡ leastSize b = rw (derived-least w size named b q) s in
+      k b q (record { held = f; type-word = x; least-size = y }) (rw (y, x) (type-read b f))
 
-  pub derived-words : TypeWords ty least (bindingTypeOf ty (contentOf least))
+  pub derived-words : TypeWords ty least (bindingTypeOf ty least)
   derived-words = typed (λ b q t m. rw m t)
 
   pub derive-placed : (stage : ShaderStage) (place g : ℕ) (L M : Layout) (a : Answer) → g ≡ L .groups → bits 26 23 place < g
-      → layoutAfter a M ≡ placeStep stage (placeOf place) (bindingTypeOf ty (contentOf least)) (findEntry (placeOf place) L) L
-      → layoutAfter a M ≡ deriveStep stage named (resource place w (contentOf size)) L
+      → layoutAfter a M ≡ placeStep stage (placeOf place) (bindingTypeOf ty least) (findEntry (placeOf place) L) L
+      → layoutAfter a M ≡ deriveStep stage named (resource place w size) L
   unfolding deriveStep
   derive-placed stage place g L M a q n k =
       typed (λ b x t m. rw (lt-ltb (placeOf place .group) (L .groups) (within-groups L place g q n), x, ← m) k)
 
 module _ (stage : ShaderStage) (named : Bool) (place w size : ℕ) (L : Layout) (a : Answer) (g : ℕ) (q : g ≡ L .groups) where
   pub derive-outside : g ≤ bits 26 23 place → a ≡ bindingAnswer 20 (placeOf place)
-      → layoutAfter a L ≡ deriveStep stage named (resource place w (contentOf size)) L
+      → layoutAfter a L ≡ deriveStep stage named (resource place w size) L
   unfolding deriveStep
   derive-outside n h = rw (le-ltb (placeOf place .group) (L .groups) (omega arith), h)
 
   pub derive-wrong : (ty : ℕ) → bits 26 23 place < g → ((n : ℕ) → derivedWord (deriveBindingType (resourceTypeOf w n) named) ≡ ty) → ty ≤ 0
-      → a ≡ bindingAnswer 24 (placeOf place) → layoutAfter a L ≡ deriveStep stage named (resource place w (contentOf size)) L
+      → a ≡ bindingAnswer 24 (placeOf place) → layoutAfter a L ≡ deriveStep stage named (resource place w size) L
   unfolding deriveStep
   derive-wrong ty n e z h =
       rw (
         lt-ltb (placeOf place .group) (L .groups) (within-groups L place g q n),
-        none-derived (deriveBindingType (resourceTypeOf w (contentOf size)) named) ty (e (contentOf size)) z,
+        none-derived (deriveBindingType (resourceTypeOf w size) named) ty (e size) z,
         h,
       )
 
@@ -210,14 +221,14 @@ step-sampled stage place w size b L = rw (sampled-alone w size b)
 
 -- ---- one resource, by its index
 
-pub derive-nth : (ws offsets : List ℕ) (stage : ShaderStage) (pairs : List SamplingPair) (i o : ℕ) (L M : Layout) (a : Answer) (n : Bool)
+pub derive-nth : (ws offsets : List ℕ) (stage : ShaderStage) (pairs : List SamplingPair) (i o size : ℕ) (L M : Layout) (a : Answer) (n : Bool)
     → i < length (resourceTable ws offsets) → o ≡ wordAt offsets i → n ≡ (eqb (typeCode (wordAt ws (o + 1))) 2 && namedTexture i pairs)
-    → layoutAfter a M ≡ deriveStep stage n (resourceAt ws o) L
+    → size ≡ sizeStanding ws (o + 2) → layoutAfter a M ≡ deriveStep stage n (resource (wordAt ws o) (wordAt ws (o + 1)) size) L
     → layoutAfter a M ≡ deriveStep stage (namedTexture i pairs) (resourceNth (resourceTable ws offsets) i) L
-derive-nth ws offsets stage pairs i o L M a n k q p h =
-    rw (nth-at ws offsets i k, ← q)
-    (h ∙ (ap (λ b. deriveStep stage b (resourceAt ws o) L) p
-    ∙ step-sampled stage (wordAt ws o) (wordAt ws (o + 1)) (contentOf (wordAt ws (o + 2))) (namedTexture i pairs) L))
+derive-nth ws offsets stage pairs i o size L M a n k q p z h =
+    rw (nth-at ws offsets i k, ← q, ← z)
+    (h ∙ (ap (λ b. deriveStep stage b (resource (wordAt ws o) (wordAt ws (o + 1)) size) L) p
+    ∙ step-sampled stage (wordAt ws o) (wordAt ws (o + 1)) size (namedTexture i pairs) L))
 
 -- ---- one after the other
 

@@ -6,21 +6,21 @@ use mathlib.Core.Bool.{Bool, true, false, not, _&&_, true≢false}
 use mathlib.Core.List.{List}
 use lib.Dec.{eqb, ltb}
 use lib.ListN.{length, take, drop}
-use borrow.Author.Tests.{eq-eqb, ne-eqb, eqb-false, not-true, not-false}
+use borrow.Author.Tests.{eq-eqb, ne-eqb, eqb-false, ltb-true, not-true, not-false}
 use Rattle.word.specs.Words.{wordAt, kindOf, contentOf, bits}
 use Rattle.word.specs.Answers.{accepted}
 use Rattle.word.specs.declared.answer.Answer.{Answer}
 use Rattle.bindings.specs.Rules.{checkBindingUse, useNumber}
-use Rattle.bindings.specs.Format.{placeFiled, placeOf, typeCode, isBuffer, spaceAt, resourceTypeOf, resourceAt, sizeFiled, typeHeld, spaceHeld, bindingTypeOf, entryOf}
+use Rattle.bindings.specs.Format.{placeFiled, placeOf, typeCode, isBuffer, spaceAt, resourceTypeOf, sizeFiled, typeHeld, spaceHeld, bindingTypeOf, entryOf}
 use Rattle.bindings.specs.Answers.{bindingAnswer}
 use Rattle.bindings.specs.declared.types.ResourceBinding.{ResourceBinding}
 use Rattle.bindings.specs.declared.types.Resource.{Resource}
 use Rattle.bindings.specs.declared.types.ResourceType.{ResourceType}
-use Rattle.word.proofs.Truth.{second, by-test}
+use Rattle.word.proofs.Truth.{second, by-test, first}
 use Rattle.layouts.specs.Meaning.{Layout, findEntry, entryNth, seesBit}
-use Rattle.sizes.specs.Meaning.{Sizes, sizeHas, sizeFits, recorded}
+use Rattle.sizes.specs.Meaning.{Sizes, sizeHas, sizeFits, recorded, sizeRecordWidth}
 use Rattle.places.specs.Records.{fits}
-use Rattle.layouts.specs.Format.{decodeLayout}
+use Rattle.layouts.specs.Format.{decodeLayout, layoutFiled}
 use Rattle.layouts.proofs.LayoutStores.{entry-there}
 use Rattle.places.specs.declared.found.Found.{Found}
 use Rattle.places.specs.declared.found.Found.the-variants.{At, Nothing}
@@ -30,6 +30,9 @@ use Rattle.resource_steps.specs.inner.Given.{resourceTable}
 use Rattle.resource_steps.specs.Resources.{resourceNth, sizesAfter, recordSize, entryUse, providedUse, provideStep, ProvideResult, provideResult, provideSteps}
 use Rattle.resource_steps.proofs.ResourceParts.{nth-at}
 use Rattle.resource_steps.proofs.ResourceWalk.{index-next, index-none, one-more}
+use Rattle.bindings.specs.Format.{placeFiled, placeOf, typeCode, isBuffer, spaceAt, sizeLimit, sizeWord, sizeStanding, resourceTypeOf, resource, sizeFiled, typeHeld, spaceHeld}
+use Rattle.bindings.specs.Format.{bindingTypeOf, leastSize, entryOf}
+use Rattle.resource_steps.proofs.ResourceLaws.{least-word}
 
 -- ---- the entry of a resource
 
@@ -39,10 +42,13 @@ module _ (stage : ShaderStage) (ty : ResourceType) (l : List ℕ) (i c x v : ℕ
   unfolding entryOf
   entry-unseen n = rw (entry-there l i h, ← s, ← p, ← e, ← q, not-true b n)
 
-  pub entry-seen : (t least u : ℕ) → not b ≡ false → t ≡ wordAt l (1 + 4 * i + 1) → least ≡ wordAt l (1 + 4 * i + 2)
-      → u ≡ useNumber (checkBindingUse ty (bindingTypeOf t (contentOf least))) → u ≡ entryUse stage ty (entryNth (decodeLayout l .entries) i)
+  pub entry-seen : (t least u : ℕ) → layoutFiled l ≡ true → not b ≡ false → t ≡ wordAt l (1 + 4 * i + 1)
+      → least ≡ leastSize (entryNth (decodeLayout l .entries) i .ty) → u ≡ useNumber (checkBindingUse ty (bindingTypeOf t least))
+      → u ≡ entryUse stage ty (entryNth (decodeLayout l .entries) i)
   unfolding entryOf
-  entry-seen t least u n f g k = rw (entry-there l i h, ← s, ← p, ← e, ← q, not-false b n, ← f, ← g) k
+  entry-seen t least u d n f g k =
+      let z : least ≡ contentOf (wordAt l (1 + 4 * i + 2)) = g ∙ least-word l i d h in
+      rw (entry-there l i h, ← s, ← p, ← e, ← q, not-false b n, ← f, ← z) k
 
 module _ (stage : ShaderStage) (L : Layout) (r : Resource) (f : Found) (a : Answer) (q : f ≡ findEntry (r .bind) L) where
   pub provided-none : f ≡ Nothing → a ≡ bindingAnswer 20 (r .bind) → a ≡ providedUse stage L r
@@ -56,7 +62,7 @@ module _ (stage : ShaderStage) (L : Layout) (r : Resource) (f : Found) (a : Answ
 -- ---- the size of a resource
 
 -- a size that has no room is not recorded
-not-recorded : (bind : ResourceBinding) (size : ℕ) (S : Sizes) (h b : Bool) → sizeHas bind (S .records) ≡ h → fits 2 (S .room) ≡ b
+not-recorded : (bind : ResourceBinding) (size : ℕ) (S : Sizes) (h b : Bool) → sizeHas bind (S .records) ≡ h → fits sizeRecordWidth (S .room) ≡ b
     → sizeFits bind S ≡ false → recorded bind size S ≡ S
 unfolding recorded
 not-recorded bind size S true b p q e = let z : true ≡ false = rw p at e in absurd (true≢false z)
@@ -81,48 +87,55 @@ module _ (bind : ResourceBinding) (w size : ℕ) (S : Sizes) where
 pub place-filed : (p : ℕ) → p < 2 ^ 27 → placeFiled (0x20000000 + p) ≡ true
 place-filed p h = eq-eqb (kindOf (0x20000000 + p)) 4 (omega arith)
 
-module _ (w size : ℕ) (z : typeCode w ≡ 0) where
-  pub size-filed : (x : ℕ) → typeHeld (resourceTypeOf w (contentOf size)) ≡ true → x ≡ contentOf size → sizeFiled (0x30000000 + x) ≡ true
+module _ (w size : ℕ) (h : typeHeld (resourceTypeOf w size) ≡ true) (z : typeCode w ≡ 0) where
+  held-size : (ltb size sizeLimit && not (eqb size 0)) ≡ true
   unfolding resourceTypeOf typeHeld
-  size-filed x h e =
-      let t : spaceHeld (spaceAt (bits 4 3 w) (bits 2 0 w)) && (ltb (contentOf size) (2 ^ 27) && not (eqb (contentOf size) 0)) ≡ true = rw (eq-eqb (typeCode w) 0 z) at h in
-      let n : contentOf size ≡ 0 → ⊥ = eqb-false (contentOf size) 0 (not-true (eqb (contentOf size) 0) (search second)) in
-      let k : kindOf (0x30000000 + x) ≡ 6 = omega arith in
-      rw (k, ne-eqb (contentOf (0x30000000 + x)) 0 (λ q. n (omega arith)))
+  held-size = second (spaceHeld (spaceAt (bits 4 3 w) (bits 2 0 w))) (ltb size sizeLimit && not (eqb size 0)) (rw (eq-eqb (typeCode w) 0 z) at h)
 
-  module _ (place : ℕ) (S T : Sizes) (a : Answer) (b : Bool) (p x : ℕ) (ep : p ≡ contentOf place) (ex : x ≡ contentOf size)
-      (q : b ≡ sizeFits (placeOf (0x20000000 + p)) S) (r : T ≡ recorded (placeOf (0x20000000 + p)) (contentOf (0x30000000 + x)) S) where
+  pub size-fits : size < sizeLimit
+  size-fits = ltb-true size sizeLimit (first (ltb size sizeLimit) (not (eqb size 0)) held-size)
+
+  pub size-filed : (x : ℕ) → x ≡ sizeWord size → sizeFiled x ≡ true
+  size-filed x e =
+      let n : size ≡ 0 → ⊥ = eqb-false size 0 (not-true (eqb size 0) (second (ltb size sizeLimit) (not (eqb size 0)) held-size)) in
+      let l : size < sizeLimit = size-fits in
+      let k : kindOf x ≡ 6 = omega arith in
+      rw (k, ne-eqb (contentOf x) 0 (λ q. n (omega arith)))
+
+  module _ (place : ℕ) (S T : Sizes) (a : Answer) (b : Bool) (p x : ℕ) (ep : p ≡ contentOf place) (ex : x ≡ sizeWord size)
+      (q : b ≡ sizeFits (placeOf (0x20000000 + p)) S) (r : T ≡ recorded (placeOf (0x20000000 + p)) (contentOf x) S) where
     same-place : placeOf (0x20000000 + p) ≡ placeOf place
     same-place =
         let g : bits 26 23 (0x20000000 + p) ≡ bits 26 23 place = omega arith in
         let n : bits 22 0 (0x20000000 + p) ≡ bits 22 0 place = omega arith in
         rw (g, n)
 
-    same-size : contentOf (0x30000000 + x) ≡ contentOf size
-    same-size = omega arith
+    same-size : contentOf x ≡ size
+    same-size = omega (arith, size-fits)
 
-    pub size-recorded : b ≡ true → a ≡ accepted → sizesAfter a T ≡ recordSize (placeOf place) (resourceTypeOf w (contentOf size)) S
+    pub size-recorded : b ≡ true → a ≡ accepted → sizesAfter a T ≡ recordSize (placeOf place) (resourceTypeOf w size) S
     unfolding recordSize resourceTypeOf
-    size-recorded t h = rw (eq-eqb (typeCode w) 0 z, ← same-place, ← q, t, r, same-size, h)
+    size-recorded t e = rw (eq-eqb (typeCode w) 0 z, ← same-place, ← q, t, r, same-size, e)
 
-    pub size-full : b ≡ false → a ≡ bindingAnswer 5 (placeOf place) → sizesAfter a T ≡ recordSize (placeOf place) (resourceTypeOf w (contentOf size)) S
+    pub size-full : b ≡ false → a ≡ bindingAnswer 5 (placeOf place) → sizesAfter a T ≡ recordSize (placeOf place) (resourceTypeOf w size) S
     unfolding recordSize resourceTypeOf
-    size-full t h =
+    size-full t e =
         let n : sizeFits (placeOf place) S ≡ false = rw (← same-place) (sym q ∙ t) in
-        rw (eq-eqb (typeCode w) 0 z, n, r, same-place, not-recorded (placeOf place) (contentOf (0x30000000 + x)) S (sizeHas (placeOf place) (S .records)) (fits 2 (S .room)) refl refl n, h)
+        rw (eq-eqb (typeCode w) 0 z, n, r, same-place, not-recorded (placeOf place) (contentOf x) S (sizeHas (placeOf place) (S .records)) (fits sizeRecordWidth (S .room)) refl refl n, e)
 
 -- ---- one resource, by its index
 
-module _ (ws offsets : List ℕ) (i o : ℕ) (k : i < length (resourceTable ws offsets)) (q : o ≡ wordAt offsets i) (stage : ShaderStage) (L : Layout) (S T : Sizes) (a : Answer)
-    (e : sizesAfter a T ≡ recordSize (resourceAt ws o .bind) (resourceAt ws o .ty) S) where
+module _ (ws offsets : List ℕ) (i : ℕ) (k : i < length (resourceTable ws offsets)) (o size : ℕ) (q : o ≡ wordAt offsets i) (z : size ≡ sizeStanding ws (o + 2))
+    (stage : ShaderStage) (L : Layout) (S T : Sizes) (a : Answer)
+    (e : sizesAfter a T ≡ recordSize (placeOf (wordAt ws o)) (resourceTypeOf (wordAt ws (o + 1)) size) S) where
   pub provide-ended : (a .number ≡ 0 → ⊥) → sizesAfter a T ≡ provideStep stage L (resourceNth (resourceTable ws offsets) i) S
   unfolding provideStep
-  provide-ended n = rw (nth-at ws offsets i k, ← q, ← e, ne-eqb (a .number) 0 n)
+  provide-ended n = rw (nth-at ws offsets i k, ← q, ← z, ← e, ne-eqb (a .number) 0 n)
 
-  pub provide-went : (b : Answer) → a .number ≡ 0 → b ≡ providedUse stage L (resourceAt ws o)
+  pub provide-went : (b : Answer) → a .number ≡ 0 → b ≡ providedUse stage L (resource (wordAt ws o) (wordAt ws (o + 1)) size)
       → sizesAfter b T ≡ provideStep stage L (resourceNth (resourceTable ws offsets) i) S
   unfolding provideStep
-  provide-went b z h = rw (nth-at ws offsets i k, ← q, ← e, eq-eqb (a .number) 0 z, ← h)
+  provide-went b n h = rw (nth-at ws offsets i k, ← q, ← z, ← e, eq-eqb (a .number) 0 n, ← h)
 
 -- ---- one after the other
 

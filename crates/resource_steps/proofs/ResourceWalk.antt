@@ -9,7 +9,7 @@ use lib.ListN.{length, take, drop}
 use borrow.Author.Tests.{ltb-true}
 use Rattle.word.specs.Words.{wordAt, contentOf}
 use Rattle.word.proofs.Truth.{second}
-use Rattle.bindings.specs.Format.{placeOf, placeHeld, resourceTypeOf, typeHeld, resource}
+use Rattle.bindings.specs.Format.{placeOf, placeHeld, resourceTypeOf, typeHeld, resource, sizeWidth, sizeStanding}
 use Rattle.word.specs.Lists.{every}
 use Rattle.word.proofs.Lists.{first-passes, rest-passes}
 use Rattle.interface.specs.Format.{contents}
@@ -19,11 +19,11 @@ use Rattle.resource_steps.proofs.ResourceParts.{contents-cons, contents
 -- ---- one resource
 
 module _ (ws offsets : List ℕ) (i o : ℕ) (h : eachHeld (resourceTable ws offsets) ≡ true) (k : i < length (resourceTable ws offsets)) (q : o ≡ wordAt offsets i) where
-  pub held-there : typeHeld (resourceTypeOf (wordAt ws (o + 1)) (contentOf (wordAt ws (o + 2)))) ≡ true
-  held-there =
-      rw q
+  pub held-there : (size : ℕ) → size ≡ sizeStanding ws (o + 2) → typeHeld (resourceTypeOf (wordAt ws (o + 1)) size) ≡ true
+  held-there size e =
+      rw (e, q)
       (second (placeHeld (placeOf (wordAt ws (wordAt offsets i))))
-      (typeHeld (resourceTypeOf (wordAt ws (wordAt offsets i + 1)) (contentOf (wordAt ws (wordAt offsets i + 2)))))
+      (typeHeld (resourceTypeOf (wordAt ws (wordAt offsets i + 1)) (sizeStanding ws (wordAt offsets i + 2))))
       (nth-held ws offsets i k h))
 
 module _ (ws offsets : List ℕ) (i o : ℕ) (g : Inside ws offsets) (k : i < length (resourceTable ws offsets)) (q : o ≡ wordAt offsets i) where
@@ -33,7 +33,7 @@ module _ (ws offsets : List ℕ) (i o : ℕ) (g : Inside ws offsets) (k : i < le
   pub type-inside : o + 1 < length ws
   type-inside = omega (arith, g .words i k)
 
-  pub size-inside : o + 2 < length ws
+  pub size-inside : o + 2 + sizeWidth ≤ length ws
   size-inside = omega (arith, g .words i k)
 
 -- ---- one after the other: as many indexes, of which some passed

@@ -24,7 +24,6 @@ use Rattle.bindings.specs.declared.types.Derived.{Derived}
 use Rattle.bindings.specs.declared.types.Derived.the-variants as Der
 use Rattle.layouts.specs.Meaning.{Layout, findEntry, entryNth, seesBit, pushed, joined}
 use Rattle.sizes.specs.Meaning.{Sizes, sizeFits, recorded}
-use Rattle.places.specs.Records.{fits}
 use Rattle.places.specs.declared.found.Found.{Found}
 use Rattle.places.specs.declared.found.Found.the-variants.{At, Nothing}
 use Rattle.interface.specs.Format.{stageCode}
@@ -101,7 +100,7 @@ newEntry stage bind ty = record { bind = bind; ty = ty; visibility = 2 ^ stageCo
 -- 'else 5 or a new entry'
 unfoldable pub vacant : ShaderStage → ResourceBinding → BindingType → Layout → LayoutAfter
 vacant stage bind ty L =
-    pick (fits 4 (L .room)) (layoutAfter accepted (pushed L (newEntry stage bind ty))) (layoutAfter (bindingAnswer 5 bind) L)
+    pick (roomForEntry L) (layoutAfter accepted (pushed L (newEntry stage bind ty))) (layoutAfter (bindingAnswer 5 bind) L)
 
 -- a derived type at its place
 abbrev pub placeStep : ShaderStage → ResourceBinding → BindingType → Found → Layout → LayoutAfter

@@ -4,7 +4,6 @@ ghost use mathlib.Core.Bool.{true, _&&_};
 ghost use lib.Dec.{eqb};
 ghost use Prim.Native.Nat.{_+_, _<_, _≤_};
 ghost use lib.ListN.{length, take, drop};
-ghost use Rattle.word.specs.Words.{contentOf};
 ghost use Rattle.bindings.specs.Format.{placeOf, typeCode, resourceTypeOf, resource, bindingTypeOf, sameBinding, typeHeld};
 ghost use Rattle.layouts.specs.Meaning.{findEntry, entryNth};
 ghost use Rattle.places.specs.declared.found.Found.the-variants.{Nothing};
@@ -12,6 +11,7 @@ ghost use Rattle.layouts.specs.Format.{layoutFiled, decodeLayout};
 ghost use Rattle.interface.specs.Format.{contents, pairsOf};
 ghost use Rattle.resource_steps.specs.inner.Given.{resourceTable, Inside, eachHeld, eachBelow, TypeWords};
 ghost use Rattle.resource_steps.specs.Resources.{resourceNth, layoutAfter, occupied, vacant, placeStep, deriveStep, namedTexture, deriveResult, deriveSteps};
+use crate::resources::entry_least;
 use crate::resources::place_answer;
 use crate::types::Checked;
 use bindings::word_derives::derived_least;
@@ -26,20 +26,22 @@ use layouts::layout::join_visibility;
 use layouts::layout::push_words;
 use layouts::visibility::stage_bit;
 use places::found::Found;
+use bindings::sizes::size_at;
+use bindings::sizes::size_word;
 use word::answer::Answer;
 use word::content;
 
-// Whether the entry at a position is of a type, by the type's words.
-fn same_type(layout: &[u32], index: usize, ty: u32, least: u32) -> bool
+// Whether the entry at a position is of a type, by the type's word and least size.
+fn same_type(layout: &[u32], index: usize, ty: u32, least: u64) -> bool
     requires { ⌜ layoutFiled (now layout) ≡ true ⌝ }
-    requires { ⌜ TypeWords ty least (bindingTypeOf ty (contentOf least)) ⌝ }
+    requires { ⌜ TypeWords ty least (bindingTypeOf ty least) ⌝ }
     requires { ⌜ index < length (decodeLayout (now layout) .entries) ⌝ }
-    ensures { λ r. ⌜ r ≡ sameBinding (bindingTypeOf ty (contentOf least)) (entryNth (decodeLayout (now (layout .entry)) .entries) index .ty) ⌝ }
+    ensures { λ r. ⌜ r ≡ sameBinding (bindingTypeOf ty least) (entryNth (decodeLayout (now (layout .entry)) .entries) index .ty) ⌝ }
 {
     if entry_word(layout, index, 1) != ty {
         return false;
     }
-    entry_word(layout, index, 2) == least
+    least == entry_least(layout, index)
 }
 
 // A place that has an entry: of the same type it gains the stage's bit, else 29.
@@ -47,15 +49,15 @@ fn occupied(
     stage: ShaderStage,
     place: u32,
     ty: u32,
-    least: u32,
+    least: u64,
     index: usize,
     layout: &mut [u32],
 ) -> Answer
     requires { ⌜ layoutFiled (now layout) ≡ true ⌝ }
-    requires { ⌜ TypeWords ty least (bindingTypeOf ty (contentOf least)) ⌝ }
+    requires { ⌜ TypeWords ty least (bindingTypeOf ty least) ⌝ }
     requires { ⌜ index < length (decodeLayout (now layout) .entries) ⌝ }
     ensures { λ a. ⌜ layoutAfter a (decodeLayout (now (layout .exit)))
-        ≡ occupied stage (placeOf place) (bindingTypeOf ty (contentOf least)) index (decodeLayout (now (layout .entry))) ⌝ }
+        ≡ occupied stage (placeOf place) (bindingTypeOf ty least) index (decodeLayout (now (layout .entry))) ⌝ }
     ensures { λ a. ⌜ layoutFiled (now (layout .exit)) ≡ true ⌝ }
 {
     if same_type(layout, index, ty, least) {
@@ -66,29 +68,35 @@ fn occupied(
 }
 
 // A place that has no entry gets one; a list without room is 5.
-fn vacant(stage: ShaderStage, place: u32, ty: u32, least: u32, layout: &mut [u32]) -> Answer
+fn vacant(stage: ShaderStage, place: u32, ty: u32, least: u64, layout: &mut [u32]) -> Answer
     requires { ⌜ layoutFiled (now layout) ≡ true ⌝ }
-    requires { ⌜ TypeWords ty least (bindingTypeOf ty (contentOf least)) ⌝ }
+    requires { ⌜ TypeWords ty least (bindingTypeOf ty least) ⌝ }
     requires { ⌜ placeOf place .group < decodeLayout (now layout) .groups ⌝ }
     requires { ⌜ findEntry (placeOf place) (decodeLayout (now layout)) ≡ Nothing ⌝ }
     ensures { λ a. ⌜ layoutAfter a (decodeLayout (now (layout .exit)))
-        ≡ vacant stage (placeOf place) (bindingTypeOf ty (contentOf least)) (decodeLayout (now (layout .entry))) ⌝ }
+        ≡ vacant stage (placeOf place) (bindingTypeOf ty least) (decodeLayout (now (layout .entry))) ⌝ }
     ensures { λ a. ⌜ layoutFiled (now (layout .exit)) ≡ true ⌝ }
 {
     let visibility = 0x9800_0000 + stage_bit(stage_code(stage));
-    if push_words(layout, 0x2000_0000 + content(place), ty, least, visibility) {
+    if push_words(
+        layout,
+        0x2000_0000 + content(place),
+        ty,
+        size_word(least),
+        visibility,
+    ) {
         return Answer::accepted();
     }
     place_answer(5, place)
 }
 
-// A derived type, by its words, at its place.
-fn place_step(stage: ShaderStage, place: u32, ty: u32, least: u32, layout: &mut [u32]) -> Answer
+// A derived type, by its word and least size, at its place.
+fn place_step(stage: ShaderStage, place: u32, ty: u32, least: u64, layout: &mut [u32]) -> Answer
     requires { ⌜ layoutFiled (now layout) ≡ true ⌝ }
-    requires { ⌜ TypeWords ty least (bindingTypeOf ty (contentOf least)) ⌝ }
+    requires { ⌜ TypeWords ty least (bindingTypeOf ty least) ⌝ }
     requires { ⌜ placeOf place .group < decodeLayout (now layout) .groups ⌝ }
     ensures { λ a. ⌜ layoutAfter a (decodeLayout (now (layout .exit)))
-        ≡ placeStep stage (placeOf place) (bindingTypeOf ty (contentOf least))
+        ≡ placeStep stage (placeOf place) (bindingTypeOf ty least)
         (findEntry (placeOf place) (decodeLayout (now (layout .entry)))) (decodeLayout (now (layout .entry))) ⌝ }
     ensures { λ a. ⌜ layoutFiled (now (layout .exit)) ≡ true ⌝ }
 {
@@ -104,13 +112,13 @@ fn derive_step(
     named: bool,
     place: u32,
     w: u32,
-    size: u32,
+    size: u64,
     layout: &mut [u32],
 ) -> Answer
     requires { ⌜ layoutFiled (now layout) ≡ true ⌝ }
-    requires { ⌜ typeHeld (resourceTypeOf w (contentOf size)) ≡ true ⌝ }
+    requires { ⌜ typeHeld (resourceTypeOf w size) ≡ true ⌝ }
     ensures { λ a. ⌜ layoutAfter a (decodeLayout (now (layout .exit)))
-        ≡ deriveStep stage named (resource place w (contentOf size)) (decodeLayout (now (layout .entry))) ⌝ }
+        ≡ deriveStep stage named (resource place w size) (decodeLayout (now (layout .entry))) ⌝ }
     ensures { λ a. ⌜ layoutFiled (now (layout .exit)) ≡ true ⌝ }
 {
     if group_count(layout) <= place / 0x80_0000 % 16 {
@@ -173,7 +181,7 @@ fn derive_resource(
     let at = position_at(offsets, i as usize) as usize;
     let place = pack[at];
     let w = pack[at + 1];
-    let size = pack[at + 2];
+    let size = size_at(pack, at + 2);
     let named = named_sampled(pack, pairs_at, pairs_n, w, i);
     derive_step(stage, named, place, w, size, layout)
 }

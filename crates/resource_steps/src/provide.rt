@@ -3,7 +3,6 @@ ghost use mathlib.Core.Path.{_≡_};
 ghost use mathlib.Core.Bool.{true};
 ghost use Prim.Native.Nat.{_+_, _<_, _≤_};
 ghost use lib.ListN.{length, take, drop};
-ghost use Rattle.word.specs.Words.{contentOf};
 ghost use Rattle.bindings.specs.Format.{placeOf, resourceTypeOf, resource, typeHeld};
 ghost use Rattle.layouts.specs.Meaning.{entryNth};
 ghost use Rattle.layouts.specs.Format.{layoutFiled, decodeLayout};
@@ -11,6 +10,7 @@ ghost use Rattle.sizes.specs.Format.{sizesFiled, decodeSizes};
 ghost use Rattle.interface.specs.Format.{contents};
 ghost use Rattle.resource_steps.specs.inner.Given.{resourceTable, Inside, eachHeld, eachBelow};
 ghost use Rattle.resource_steps.specs.Resources.{resourceNth, sizesAfter, recordSize, entryUse, providedUse, provideStep, provideResult, provideSteps};
+use crate::resources::entry_least;
 use crate::resources::note;
 use crate::resources::noted;
 use crate::resources::place_answer;
@@ -24,43 +24,39 @@ use layouts::layout::find_entry_near;
 use layouts::visibility::sees;
 use places::found::Found;
 use sizes::sizes::record_words;
+use bindings::sizes::size_at;
+use bindings::sizes::size_word;
 use word::answer::Answer;
 use word::content;
 
 // Records the size that a buffer asks for; a list without room is 5.
-fn record_size(place: u32, w: u32, size: u32, next: &mut [u16; 1], sizes: &mut [u32]) -> Answer
+fn record_size(place: u32, w: u32, size: u64, next: &mut [u16; 1], sizes: &mut [u32]) -> Answer
     requires { ⌜ sizesFiled (now sizes) ≡ true ⌝ }
-    requires { ⌜ typeHeld (resourceTypeOf w (contentOf size)) ≡ true ⌝ }
+    requires { ⌜ typeHeld (resourceTypeOf w size) ≡ true ⌝ }
     ensures { λ r. ⌜ sizesAfter r (decodeSizes (now (sizes .exit)))
-        ≡ recordSize (placeOf place) (resourceTypeOf w (contentOf size)) (decodeSizes (now (sizes .entry))) ⌝ }
+        ≡ recordSize (placeOf place) (resourceTypeOf w size) (decodeSizes (now (sizes .entry))) ⌝ }
     ensures { λ r. ⌜ sizesFiled (now (sizes .exit)) ≡ true ⌝ }
 {
     if w / 0x80_0000 % 16 != 0 {
         return Answer::accepted();
     }
-    if record_words(
-        sizes,
-        0x2000_0000 + content(place),
-        0x3000_0000 + content(size),
-        next,
-    ) {
+    if record_words(sizes, 0x2000_0000 + content(place), size_word(size), next) {
         return Answer::accepted();
     }
     place_answer(5, place)
 }
 
 // Whether the entry at a position serves a resource: 21 where the stage does not see it.
-fn entry_use(stage: ShaderStage, w: u32, size: u32, layout: &[u32], index: usize) -> u32
+fn entry_use(stage: ShaderStage, w: u32, size: u64, layout: &[u32], index: usize) -> u32
     requires { ⌜ layoutFiled (now layout) ≡ true ⌝ }
     requires { ⌜ index < length (decodeLayout (now layout) .entries) ⌝ }
-    ensures { λ r. ⌜ r ≡ entryUse stage (resourceTypeOf w (contentOf size)) (entryNth (decodeLayout (now (layout .entry)) .entries) index) ⌝ }
+    ensures { λ r. ⌜ r ≡ entryUse stage (resourceTypeOf w size) (entryNth (decodeLayout (now (layout .entry)) .entries) index) ⌝ }
 {
     if !sees(content(entry_word(layout, index, 3)), stage_code(stage)) {
         return 21;
     }
     let ty = entry_word(layout, index, 1);
-    let least = entry_word(layout, index, 2);
-    words_use(w, size, ty, least)
+    words_use(w, size, ty, entry_least(layout, index))
 }
 
 // Whether a provided layout serves a resource: its entry is tried at a position first, and noted where it stands; 20 where there is none.
@@ -72,10 +68,10 @@ fn provided_use(
     entries: &mut [u8; 128],
     place: u32,
     w: u32,
-    size: u32,
+    size: u64,
 ) -> Answer
     requires { ⌜ layoutFiled (now layout) ≡ true ⌝ }
-    ensures { λ a. ⌜ a ≡ providedUse stage (decodeLayout (now (layout .entry))) (resource place w (contentOf size)) ⌝ }
+    ensures { λ a. ⌜ a ≡ providedUse stage (decodeLayout (now (layout .entry))) (resource place w size) ⌝ }
 {
     let found = find_entry_near(layout, place, near);
     note(entries, i, found);
@@ -108,7 +104,7 @@ fn provide_step(
     let at = position_at(offsets, i as usize) as usize;
     let place = pack[at];
     let w = pack[at + 1];
-    let size = pack[at + 2];
+    let size = size_at(pack, at + 2);
     let recorded = record_size(place, w, size, next, sizes);
     if recorded.number != 0 {
         return recorded;

@@ -1,15 +1,15 @@
 -- How words carry sizes (document 01, 'Size list': 'kind 20 (count 15–0), then place and size (at least 1) pairs, places distinct').
-use Prim.Native.Nat.{ℕ, _+_, _^_, _*_}
+use Prim.Native.Nat.{ℕ, _+_, _*_}
 use mathlib.Core.Bool.{Bool, _&&_, not}
 use mathlib.Core.List.{List, [], _∷_, _++_}
 use lib.Dec.{eqb, leb, ltb}
 use lib.ListN.{length, drop}
 use Rattle.word.specs.Words.{wordAt, kindOf, contentOf, bits, ofKind}
-use Rattle.bindings.specs.Format.{placeFiled, placeWord, placeHeld, sizeFiled}
-use Rattle.places.specs.Records.{shortEnough, countOf, past, records, each}
+use Rattle.bindings.specs.Format.{placeFiled, placeWord, placeHeld, sizeFiled, sizeLimit}
+use Rattle.places.specs.Records.{shortEnough, countOf, past, records, each, mostListWords}
 use Rattle.word.specs.Lists.{every, flat}
 use Rattle.places.specs.Places.{readPlace}
-use Rattle.sizes.specs.Meaning.{Sizes, distinctSizes}
+use Rattle.sizes.specs.Meaning.{Sizes, distinctSizes, sizeRecordWidth}
 use Rattle.sizes.specs.declared.size_record.SizeRecord.{SizeRecord}
 
 -- 'place and size'
@@ -26,20 +26,20 @@ sizeWords s = placeWord (s .bind) ∷ ofKind 6 (s .size) ∷ []
 
 -- as many records
 abbrev pub readSizes : ℕ → List ℕ → List SizeRecord
-readSizes n ws = records 2 readSize n ws
+readSizes n ws = records sizeRecordWidth readSize n ws
 
 -- the head: its kind, its unnamed bits, and as many records as it counts within the words
 unfoldable pub sizesHead : List ℕ → Bool
-sizesHead ws = eqb (kindOf (wordAt ws 0)) 20 && (eqb (bits 26 16 (wordAt ws 0)) 0 && leb (1 + 2 * countOf ws) (length ws))
+sizesHead ws = eqb (kindOf (wordAt ws 0)) 20 && (eqb (bits 26 16 (wordAt ws 0)) 0 && leb (1 + sizeRecordWidth * countOf ws) (length ws))
 
 -- words are a size list
 unfoldable pub sizesFiled : List ℕ → Bool
 sizesFiled ws =
-    shortEnough ws && (sizesHead ws && (each 2 sizeGood (countOf ws) (drop 1 ws) && distinctSizes (readSizes (countOf ws) (drop 1 ws))))
+    shortEnough ws && (sizesHead ws && (each sizeRecordWidth sizeGood (countOf ws) (drop 1 ws) && distinctSizes (readSizes (countOf ws) (drop 1 ws))))
 
 -- the sizes that words carry, free room behind them
 unfoldable pub decodeSizes : List ℕ → Sizes
-decodeSizes ws = record { records = readSizes (countOf ws) (drop 1 ws); room = past 2 (countOf ws) (drop 1 ws) }
+decodeSizes ws = record { records = readSizes (countOf ws) (drop 1 ws); room = past sizeRecordWidth (countOf ws) (drop 1 ws) }
 
 -- the words that carry sizes
 unfoldable pub encodeSizes : Sizes → List ℕ
@@ -47,9 +47,9 @@ encodeSizes S = ofKind 20 (length (S .records)) ∷ (flat sizeWords (S .records)
 
 -- what a size list can hold of a record: the same rules, over its meaning
 abbrev pub sizeHeld : SizeRecord → Bool
-sizeHeld s = placeHeld (s .bind) && (ltb (s .size) (2 ^ 27) && not (eqb (s .size) 0))
+sizeHeld s = placeHeld (s .bind) && (ltb (s .size) sizeLimit && not (eqb (s .size) 0))
 
 -- and of the sizes as a whole
 unfoldable pub sizesGood : Sizes → Bool
 sizesGood S =
-    leb (1 + 2 * length (S .records) + length (S .room)) 1024 && (every sizeHeld (S .records) && distinctSizes (S .records))
+    leb (1 + sizeRecordWidth * length (S .records) + length (S .room)) mostListWords && (every sizeHeld (S .records) && distinctSizes (S .records))

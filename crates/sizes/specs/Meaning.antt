@@ -1,10 +1,12 @@
 -- What a size list is, and what is done to it.
-use Prim.Native.Nat.{ℕ, _+_, max}
+use Prim.Native.Nat.{ℕ, _+_, _*_, max}
 use mathlib.Core.Bool.{Bool, true}
 use mathlib.Core.List.{List, [], _∷_, _++_, map}
-use lib.ListN.{drop}
+use lib.Dec.{leb}
+use lib.ListN.{length, drop}
 use Rattle.word.specs.Choice.{pick}
 use Rattle.bindings.specs.declared.types.ResourceBinding.{ResourceBinding}
+use Rattle.bindings.specs.Format.{sizeWidth}
 use Rattle.places.specs.Records.{fits}
 use Rattle.places.specs.Places.{samePlace, placeIn, distinctPlaces}
 use Rattle.sizes.specs.declared.size_record.SizeRecord.{SizeRecord}
@@ -38,16 +40,24 @@ raiseAt place size (s ∷ ss) =
     let rest = raiseAt place size ss in
     pick (samePlace (s .bind) place) (record { bind = s .bind; size = max (s .size) size } ∷ ss) (s ∷ rest)
 
+-- a record is a place and a size
+abbrev pub sizeRecordWidth : ℕ
+sizeRecordWidth = 1 + sizeWidth
+
+-- there is room for as many new records
+abbrev pub roomForSizes : ℕ → Sizes → Bool
+roomForSizes n S = leb (sizeRecordWidth * n) (length (S .room))
+
 -- a size at a place
 abbrev pub sizeRecord : ResourceBinding → ℕ → SizeRecord
 sizeRecord place size = record { bind = place; size = size }
 
 -- 'record a buffer's larger size (5)': whether there is room for what has to be recorded
 abbrev pub sizeFits : ResourceBinding → Sizes → Bool
-sizeFits place S = pick (sizeHas place (S .records)) true (fits 2 (S .room))
+sizeFits place S = pick (sizeHas place (S .records)) true (fits sizeRecordWidth (S .room))
 
 -- the list with a size recorded: raised where the place has a record, else a new one where there is room
 unfoldable pub recorded : ResourceBinding → ℕ → Sizes → Sizes
 recorded place size S =
     pick (sizeHas place (S .records)) (record { records = raiseAt place size (S .records); room = S .room })
-    (pick (fits 2 (S .room)) (record { records = S .records ++ (sizeRecord place size ∷ []); room = drop 2 (S .room) }) S)
+    (pick (fits sizeRecordWidth (S .room)) (record { records = S .records ++ (sizeRecord place size ∷ []); room = drop sizeRecordWidth (S .room) }) S)

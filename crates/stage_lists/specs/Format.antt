@@ -9,7 +9,7 @@ use Rattle.word.specs.Choice.{pick}
 use Rattle.varying.specs.declared.Located.{Located}
 use Rattle.word.specs.Words.{wordAt, kindOf, bits, ofKind}
 use Rattle.varying.specs.Format.{locationFiled, varFiled, varOf, locatedOf, locatedWords, locatedHeld, payloadFiled, payloadOf, payloadWord, payloadHeld}
-use Rattle.places.specs.Records.{shortEnough, countOf, past, records, each}
+use Rattle.places.specs.Records.{shortEnough, countOf, past, records, each, mostListWords}
 use Rattle.word.specs.Lists.{every, flat}
 use Rattle.stage_lists.specs.Meaning.{StageIo, rising}
 use Rattle.places.specs.declared.found.Found.{Found}
@@ -83,4 +83,4 @@ outGood S =
 
 -- and a stage list
 abbrev pub stageGood : StageIo → Bool
-stageGood S = leb (2 + 2 * length (S .varyings) + length (S .room)) 1024 && outGood S
+stageGood S = leb (2 + 2 * length (S .varyings) + length (S .room)) mostListWords && outGood S

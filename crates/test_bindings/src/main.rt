@@ -9,6 +9,7 @@ use bindings::word_derives::derived_least;
 use bindings::word_derives::derived_word;
 use bindings::word_uses::words_use;
 use libc::STDOUT_FILENO;
+use bindings::sizes::word_size;
 use word::answer::Answer;
 use word::word;
 
@@ -54,7 +55,8 @@ fn words_agree(number: u32, resource: &[u32], w: u32, least: u32) -> bool {
     if number == 3 {
         return true;
     }
-    words_use(word(resource, 1), word(resource, 2), w, least) == number
+    let size = word_size(word(resource, 2));
+    words_use(word(resource, 1), size, w, word_size(least)) == number
 }
 
 fn check(resource: &[u32], place: u32, w: u32, least: u32, visibility: u32) {
@@ -81,7 +83,11 @@ fn derived_agree(answer: Answer, resource: &[u32], named: bool) -> bool {
     if answer.number != 0 {
         return derived_word(w, named) == 0;
     }
-    derived_word(w, named) == answer.first && derived_least(w, word(resource, 2)) == answer.second
+    if word::kind(answer.second) != 6 {
+        return false;
+    }
+    let size = word_size(word(resource, 2));
+    derived_word(w, named) == answer.first && derived_least(w, size) == word_size(answer.second)
 }
 
 fn derived(resource: &[u32], named: bool) {

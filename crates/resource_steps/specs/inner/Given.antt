@@ -7,7 +7,7 @@ use lib.Dec.{ltb}
 use lib.ListN.{length, take}
 use Rattle.word.specs.Words.{wordAt, ofKind}
 use Rattle.word.specs.Lists.{every}
-use Rattle.bindings.specs.Format.{resourceHeld, bindingTypeOf, bindingCode, leastSize, formatHeld}
+use Rattle.bindings.specs.Format.{resourceHeld, bindingTypeOf, bindingCode, leastSize, formatHeld, resourceWidth}
 use Rattle.bindings.specs.declared.types.Resource.{Resource}
 use Rattle.bindings.specs.declared.types.BindingType.{BindingType}
 use Rattle.interface.specs.inner.Reads.{resourcesAt}
@@ -18,9 +18,9 @@ use Rattle.interface.specs.declared.types.SamplingPair.{SamplingPair}
 unfoldable pub resourceTable : List ℕ → List ℕ → List Resource
 resourceTable ws offsets = resourcesAt ws (take (resourceCount ws) offsets)
 
--- three words stand from each position of such a table on
+-- the words of a resource with a size stand from each position of such a table on
 pub record Inside (ws offsets : List ℕ) : Type 0 where
-  pub words : (k : ℕ) → k < length (resourceTable ws offsets) → wordAt offsets k + 3 ≤ length ws
+  pub words : (k : ℕ) → k < length (resourceTable ws offsets) → wordAt offsets k + resourceWidth ≤ length ws
 
 -- each is one that a pack can hold
 abbrev pub eachHeld : List Resource → Bool
@@ -37,11 +37,11 @@ pairBelow count p = ltb (p .texture) count && ltb (p .sampler) count
 abbrev pub pairsBelow : ℕ → List SamplingPair → Bool
 pairsBelow count ps = every (pairBelow count) ps
 
--- the words of a binding type that a layout list can hold
+-- the type word and the least size of a binding type that a layout list can hold
 pub record TypeWords (type least : ℕ) (ty : BindingType) : Type 0 where
   pub held : formatHeld ty ≡ true
   pub type-word : type ≡ ofKind 18 (bindingCode ty)
-  pub least-word : least ≡ ofKind 6 (leastSize ty)
+  pub least-size : least ≡ leastSize ty
 
 -- a type is the one that a word means, with whatever least size
 abbrev pub wordMeans : ℕ → BindingType → Type 0

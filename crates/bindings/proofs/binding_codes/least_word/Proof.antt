@@ -9,6 +9,5 @@ least-word-spec =
     tie.close
     (tie.spec
     (λ c κs. search needs)  -- least-size-requires
-    (λ c. omega (arith, least-fits))  -- cast-least
-    (λ c. omega (arith, least-fits))  -- add-result
+    (λ c κs. omega (arith, least-fits))  -- size-word-requires
     (λ c. search needs))  -- returns

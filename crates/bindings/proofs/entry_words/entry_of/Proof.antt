@@ -8,8 +8,7 @@ entry-of-spec =
     tie.close
     (tie.spec
     (λ c κs. search needs)  -- place-of-requires
-    (λ c κs. search needs)  -- content-requires
-    (λ c. search needs)  -- cast-binding-type-of
+    (λ c κs. search needs)  -- word-size-requires
     (λ c κs. search needs)  -- binding-type-of-requires
-    (λ c κs. search needs)  -- content-requires-2
+    (λ c κs. search needs)  -- content-requires
     (λ c. (search entry-parts, (search needs, search needs))))  -- returns

@@ -14,5 +14,6 @@ resource-at-spec =
     (λ c κs. search needs)  -- word-requires-2
     (λ c. search needs)  -- add-word-2
     (λ c κs. search needs)  -- word-requires-3
+    (λ c κs. search needs)  -- word-size-requires
     (λ c κs. search needs)  -- resource-of-requires-2
     (λ c. (search resource-there, search needs)))  -- returns-2

@@ -8,7 +8,5 @@ resource-of-spec =
     tie.close
     (tie.spec
     (λ c κs. search needs)  -- place-of-requires
-    (λ c κs. search needs)  -- content-requires
-    (λ c. search needs)  -- cast-resource-type-of
     (λ c κs. search needs)  -- resource-type-of-requires
     (λ c. (search resource-parts, search needs)))  -- returns

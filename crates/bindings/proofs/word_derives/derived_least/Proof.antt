@@ -1,5 +1,4 @@
 use Rattle.word.proofs.Tests.{tests}
-use borrow.Author.Needs.{needs}
 use Rattle.bindings.proofs.word_derives.derived_least.Statement.{statement}
 use Rattle.bindings.proofs.word_derives.derived_least.Tie as tie
 
@@ -7,6 +6,5 @@ pub derived-least-spec : {M : Type 1} → statement M
 derived-least-spec =
     tie.close
     (tie.spec
-    (λ c. search needs)  -- add-result
     (λ c. search tests)  -- returns
     (λ c. search tests))  -- returns-2

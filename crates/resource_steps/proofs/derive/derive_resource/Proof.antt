@@ -16,9 +16,8 @@ derive-resource-spec =
     (λ c. search needs)  -- add-w
     (λ c. search needs)  -- mul-w
     (λ c. search type-inside)  -- shared-slice-read-w
-    (λ c. search needs)  -- add-size
-    (λ c. search needs)  -- mul-size
-    (λ c. search size-inside)  -- shared-slice-read-size
+    (λ c. search needs)  -- add-size-at
+    (λ c κs. search size-inside)  -- size-at-requires
     (λ c κs. search needs)  -- named-sampled-requires
     (λ c κs. (search needs, search held-there))  -- derive-step-requires
     (λ c. search needs)  -- same-length

@@ -9,5 +9,5 @@ same-type-spec =
     (tie.spec
     (λ c κs. search needs)  -- entry-word-requires
     (λ c. search type-differs)  -- returns
-    (λ c κs. search needs)  -- entry-word-requires-2
+    (λ c κs. search needs)  -- entry-least-requires
     (λ c. search type-by-least))  -- returns-2

@@ -1,4 +1,4 @@
-use Rattle.resource_steps.proofs.DeriveLaws.{new-filed, new-fits, new-lacks, vacant-pushed, vacant-full}
+use Rattle.resource_steps.proofs.DeriveLaws.{new-filed, new-fits, new-lacks, vacant-pushed, vacant-full, new-small}
 use borrow.Author.Needs.{needs}
 use Rattle.resource_steps.proofs.derive.vacant.Statement.{statement}
 use Rattle.resource_steps.proofs.derive.vacant.Tie as tie
@@ -12,6 +12,7 @@ vacant-spec =
     (λ c. search needs)  -- add-visibility
     (λ c κs. search needs)  -- content-requires
     (λ c. search needs)  -- add-push-words
+    (λ c κs. search new-small)  -- size-word-requires
     (λ c κs. (search needs, (search new-filed, (search new-fits, search new-lacks))))  -- push-words-requires
     (λ c κs. search needs)  -- accepted-requires
     (λ c. search needs)  -- same-length

@@ -13,6 +13,6 @@ entry-use-spec =
     (λ c κs. search needs)  -- sees-requires
     (λ c. search entry-unseen)  -- returns
     (λ c κs. search needs)  -- entry-word-requires-2
-    (λ c κs. search needs)  -- entry-word-requires-3
+    (λ c κs. search needs)  -- entry-least-requires
     (λ c κs. search needs)  -- words-use-requires
     (λ c. search entry-seen))  -- returns-2

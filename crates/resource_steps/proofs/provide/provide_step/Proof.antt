@@ -16,12 +16,11 @@ provide-step-spec =
     (λ c. search needs)  -- add-w
     (λ c. search needs)  -- mul-w
     (λ c. search type-inside)  -- shared-slice-read-w
-    (λ c. search needs)  -- add-size
-    (λ c. search needs)  -- mul-size
-    (λ c. search size-inside)  -- shared-slice-read-size
+    (λ c. search needs)  -- add-size-at
+    (λ c κs. search size-inside)  -- size-at-requires
     (λ c κs. (search needs, search held-there))  -- record-size-requires
     (λ c. search needs)  -- same-length
     (λ c. (search provide-ended, search needs))  -- returns
     (λ c κs. search needs)  -- provided-use-requires
     (λ c. search needs)  -- same-length-2
-    (λ c. (search provide-went, search needs)))  -- returns-2
+    (λ c. (search (provide-went _ _ _ (c .before .before .before .before .before .before .before .before .before .before .before .before .before .before .before .before .before .pre .1 .1)), search needs)))  -- returns-2

@@ -1,4 +1,4 @@
-use Rattle.resource_steps.proofs.ProvideLaws.{size-none, place-filed, size-filed, size-recorded, size-full}
+use Rattle.resource_steps.proofs.ProvideLaws.{size-none, place-filed, size-filed, size-recorded, size-full, size-fits}
 use borrow.Author.Needs.{needs}
 use Rattle.resource_steps.proofs.provide.record_size.Statement.{statement}
 use Rattle.resource_steps.proofs.provide.record_size.Tie as tie
@@ -11,8 +11,7 @@ record-size-spec =
     (λ c. (search size-none, search needs))  -- returns
     (λ c κs. search needs)  -- content-requires
     (λ c. search needs)  -- add-record-words
-    (λ c κs. search needs)  -- content-requires-2
-    (λ c. search needs)  -- add-record-words-2
+    (λ c κs. search size-fits)  -- size-word-requires
     (λ c κs. (search needs, (search (place-filed, needs), search size-filed)))  -- record-words-requires
     (λ c κs. search needs)  -- accepted-requires-2
     (λ c. search needs)  -- same-length
