@@ -2,7 +2,7 @@
 # Changes a temporary copy of validation.rs in one place at a time and sees that the comparison notices each change.
 #   oracle/mutations.sh [FIRST [LAST]]      changes FIRST to LAST, all of them by default
 # The changed file is compared with the proved library where its archive is, else with the model. The recorded answers of
-# crates/replay are held to it as well. Nothing is written inside the repository. The last line says how many changes
+# crates/test_stages are held to it as well. Nothing is written inside the repository. The last line says how many changes
 # were noticed, and how many of them by the recorded answers too.
 set -u
 here=$(cd "$(dirname "$0")" && pwd)
@@ -23,7 +23,7 @@ run() {
 }
 
 recorded() {
-    nice "$tmp/target/release/record" check "$here/../crates/replay" >"$tmp/record.log" 2>&1
+    nice "$tmp/target/release/record" check "$here/../crates/test_stages" >"$tmp/record.log" 2>&1
 }
 
 cp "$file" "$tmp/validation.rs"

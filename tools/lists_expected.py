@@ -1,9 +1,9 @@
 #!/usr/bin/env python3
-"""A model of the three lists, written from document 01's text as docs/DECISIONS.md reads it, and cases for the program lists_check: lists well
+"""A model of the three lists, written from document 01's text as docs/DECISIONS.md reads it, and cases for the program test_lists: lists well
 formed and damaged, and what is done to them. Writes the program's input and what it must print. Of the program it knows the form of its input and
 of its lines, and when it prints `-` because it does not ask: for a list that is none, an argument out of range, or no room for another variable.
 
-    tools/lists_expected.py            from the repository's root: writes crates/lists_check/stdin and stdout
+    tools/lists_expected.py            from the repository's root: writes crates/test_lists/stdin and stdout
     tools/lists_expected.py layout N   writes to standard output one case: the tests of a layout list of N entries, N at most 255
     tools/lists_expected.py damaged N  the same with the last entry damaged, or the head where there is none
     tools/lists_expected.py sizes N    the same as layout for a size list, N at most 511
@@ -410,5 +410,5 @@ if len(sys.argv) == 3:
     sys.stdout.buffer.write(whole())
 else:
     all_cases()
-    open('crates/lists_check/stdin', 'wb').write(whole())
-    open('crates/lists_check/stdout', 'w').write(''.join(lines))
+    open('crates/test_lists/stdin', 'wb').write(whole())
+    open('crates/test_lists/stdout', 'w').write(''.join(lines))

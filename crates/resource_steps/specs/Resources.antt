@@ -22,7 +22,7 @@ use Rattle.bindings.specs.declared.types.TextureSampleType.the-variants as Samp
 use Rattle.bindings.specs.declared.types.BindGroupLayoutEntry.{BindGroupLayoutEntry}
 use Rattle.bindings.specs.declared.types.Derived.{Derived}
 use Rattle.bindings.specs.declared.types.Derived.the-variants as Der
-use Rattle.layouts.specs.Meaning.{Layout, findEntry, entryNth, seesBit, pushed, joined}
+use Rattle.layouts.specs.Meaning.{Layout, findEntry, entryNth, seesBit, pushed, joined, roomForEntry}
 use Rattle.sizes.specs.Meaning.{Sizes, sizeFits, recorded}
 use Rattle.places.specs.declared.found.Found.{Found}
 use Rattle.places.specs.declared.found.Found.the-variants.{At, Nothing}

@@ -14,6 +14,8 @@ ghost use Rattle.resource_steps.specs.Resources.{resourceNth, layoutAfte
 use crate::resources::entry_least;
 use crate::resources::place_answer;
 use crate::types::Checked;
+use bindings::sizes::size_at;
+use bindings::sizes::size_word;
 use bindings::word_derives::derived_least;
 use bindings::word_derives::derived_word;
 use interface::reads::position_at;
@@ -26,8 +28,6 @@ use layouts::layout::join_visibility;
 use layouts::layout::push_words;
 use layouts::visibility::stage_bit;
 use places::found::Found;
-use bindings::sizes::size_at;
-use bindings::sizes::size_word;
 use word::answer::Answer;
 use word::content;
 

@@ -15,6 +15,8 @@ use crate::resources::note;
 use crate::resources::noted;
 use crate::resources::place_answer;
 use crate::types::Checked;
+use bindings::sizes::size_at;
+use bindings::sizes::size_word;
 use bindings::word_uses::words_use;
 use interface::reads::position_at;
 use interface::reads::stage_code;
@@ -24,8 +26,6 @@ use layouts::layout::find_entry_near;
 use layouts::visibility::sees;
 use places::found::Found;
 use sizes::sizes::record_words;
-use bindings::sizes::size_at;
-use bindings::sizes::size_word;
 use word::answer::Answer;
 use word::content;
 

@@ -12,8 +12,8 @@ use bindings::resource_words::place_of;
 ghost use lib.ListN.{length};
 ghost use Rattle.layouts.specs.Meaning.{entryNth};
 ghost use Rattle.layouts.specs.Format.{layoutFiled, decodeLayout};
-use layouts::layout::entry_word;
 use bindings::sizes::word_size;
+use layouts::layout::entry_word;
 use word::answer::Answer;
 
 // The answer of a number that names the place of a word.

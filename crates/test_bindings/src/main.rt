@@ -5,11 +5,11 @@
 ghost use Prim.Native.Nat.{_+_, _<_, _^_};
 use binding_rules::check_words::check_words;
 use binding_rules::check_words::derive_words;
+use bindings::sizes::word_size;
 use bindings::word_derives::derived_least;
 use bindings::word_derives::derived_word;
 use bindings::word_uses::words_use;
 use libc::STDOUT_FILENO;
-use bindings::sizes::word_size;
 use word::answer::Answer;
 use word::word;
 

@@ -2,7 +2,7 @@
 // Lines `0 WORD A B C`: of the 32 packs with one bit of the word flipped, how many are accepted, torn and misfiled.
 // Lines `1 WORD A B C`: the same with the closing sum renewed. Lines `2 N ANSWER`: the first N words alone.
 // Lines `3 N ANSWER`: the first N words, or all and zeros behind them, with total and sum renewed.
-// The stored output is from the program `model` of oracle/ on the same packs, by tools/pack_damage.py.
+// The stored output is from the program `model` of oracle/ on the same packs, by tools/packs_expected.py.
 ghost use mathlib.Core.Path.{_≡_};
 ghost use Prim.Native.Nat.{_<_, _≤_};
 ghost use lib.ListN.{length};

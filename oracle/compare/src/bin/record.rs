@@ -1,4 +1,4 @@
-//! Writes the recorded calls of the program crate `replay`, and what the Rust answers to them. See README.md.
+//! Writes the recorded calls of the program crate `test_stages`, and what the Rust answers to them. See README.md.
 
 use cases::{Answer, Case, StageCall};
 use std::collections::BTreeMap;
@@ -74,7 +74,7 @@ fn changes(before: &[u32], after: &[u32], line: &mut String) {
     }
 }
 
-/// The line that `replay` is to print.
+/// The line that `test_stages` is to print.
 fn line(case: &Case, answer: &Answer) -> String {
     let mut line = String::new();
     let mut start = |number: &u32, [a, b, c]: &[u32; 3]| write!(line, "{number} {a} {b} {c}").unwrap();

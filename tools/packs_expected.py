@@ -1,8 +1,8 @@
 #!/usr/bin/env python3
-"""Writes what the program pack_damage must print: the pack of its table damaged, cut and refitted, each answered by the program model of oracle/
+"""Writes what the program test_packs must print: the pack of its table damaged, cut and refitted, each answered by the program model of oracle/
 (the case `name PACK 0`).
 
-    tools/pack_damage.py [MODEL] > crates/pack_damage/stdout"""
+    tools/packs_expected.py [MODEL] > crates/test_packs/stdout"""
 import subprocess, sys
 MODEL = sys.argv[1] if len(sys.argv) > 1 else 'oracle/target/release/model'
 k = lambda kind, content=0: kind << 27 | content
