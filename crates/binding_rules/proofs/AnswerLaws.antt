@@ -13,7 +13,7 @@ use Rattle.word.specs.Parse.{Parsed, fault, got, nowhere, from, behind, restAt}
 use Rattle.word.specs.Answers.{answer, refused}
 use Rattle.word.specs.declared.answer.Answer.{Answer}
 use Rattle.bindings.specs.Rules.{checkBindingUse, useNumber, deriveBindingType}
-use Rattle.bindings.specs.Format.{readResource, resourceAt, placeHeld, typeHeld, resourceHeld, formatHeld, entryFiledAt, entryAt, bindingCode, leastSize}
+use Rattle.bindings.specs.Format.{readResource, resourceAt, placeEncodable, typeEncodable, resourceEncodable, formatEncodable, entryWellFormedAt, entryAt, bindingCode, leastSize}
 use Rattle.bindings.specs.Answers.{bindingAnswer, onlyResource, onlyEntry, checkWords, derivedAnswer, deriveWords}
 use Rattle.bindings.specs.declared.types.Resource.{Resource}
 use Rattle.bindings.specs.declared.types.BindingType.{BindingType}
@@ -22,8 +22,8 @@ use Rattle.bindings.specs.declared.types.BindingUse.{BindingUse}
 use Rattle.bindings.specs.declared.types.Derived.{Derived}
 use Rattle.bindings.specs.declared.types.Derived.the-variants as Der
 use Rattle.word.proofs.Truth.{second, never}
-use Rattle.bindings.proofs.ReadLaws.{read-at, read-held}
-use Rattle.bindings.proofs.HandBack.{derived-held}
+use Rattle.bindings.proofs.ReadLaws.{read-at, read-encodable}
+use Rattle.bindings.proofs.DerivedServes.{derived-encodable}
 
 -- what the words alone are
 abbrev pub Alone : List ℕ → Bool → Type 0
@@ -62,15 +62,15 @@ one-read ws n k (got r (w ∷ rest)) q e h l =
 pub alone-ends : (ws : List ℕ) (n : ℕ) → restAt ws n ≡ behind (readResource (drop 0 ws)) → (n ≡ 0 → ⊥) → n ≤ length ws → Alone ws (eqb n (length ws))
 alone-ends ws n e h l k = one-read ws n k (readResource ws) refl e h l
 
-held-read : (ws : List ℕ) (n : ℕ) (p : Parsed Resource) → readResource ws ≡ p → restAt ws n ≡ behind p → (n ≡ 0 → ⊥) → resourceHeld (resourceAt ws 0) ≡ true
-held-read ws n fault q e h = somewhere ws n h e
-held-read ws n (got r rest) q e h = ap resourceHeld (sym (read-at ws r rest q)) ∙ read-held ws r rest q
+encodable-read : (ws : List ℕ) (n : ℕ) (p : Parsed Resource) → readResource ws ≡ p → restAt ws n ≡ behind p → (n ≡ 0 → ⊥) → resourceEncodable (resourceAt ws 0) ≡ true
+encodable-read ws n fault q e h = somewhere ws n h e
+encodable-read ws n (got r rest) q e h = ap resourceEncodable (sym (read-at ws r rest q)) ∙ read-encodable ws r rest q
 
-pub alone-held : (ws : List ℕ) (n : ℕ) (b : Bool) → restAt ws n ≡ behind (readResource (drop 0 ws)) → (n ≡ 0 → ⊥) → b ≡ true → resourceHeld (resourceAt ws 0) ≡ true
-alone-held ws n b e h t = held-read ws n (readResource ws) refl e h
+pub alone-encodable : (ws : List ℕ) (n : ℕ) (b : Bool) → restAt ws n ≡ behind (readResource (drop 0 ws)) → (n ≡ 0 → ⊥) → b ≡ true → resourceEncodable (resourceAt ws 0) ≡ true
+alone-encodable ws n b e h t = encodable-read ws n (readResource ws) refl e h
 
-pub none-held : (ws : List ℕ) → false ≡ true → resourceHeld (resourceAt ws 0) ≡ true
-none-held ws t = never false t refl
+pub none-encodable : (ws : List ℕ) → false ≡ true → resourceEncodable (resourceAt ws 0) ≡ true
+none-encodable ws t = never false t refl
 
 -- an entry alone is four words
 pub entry-other : (ws : List ℕ) → (length ws ≡ 4 → ⊥) → EntryAlone ws false
@@ -81,7 +81,7 @@ entry-other (a ∷ b ∷ c ∷ []) n k = refl
 entry-other (a ∷ b ∷ c ∷ d ∷ []) n k = absurd (n refl)
 entry-other (a ∷ b ∷ c ∷ d ∷ w ∷ ws) n k = refl
 
-pub entry-four : (ws : List ℕ) (b : Bool) → b ≡ entryFiledAt ws 0 → length ws ≡ 4 → EntryAlone ws b
+pub entry-four : (ws : List ℕ) (b : Bool) → b ≡ entryWellFormedAt ws 0 → length ws ≡ 4 → EntryAlone ws b
 entry-four [] b e n k = absurd (omega arith)
 entry-four (x ∷ []) b e n k = absurd (omega arith)
 entry-four (x ∷ y ∷ []) b e n k = absurd (omega arith)
@@ -134,8 +134,8 @@ module _ (ws : List ℕ) (named b : Bool) (alone : Alone ws b) where
         k ∙ ap (derived named) p ∙ sym (alone _ ∙ rw (not-false b m))
 
 -- what is derived from a resource that was read can be written
-pub derive-held : (ws : List ℕ) (named b : Bool) (r : Resource) (d : Derived) (ty : BindingType) → not b ≡ false
-    → (b ≡ true → resourceHeld (resourceAt ws 0) ≡ true) → r ≡ resourceAt ws 0 → d ≡ deriveBindingType (r .ty) named → d ≡ Der.Binding ty → formatHeld ty ≡ true
-derive-held ws named b r d ty m held p q e =
-    let h : resourceHeld r ≡ true = ap resourceHeld p ∙ held (not-false b m) in
-    derived-held (r .ty) named ty (second (placeHeld (r .bind)) (typeHeld (r .ty)) h) (sym q ∙ e)
+pub derive-encodable : (ws : List ℕ) (named b : Bool) (r : Resource) (d : Derived) (ty : BindingType) → not b ≡ false
+    → (b ≡ true → resourceEncodable (resourceAt ws 0) ≡ true) → r ≡ resourceAt ws 0 → d ≡ deriveBindingType (r .ty) named → d ≡ Der.Binding ty → formatEncodable ty ≡ true
+derive-encodable ws named b r d ty m encodable p q e =
+    let h : resourceEncodable r ≡ true = ap resourceEncodable p ∙ encodable (not-false b m) in
+    derived-encodable (r .ty) named ty (second (placeEncodable (r .bind)) (typeEncodable (r .ty)) h) (sym q ∙ e)

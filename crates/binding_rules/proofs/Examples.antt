@@ -7,7 +7,7 @@ use lib.Dec.{eqb}
 use Rattle.word.specs.Choice.{pick, yes}
 use Rattle.word.specs.Words.{ofKind}
 use Rattle.bindings.specs.Rules.{viewFits, storageFits, textureUse, accelerationUse, checkBindingUse, deriveBindingType}
-use Rattle.bindings.specs.Format.{resourceTypeFiled, resourceTypeOf, readResource, bindingTypeFiled, bindingTypeOf, entryFiled, entryOf}
+use Rattle.bindings.specs.Format.{resourceTypeWellFormed, resourceTypeOf, readResource, bindingTypeWellFormed, bindingTypeOf, entryWellFormed, entryOf}
 use Rattle.bindings.specs.Answers.{checkWords, deriveWords}
 
 -- words of group 1, binding 7
@@ -57,6 +57,6 @@ allRight (e ∷ es) = pick (eqb (e .found) (e .right)) (allRight es) false
 
 pub examples-right : allRight examples ≡ true
 unfolding allRight examples
-    checkWords deriveWords readResource resourceTypeFiled resourceTypeOf bindingTypeFiled bindingTypeOf entryFiled entryOf
+    checkWords deriveWords readResource resourceTypeWellFormed resourceTypeOf bindingTypeWellFormed bindingTypeOf entryWellFormed entryOf
     viewFits storageFits textureUse accelerationUse checkBindingUse deriveBindingType yes
 examples-right = refl

@@ -6,7 +6,7 @@ use lib.Dec.{eqb}
 use borrow.Author.Tests.{eq-eqb, ne-eqb}
 use Rattle.word.specs.Choice.{pick, yes}
 use Rattle.bindings.specs.Rules.{spaceOf, sameSpace, sizeUse, bufferUse, comparing, sameBool, samplerUse, viewCode, viewFits}
-use Rattle.bindings.specs.Rules.{classOf, kindCode, sampledFits, storageFits, accessOf, storable, isExternal, classUse, textureUse, accelerationUse, checkBindingUse}
+use Rattle.bindings.specs.Rules.{classOf, sampleKindCode, sampledFits, storageFits, accessOf, storable, isExternal, classUse, textureUse, accelerationUse, checkBindingUse}
 use Rattle.bindings.specs.declared.types.AddressSpace.{AddressSpace}
 use Rattle.bindings.specs.declared.types.AddressSpace.the-variants as Space
 use Rattle.bindings.specs.declared.types.ImageDimension.{ImageDimension}
@@ -77,7 +77,7 @@ class-is sample s multi x e h = rw e h
 
 -- sampled classes: kinds that differ, kinds that agree
 module _ (class other : ImageClass) (kind k : SampleKind) (multi m : Bool) (x y : ℕ) (p : class ≡ Class.Sampled kind multi) (q : other ≡ Class.Sampled k m)
-    (e : x ≡ kindCode kind) (f : y ≡ kindCode k) where
+    (e : x ≡ sampleKindCode kind) (f : y ≡ sampleKindCode k) where
   pub kinds-differ : (x ≡ y → ⊥) → eqb x y ≡ sampledFits class other
   unfolding sampledFits
   kinds-differ n = rw (p, q, ← e, ← f, ne-eqb x y n)

@@ -4,7 +4,7 @@ ghost use mathlib.Core.Bool.{true};
 ghost use Rattle.word.specs.Choice.{pick};
 ghost use Rattle.word.specs.Answers.{refused};
 ghost use Rattle.word.specs.declared.answer.Answer.{Answer};
-ghost use Rattle.bindings.specs.Format.{readResource, resourceAt, resourceHeld, entryAt};
+ghost use Rattle.bindings.specs.Format.{readResource, resourceAt, resourceEncodable, entryAt};
 ghost use Rattle.bindings.specs.Answers.{onlyResource, onlyEntry, checkWords, deriveWords};
 ghost use Rattle.bindings.specs.declared.types.Resource.{Resource};
 ghost use Rattle.bindings.specs.declared.types.BindGroupLayoutEntry.{BindGroupLayoutEntry};
@@ -15,7 +15,7 @@ use bindings::answers::binding_answer;
 use bindings::binding_codes::binding_word;
 use bindings::binding_codes::least_word;
 use bindings::entry_words::entry_at;
-use bindings::entry_words::entry_filed;
+use bindings::entry_words::entry_well_formed;
 use bindings::resource_words::resource_at;
 use bindings::resource_words::resource_next;
 use bindings::types::Derived;
@@ -25,7 +25,7 @@ use word::answer::Answer;
 fn resource_alone(ws: &[u32]) -> bool
     ensures { λ r. ⌜ ((k : Resource → Answer) → onlyResource (readResource (now (ws .entry))) k
         ≡ pick r (k (resourceAt (now (ws .entry)) 0)) (refused 2)) ⌝ }
-    ensures { λ r. ⌜ (r ≡ true → resourceHeld (resourceAt (now (ws .entry)) 0) ≡ true) ⌝ }
+    ensures { λ r. ⌜ (r ≡ true → resourceEncodable (resourceAt (now (ws .entry)) 0) ≡ true) ⌝ }
 {
     let end = resource_next(ws, 0);
     if end == 0 {
@@ -42,7 +42,7 @@ fn entry_alone(ws: &[u32]) -> bool
     if ws.len() != 4 {
         return false;
     }
-    entry_filed(ws, 0)
+    entry_well_formed(ws, 0)
 }
 
 // Whether an entry serves a resource.

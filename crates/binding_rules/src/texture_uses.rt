@@ -1,7 +1,7 @@
 // Whether a layout entry serves a shader's texture.
 ghost use mathlib.Core.Path.{_≡_};
 ghost use Rattle.word.specs.Choice.{pick};
-ghost use Rattle.bindings.specs.Rules.{storable, kindCode, viewFits, classOf, sampledFits, storageFits, accessOf, isExternal, classUse, textureUse};
+ghost use Rattle.bindings.specs.Rules.{storable, sampleKindCode, viewFits, classOf, sampledFits, storageFits, accessOf, isExternal, classUse, textureUse};
 ghost use Rattle.bindings.specs.declared.types.BindingUse.the-variants as Use;
 use bindings::binding_codes::view_code;
 use bindings::resource_words::storable;
@@ -60,7 +60,7 @@ fn class_of(sample_type: TextureSampleType, multi: bool) -> ImageClass
 
 // The number of a sample kind.
 fn kind_code(kind: SampleKind) -> u32
-    ensures { λ r. ⌜ r ≡ kindCode kind ⌝ }
+    ensures { λ r. ⌜ r ≡ sampleKindCode kind ⌝ }
 {
     match kind {
         SampleKind::Float => 0,

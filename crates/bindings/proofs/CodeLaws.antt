@@ -6,7 +6,7 @@ use mathlib.Core.Bool.{Bool, true, false}
 use borrow.Author.Tests.{ltb-true}
 use Rattle.word.specs.Choice.{pick, yes}
 use Rattle.bindings.specs.Rules.{viewCode}
-use Rattle.bindings.specs.Format.{flag, bufferCode, samplerCode, sampleCode, accessCode, bindingCode, leastSize, formatHeld, sizeLimit}
+use Rattle.bindings.specs.Format.{flag, bufferCode, samplerCode, sampleCode, accessCode, bindingCode, leastSize, formatEncodable, sizeLimit}
 use Rattle.bindings.specs.declared.types.BufferBindingType.{BufferBindingType}
 use Rattle.bindings.specs.declared.types.BufferBindingType.the-variants as Buf
 use Rattle.bindings.specs.declared.types.SamplerBindingType.{SamplerBindingType}
@@ -91,7 +91,7 @@ access-most Acc.WriteOnly = omega arith
 access-most Acc.ReadWrite = omega arith
 access-most Acc.Atomic = omega arith
 
-pub code-fits : (ty : BindingType) → formatHeld ty ≡ true → bindingCode ty < 2 ^ 27
+pub code-fits : (ty : BindingType) → formatEncodable ty ≡ true → bindingCode ty < 2 ^ 27
 unfolding bindingCode
 code-fits (Bind.Buffer b dynamic least) h = omega (arith, buffer-most b, flag-most dynamic)
 code-fits (Bind.Sampler s) h = omega (arith, sampler-most s)
@@ -100,7 +100,7 @@ code-fits (Bind.StorageTexture access format view) h = omega (arith, access-most
 code-fits Bind.ExternalTexture h = omega arith
 code-fits (Bind.AccelerationStructure returns) h = omega (arith, flag-most returns)
 
-pub least-fits : (ty : BindingType) → formatHeld ty ≡ true → leastSize ty < sizeLimit
+pub least-fits : (ty : BindingType) → formatEncodable ty ≡ true → leastSize ty < sizeLimit
 least-fits (Bind.Buffer b dynamic least) h = ltb-true least sizeLimit h
 least-fits (Bind.Sampler s) h = omega arith
 least-fits (Bind.Texture sample view multi) h = omega arith

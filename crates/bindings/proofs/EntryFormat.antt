@@ -10,9 +10,9 @@ use borrow.Author.Tests.{eqb-true, eqb-false, eq-eqb, ne-eqb, ltb-true, lt-ltb}
 use Rattle.word.specs.Choice.{yes}
 use Rattle.word.specs.Words.{kindOf, contentOf, bits, bit, ofKind}
 use Rattle.bindings.specs.Rules.{viewCode}
-use Rattle.bindings.specs.Format.{flag, bitSet, typeCode, isBuffer, viewAt, sampleAt, sampleCode, accessAt, accessCode, samplerAt, samplerCode, bufferAt, bufferCode}
-use Rattle.bindings.specs.Format.{bindingTypeFiled, bindingTypeOf, bindingCode, leastSize, formatHeld, placeFiled, placeOf, placeWord, placeHeld}
-use Rattle.bindings.specs.Format.{entryFiled, entryOf, entryWords, entryHeld}
+use Rattle.bindings.specs.Format.{flag, bitSet, typeCode, isBufferWord, viewAt, sampleAt, sampleCode, accessAt, accessCode, samplerAt, samplerCode, bufferAt, bufferCode}
+use Rattle.bindings.specs.Format.{bindingTypeWellFormed, bindingTypeOf, bindingCode, leastSize, formatEncodable, placeWellFormed, placeOf, placeWord, placeEncodable}
+use Rattle.bindings.specs.Format.{entryWellFormed, entryOf, entryWords, entryEncodable}
 use Rattle.bindings.specs.declared.types.ResourceBinding.{ResourceBinding}
 use Rattle.bindings.specs.declared.types.BufferBindingType.the-variants as Buf
 use Rattle.bindings.specs.declared.types.SamplerBindingType.the-variants as Samp
@@ -25,12 +25,12 @@ use Rattle.bindings.specs.declared.types.StorageTextureAccess.the-varian
 use Rattle.bindings.specs.declared.types.BindingType.{BindingType}
 use Rattle.bindings.specs.declared.types.BindingType.the-variants as Bind
 use Rattle.bindings.specs.declared.types.BindGroupLayoutEntry.{BindGroupLayoutEntry}
-use Rattle.bindings.specs.Format.{flag, bitSet, typeCode, isBuffer, viewAt, sampleAt, sampleCode, accessAt, accessCode, samplerAt, samplerCode, bufferAt, bufferCode}
-use Rattle.bindings.specs.Format.{sizeLimit, bindingTypeFiled, bindingTypeOf, bindingCode, leastSize, formatHeld, placeFiled, placeOf, placeWord, placeHeld}
-use Rattle.bindings.specs.Format.{entryFiled, entryOf, entryWords, entryHeld}
+use Rattle.bindings.specs.Format.{flag, bitSet, typeCode, isBufferWord, viewAt, sampleAt, sampleCode, accessAt, accessCode, samplerAt, samplerCode, bufferAt, bufferCode}
+use Rattle.bindings.specs.Format.{sizeLimit, bindingTypeWellFormed, bindingTypeOf, bindingCode, leastSize, formatEncodable, placeWellFormed, placeOf, placeWord, placeEncodable}
+use Rattle.bindings.specs.Format.{entryWellFormed, entryOf, entryWords, entryEncodable}
 use Rattle.word.proofs.Truth.{first, second, or-right, by-test, never, codes-back}
 use Rattle.bindings.proofs.CodeLaws.{flag-most, sample-most, view-most, access-most, buffer-most, code-fits, least-fits}
-use Rattle.bindings.proofs.ReadLaws.{place-held}
+use Rattle.bindings.proofs.ReadLaws.{place-encodable}
 
 -- a field of a word and what stands above it
 pub field : (w a b : ℕ) → w / a ≡ b * (w / (a * b)) + w / a % b
@@ -38,23 +38,23 @@ field w a b = sym (div-add-mod (w / a) b) ∙ rw (div-div-eq-div-mul w a b)
 
 -- ---- places
 
-module _ (place : ResourceBinding) (h : placeHeld place ≡ true) where
-  group-held : place .group < 16
-  group-held = search (ltb-true, first)
+module _ (place : ResourceBinding) (h : placeEncodable place ≡ true) where
+  group-encodable : place .group < 16
+  group-encodable = search (ltb-true, first)
 
-  binding-held : place .binding < 2 ^ 23
-  binding-held = search (ltb-true, second)
+  binding-encodable : place .binding < 2 ^ 23
+  binding-encodable = search (ltb-true, second)
 
-  pub place-filed : placeFiled (placeWord place) ≡ true
-  place-filed = let k : kindOf (placeWord place) ≡ 4 = omega (arith, group-held, binding-held) in rw k
+  pub place-well-formed : placeWellFormed (placeWord place) ≡ true
+  place-well-formed = let k : kindOf (placeWord place) ≡ 4 = omega (arith, group-encodable, binding-encodable) in rw k
 
   pub place-read : placeOf (placeWord place) ≡ place
   place-read =
-      let g : bits 26 23 (placeWord place) ≡ place .group = omega (arith, group-held, binding-held) in
-      let b : bits 22 0 (placeWord place) ≡ place .binding = omega (arith, group-held, binding-held) in
+      let g : bits 26 23 (placeWord place) ≡ place .group = omega (arith, group-encodable, binding-encodable) in
+      let b : bits 22 0 (placeWord place) ≡ place .binding = omega (arith, group-encodable, binding-encodable) in
       rw (g, b)
 
-pub place-back : (w : ℕ) → placeFiled w ≡ true → placeWord (placeOf w) ≡ w
+pub place-back : (w : ℕ) → placeWellFormed w ≡ true → placeWord (placeOf w) ≡ w
 place-back w h = let k : kindOf w ≡ 4 = eqb-true (kindOf w) 4 h in omega arith
 
 -- ---- codes
@@ -124,10 +124,10 @@ module _ (access : StorageTextureAccess) (format : ℕ) (view : TextureViewDimen
   stored-bits = omega (arith, access-most access, view-most view)
 
 abbrev Again : BindingType → Type 0
-Again ty = (bindingTypeFiled (ofKind 18 (bindingCode ty)) ≡ true) × (bindingTypeOf (ofKind 18 (bindingCode ty)) (leastSize ty) ≡ ty)
+Again ty = (bindingTypeWellFormed (ofKind 18 (bindingCode ty)) ≡ true) × (bindingTypeOf (ofKind 18 (bindingCode ty)) (leastSize ty) ≡ ty)
 
-type-again : (ty : BindingType) → formatHeld ty ≡ true → Again ty
-unfolding bindingTypeFiled bindingTypeOf yes
+type-again : (ty : BindingType) → formatEncodable ty ≡ true → Again ty
+unfolding bindingTypeWellFormed bindingTypeOf yes
 type-again (Bind.Buffer Buf.Uniform true least) h = unfold bindingCode in (refl, refl)
 type-again (Bind.Buffer Buf.Uniform false least) h = unfold bindingCode in (refl, refl)
 type-again (Bind.Buffer (Buf.Storage true) true least) h = unfold bindingCode in (refl, refl)
@@ -151,9 +151,9 @@ type-again Bind.ExternalTexture h = unfold bindingCode in (refl, refl)
 type-again (Bind.AccelerationStructure true) h = unfold bindingCode in (refl, refl)
 type-again (Bind.AccelerationStructure false) h = unfold bindingCode in (refl, refl)
 
-module _ (ty : BindingType) (h : formatHeld ty ≡ true) where
-  pub type-filed : bindingTypeFiled (ofKind 18 (bindingCode ty)) ≡ true
-  type-filed = type-again ty h .0
+module _ (ty : BindingType) (h : formatEncodable ty ≡ true) where
+  pub type-well-formed : bindingTypeWellFormed (ofKind 18 (bindingCode ty)) ≡ true
+  type-well-formed = type-again ty h .0
 
   pub type-read : bindingTypeOf (ofKind 18 (bindingCode ty)) (leastSize ty) ≡ ty
   type-read = type-again ty h .1
@@ -174,15 +174,15 @@ by-binding P w least c0 c1 c2 c4 c5 c6 =
     rw (n0, n1, n2, n4, n5)
     (c6 (eqb-false (typeCode w) 0 n0) (eqb-false (typeCode w) 1 n1) (eqb-false (typeCode w) 2 n2) (eqb-false (typeCode w) 4 n4) (eqb-false (typeCode w) 5 n5))
 
--- ---- a well filed type's word is written again
+-- ---- a well formed type's word is written again
 
-binding-cases : {P : Type 0} (w : ℕ) → bindingTypeFiled w ≡ true
+binding-cases : {P : Type 0} (w : ℕ) → bindingTypeWellFormed w ≡ true
     → (typeCode w ≡ 0 → eqb (bits 22 3 w) 0 && (eqb (bit 1 w) 0 || eqb (bit 0 w) 1) ≡ true → P)
     → (typeCode w ≡ 1 → ltb (bits 22 0 w) 3 ≡ true → P)
     → (typeCode w ≡ 2 → eqb (bits 22 7 w) 0 && (ltb (bits 2 0 w) 6 && ltb (bits 6 4 w) 5) ≡ true → P)
     → (typeCode w ≡ 4 → eqb (bits 22 18 w) 0 && (eqb (bit 15 w) 0 && (eqb (bits 7 3 w) 0 && (ltb (bits 2 0 w) 6 && ltb (bits 14 8 w) 77))) ≡ true → P)
     → (typeCode w ≡ 5 → eqb (bits 22 0 w) 0 ≡ true → P) → (typeCode w ≡ 6 → eqb (bits 22 1 w) 0 ≡ true → P) → P
-unfolding bindingTypeFiled
+unfolding bindingTypeWellFormed
 binding-cases w h c0 c1 c2 c4 c5 c6 =
     by-test (eqb (typeCode w) 0) (λ e. c0 (eqb-true (typeCode w) 0 e) (rw e at h)) λ n0.
     by-test (eqb (typeCode w) 1) (λ e. c1 (eqb-true (typeCode w) 1 e) (rw (n0, e) at h)) λ n1.
@@ -212,7 +212,7 @@ stored-sum w e z y x =
     let below : w / 8 ≡ 2 ^ 13 * (w / 2 ^ 16) + 2 ^ 5 * bits 14 8 w = omega (arith, field w 8 32, field w 256 128, field w (2 ^ 15) 2) in
     code-sum w (bits 17 16 w) (bits 14 8 w) e above below
 
-pub type-back : (w least : ℕ) → bindingTypeFiled w ≡ true → bindingCode (bindingTypeOf w least) ≡ contentOf w
+pub type-back : (w least : ℕ) → bindingTypeWellFormed w ≡ true → bindingCode (bindingTypeOf w least) ≡ contentOf w
 unfolding bindingTypeOf bindingCode
 type-back w least h =
     let high = field w (2 ^ 23) 16 in
@@ -228,27 +228,27 @@ type-back w least h =
     (λ e f. rw (e, flag-back (bit 0 w) (omega arith)) (let z : bits 22 1 w ≡ 0 = eqb-true (bits 22 1 w) 0 f in omega (arith, field w 2 (2 ^ 22), high)))
 
 -- only a buffer has a least size
-least-filed : (ty : BindingType) → isBuffer (ofKind 18 (bindingCode ty)) || eqb (leastSize ty) 0 ≡ true
+least-well-formed : (ty : BindingType) → isBufferWord (ofKind 18 (bindingCode ty)) || eqb (leastSize ty) 0 ≡ true
 unfolding bindingCode
-least-filed (Bind.Buffer b dynamic least) =
+least-well-formed (Bind.Buffer b dynamic least) =
     let w = ofKind 18 (bufferCode b + 4 * flag dynamic) in
     rw (eq-eqb (typeCode w) 0 (omega (arith, buffer-most b, flag-most dynamic)))
-least-filed (Bind.Sampler s) = or-right (isBuffer (ofKind 18 (bindingCode (Bind.Sampler s)))) true refl
-least-filed (Bind.Texture sample view multi) = or-right (isBuffer (ofKind 18 (bindingCode (Bind.Texture sample view multi)))) true refl
-least-filed (Bind.StorageTexture access format view) = or-right (isBuffer (ofKind 18 (bindingCode (Bind.StorageTexture access format view)))) true refl
-least-filed Bind.ExternalTexture = refl
-least-filed (Bind.AccelerationStructure returns) = or-right (isBuffer (ofKind 18 (bindingCode (Bind.AccelerationStructure returns)))) true refl
+least-well-formed (Bind.Sampler s) = or-right (isBufferWord (ofKind 18 (bindingCode (Bind.Sampler s)))) true refl
+least-well-formed (Bind.Texture sample view multi) = or-right (isBufferWord (ofKind 18 (bindingCode (Bind.Texture sample view multi)))) true refl
+least-well-formed (Bind.StorageTexture access format view) = or-right (isBufferWord (ofKind 18 (bindingCode (Bind.StorageTexture access format view)))) true refl
+least-well-formed Bind.ExternalTexture = refl
+least-well-formed (Bind.AccelerationStructure returns) = or-right (isBufferWord (ofKind 18 (bindingCode (Bind.AccelerationStructure returns)))) true refl
 
-pub least-back : (w least : ℕ) → isBuffer w || eqb least 0 ≡ true → leastSize (bindingTypeOf w least) ≡ least
+pub least-back : (w least : ℕ) → isBufferWord w || eqb least 0 ≡ true → leastSize (bindingTypeOf w least) ≡ least
 least-back w least h =
     let z : (typeCode w ≡ 0 → ⊥) → 0 ≡ least = λ n. sym (eqb-true least 0 (rw (ne-eqb (typeCode w) 0 n) at h)) in
     by-binding (λ t. leastSize t ≡ least) w least
     (λ e. refl) (λ e. z (λ y. omega arith)) (λ e. z (λ y. omega arith)) (λ e. z (λ y. omega arith)) (λ e. z (λ y. omega arith)) (λ n0 n1 n2 n4 n5. z n0)
 
--- words can hold what a well filed type word means
-pub type-held : (w least : ℕ) → least < sizeLimit → bindingTypeFiled w ≡ true → formatHeld (bindingTypeOf w least) ≡ true
+-- words can hold what a well formed type word means
+pub type-encodable : (w least : ℕ) → least < sizeLimit → bindingTypeWellFormed w ≡ true → formatEncodable (bindingTypeOf w least) ≡ true
 unfolding bindingTypeOf
-type-held w least l h =
+type-encodable w least l h =
     binding-cases w h
     (λ e f. rw e (lt-ltb least sizeLimit l))
     (λ e f. rw e)
@@ -259,12 +259,12 @@ type-held w least l h =
 
 -- ---- entries
 
--- the words of an entry within the ranges are well filed, and mean it
-module _ (e : BindGroupLayoutEntry) (h : entryHeld e ≡ true) where
-  place-word : placeHeld (e .bind) ≡ true
+-- the words of an entry within the ranges are well formed, and mean it
+module _ (e : BindGroupLayoutEntry) (h : entryEncodable e ≡ true) where
+  place-word : placeEncodable (e .bind) ≡ true
   place-word = search first
 
-  format-word : formatHeld (e .ty) ≡ true
+  format-word : formatEncodable (e .ty) ≡ true
   format-word = search (first, second)
 
   visible-word : e .visibility < 32
@@ -276,19 +276,19 @@ module _ (e : BindGroupLayoutEntry) (h : entryHeld e ≡ true) where
   visible-content : contentOf (ofKind 19 (e .visibility)) ≡ e .visibility
   visible-content = omega (arith, visible-word)
 
-  pub entry-filed : entryFiled (placeWord (e .bind)) (ofKind 18 (bindingCode (e .ty))) (ofKind 6 (leastSize (e .ty))) (ofKind 19 (e .visibility)) ≡ true
-  unfolding entryFiled
-  entry-filed =
+  pub entry-well-formed : entryWellFormed (placeWord (e .bind)) (ofKind 18 (bindingCode (e .ty))) (ofKind 6 (leastSize (e .ty))) (ofKind 19 (e .visibility)) ≡ true
+  unfolding entryWellFormed
+  entry-well-formed =
       let kt : kindOf (ofKind 18 (bindingCode (e .ty))) ≡ 18 = omega (arith, code-fits (e .ty) format-word) in
       let ks : kindOf (ofKind 6 (leastSize (e .ty))) ≡ 6 = omega (arith, least-fits (e .ty) format-word) in
       let kv : kindOf (ofKind 19 (e .visibility)) ≡ 19 = omega (arith, visible-word) in
       rw (
-        place-filed (e .bind) place-word,
+        place-well-formed (e .bind) place-word,
         kt,
-        type-filed (e .ty) format-word,
+        type-well-formed (e .ty) format-word,
         ks,
         least-content,
-        least-filed (e .ty),
+        least-well-formed (e .ty),
         kv,
         visible-content,
         lt-ltb (e .visibility) 32 visible-word,
@@ -298,23 +298,23 @@ module _ (e : BindGroupLayoutEntry) (h : entryHeld e ≡ true) where
   unfolding entryOf
   entry-read = rw (place-read (e .bind) place-word, least-content, type-read (e .ty) format-word, visible-content)
 
--- well filed words mean an entry within the ranges, and are its words
-module _ (p t l v : ℕ) (h : entryFiled p t l v ≡ true) where
-  typed : bindingTypeFiled t ≡ true
-  unfolding entryFiled
+-- well formed words mean an entry within the ranges, and are its words
+module _ (p t l v : ℕ) (h : entryWellFormed p t l v ≡ true) where
+  typed : bindingTypeWellFormed t ≡ true
+  unfolding entryWellFormed
   typed = search (first, second)
 
-  pub entry-held : entryHeld (entryOf p t l v) ≡ true
-  unfolding entryFiled entryOf
-  entry-held = let s : ltb (contentOf v) 32 ≡ true = search (first, second) depth 8 in rw (place-held p, type-held t (contentOf l) (omega arith) typed, s)
+  pub entry-encodable : entryEncodable (entryOf p t l v) ≡ true
+  unfolding entryWellFormed entryOf
+  entry-encodable = let s : ltb (contentOf v) 32 ≡ true = search (first, second) depth 8 in rw (place-encodable p, type-encodable t (contentOf l) (omega arith) typed, s)
 
   pub entry-back : entryWords (entryOf p t l v) ≡ p ∷ t ∷ l ∷ v ∷ []
-  unfolding entryFiled entryOf entryWords
+  unfolding entryWellFormed entryOf entryWords
   entry-back =
       let kt : kindOf t ≡ 18 = search (eqb-true, first, second) in
       let kl : kindOf l ≡ 6 = search (eqb-true, first, second) depth 8 in
       let kv : kindOf v ≡ 19 = search (eqb-true, first, second) depth 9 in
-      let s : isBuffer t || eqb (contentOf l) 0 ≡ true = search (first, second) depth 8 in
+      let s : isBufferWord t || eqb (contentOf l) 0 ≡ true = search (first, second) depth 8 in
       let t′ : ofKind 18 (contentOf t) ≡ t = omega arith in
       let l′ : ofKind 6 (contentOf l) ≡ l = omega arith in
       let v′ : ofKind 19 (contentOf v) ≡ v = omega arith in

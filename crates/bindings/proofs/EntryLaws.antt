@@ -10,8 +10,8 @@ use borrow.Author.Tests.{eqb-true, eqb-false, eq-eqb, ne-eqb}
 use Rattle.word.specs.Choice.{yes}
 use Rattle.word.specs.Words.{wordAt, kindOf, contentOf, bits}
 use Rattle.word.proofs.Truth.{by-test}
-use Rattle.bindings.specs.Format.{placeFiled, placeOf, typeCode, bitSet, isBuffer, viewAt, sampleAt, accessAt, samplerAt, bufferAt}
-use Rattle.bindings.specs.Format.{fieldsFiled, bindingTypeFiled, bindingTypeOf, entryFiled, entryOf, entryFiledAt, entryAt}
+use Rattle.bindings.specs.Format.{placeWellFormed, placeOf, typeCode, bitSet, isBufferWord, viewAt, sampleAt, accessAt, samplerAt, bufferAt}
+use Rattle.bindings.specs.Format.{fieldsWellFormed, bindingTypeWellFormed, bindingTypeOf, entryWellFormed, entryOf, entryWellFormedAt, entryAt}
 use Rattle.bindings.specs.declared.types.ResourceBinding.{ResourceBinding}
 use Rattle.bindings.specs.declared.types.BufferBindingType.{BufferBindingType}
 use Rattle.bindings.specs.declared.types.SamplerBindingType.{SamplerBindingType}
@@ -45,9 +45,9 @@ module _ (w least : ℕ) where
           rw (ne-eqb (typeCode w) 0 n0, ne-eqb (typeCode w) 1 n1, ne-eqb (typeCode w) 2 n2, eq-eqb (typeCode w) 4 z, p, q)
 
 -- a word whose kind and code are tested as one
-pub type-word : (w code : ℕ) (r : Bool) → w < 2 ^ 32 → code < 2 ^ 32 → (code + 288) % 2 ^ 32 ≡ w / 0x80_0000 → r ≡ fieldsFiled code w
-    → r ≡ (eqb (kindOf w) 18 && bindingTypeFiled w)
-unfolding bindingTypeFiled
+pub type-word : (w code : ℕ) (r : Bool) → w < 2 ^ 32 → code < 2 ^ 32 → (code + 288) % 2 ^ 32 ≡ w / 0x80_0000 → r ≡ fieldsWellFormed code w
+    → r ≡ (eqb (kindOf w) 18 && bindingTypeWellFormed w)
+unfolding bindingTypeWellFormed
 type-word w code r h k e f =
     by-test (eqb (kindOf w) 18)
     (λ t.
@@ -60,11 +60,11 @@ type-word w code r h k e f =
     let no : (c : ℕ) → c ≤ 6 → eqb code c ≡ false = λ c l. ne-eqb code c (λ z. omega arith) in
     rw n (f ∙ rw (no 0 (omega arith), no 1 (omega arith), no 2 (omega arith), no 4 (omega arith), no 5 (omega arith), no 6 (omega arith))))
 
-pub entry-bits : (place w least visibility : ℕ) (x b : Bool) → b ≡ (eqb (kindOf w) 18 && bindingTypeFiled w)
-    → x ≡ (placeFiled place && (yes b
-    && (eqb (kindOf least) 6 && ((isBuffer w || eqb (contentOf least) 0) && (eqb (kindOf visibility) 19 && ltb (contentOf visibility) 32)))))
-    → x ≡ entryFiled place w least visibility
-unfolding entryFiled yes
+pub entry-bits : (place w least visibility : ℕ) (x b : Bool) → b ≡ (eqb (kindOf w) 18 && bindingTypeWellFormed w)
+    → x ≡ (placeWellFormed place && (yes b
+    && (eqb (kindOf least) 6 && ((isBufferWord w || eqb (contentOf least) 0) && (eqb (kindOf visibility) 19 && ltb (contentOf visibility) 32)))))
+    → x ≡ entryWellFormed place w least visibility
+unfolding entryWellFormed yes
 entry-bits place w least visibility x b e h =
     by-test (eqb (kindOf w) 18) (λ t. rw t (rw (e, t) at h)) (λ n. rw n (rw (e, n) at h))
 
@@ -75,9 +75,9 @@ entry-parts place w least visibility s v bind ty p q e f = rw (p, e, q, f)
 
 -- past the end every word is 0
 module _ (ws : List ℕ) (at : ℕ) (h : length ws ≤ at) where
-  pub filed-past : false ≡ entryFiledAt ws at
-  unfolding entryFiled
-  filed-past = rw (List·getD-eq-default ws 0 {n = at} h)
+  pub well-formed-past : false ≡ entryWellFormedAt ws at
+  unfolding entryWellFormed
+  well-formed-past = rw (List·getD-eq-default ws 0 {n = at} h)
 
   pub entry-past : (x : BindGroupLayoutEntry) → x ≡ entryOf 0 0 0 0 → x ≡ entryAt ws at
   entry-past x e =
@@ -89,8 +89,8 @@ module _ (ws : List ℕ) (at : ℕ) (h : length ws ≤ at) where
       ) e
 
 module _ (ws : List ℕ) (at p t s v : ℕ) (pe : p ≡ wordAt ws at) (te : t ≡ wordAt ws (at + 1)) (se : s ≡ wordAt ws (at + 2)) (ve : v ≡ wordAt ws (at + 3)) where
-  pub filed-there : (x : Bool) → x ≡ entryFiled p t s v → x ≡ entryFiledAt ws at
-  filed-there x e = rw (← pe, ← te, ← se, ← ve) e
+  pub well-formed-there : (x : Bool) → x ≡ entryWellFormed p t s v → x ≡ entryWellFormedAt ws at
+  well-formed-there x e = rw (← pe, ← te, ← se, ← ve) e
 
   pub entry-there : (x : BindGroupLayoutEntry) → x ≡ entryOf p t s v → x ≡ entryAt ws at
   entry-there x e = rw (← pe, ← te, ← se, ← ve) e

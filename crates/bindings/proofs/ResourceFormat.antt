@@ -9,9 +9,9 @@ use borrow.Author.Tests.{eqb-true, eqb-false, ne-eqb, ltb-true, lt-ltb, not-true
 use Rattle.word.specs.Choice.{pick, yes}
 use Rattle.word.specs.Words.{kindOf, contentOf, bits, bit, ofKind}
 use Rattle.word.specs.Parse.{got}
-use Rattle.bindings.specs.Rules.{kindCode, storable}
-use Rattle.bindings.specs.Format.{flag, bitSet, typeCode, isBuffer, dimensionAt, dimensionCode, sampleKindAt, spaceAt, spaceCode, spaceHeld, resourceTypeFiled}
-use Rattle.bindings.specs.Format.{resourceWordFiled, sizeFiled, resourceTypeOf, readResource, resourceCode, sizeWords, resourceWords, placeWord, placeHeld, typeHeld, resourceHeld}
+use Rattle.bindings.specs.Rules.{sampleKindCode, storable}
+use Rattle.bindings.specs.Format.{flag, bitSet, typeCode, isBufferWord, dimensionAt, dimensionCode, sampleKindAt, spaceAt, spaceCode, spaceEncodable, resourceTypeWellFormed}
+use Rattle.bindings.specs.Format.{resourceWordWellFormed, sizeWellFormed, resourceTypeOf, readResource, resourceCode, sizeWords, resourceWords, placeWord, placeEncodable, typeEncodable, resourceEncodable}
 use Rattle.bindings.specs.declared.types.ResourceBinding.{ResourceBinding}
 use Rattle.bindings.specs.declared.types.AddressSpace.the-variants as Space
 use Rattle.bindings.specs.declared.types.ImageDimension.{ImageDimension}
@@ -22,20 +22,20 @@ use Rattle.bindings.specs.declared.types.ImageClass.the-variants as Clas
 use Rattle.bindings.specs.declared.types.ResourceType.{ResourceType}
 use Rattle.bindings.specs.declared.types.ResourceType.the-variants as Res
 use Rattle.bindings.specs.declared.types.Resource.{Resource}
-use Rattle.bindings.specs.Format.{flag, bitSet, typeCode, isBuffer, dimensionAt, dimensionCode, sampleKindAt, spaceAt, spaceCode, spaceHeld, resourceTypeFiled}
-use Rattle.bindings.specs.Format.{sizeLimit, resourceWordFiled, sizeFiled, resourceTypeOf, readResource, resourceCode, sizeWords, resourceWords, placeWord, placeHeld, typeHeld, resourceHeld}
+use Rattle.bindings.specs.Format.{flag, bitSet, typeCode, isBufferWord, dimensionAt, dimensionCode, sampleKindAt, spaceAt, spaceCode, spaceEncodable, resourceTypeWellFormed}
+use Rattle.bindings.specs.Format.{sizeLimit, resourceWordWellFormed, sizeWellFormed, resourceTypeOf, readResource, resourceCode, sizeWords, resourceWords, placeWord, placeEncodable, typeEncodable, resourceEncodable}
 use Rattle.word.proofs.Truth.{first, second, by-test, codes-back}
 use Rattle.bindings.proofs.CodeLaws.{flag-most}
 use Rattle.bindings.proofs.ReadLaws.{read-cases, by-resource, type-cases, storage-parts}
-use Rattle.bindings.proofs.EntryFormat.{field, code-sum, flag-read, flag-back, place-filed, place-read, place-back}
+use Rattle.bindings.proofs.EntryFormat.{field, code-sum, flag-read, flag-back, place-well-formed, place-read, place-back}
 
 -- ---- codes
 
 dimension-back : (c : ℕ) → c < 4 → dimensionCode (dimensionAt c) ≡ c
 dimension-back = codes-back 4 (λ c. dimensionCode (dimensionAt c)) refl
 
-kind-back : (c : ℕ) → c < 3 → kindCode (sampleKindAt c) ≡ c
-kind-back = codes-back 3 (λ c. kindCode (sampleKindAt c)) refl
+kind-back : (c : ℕ) → c < 3 → sampleKindCode (sampleKindAt c) ≡ c
+kind-back = codes-back 3 (λ c. sampleKindCode (sampleKindAt c)) refl
 
 space-back : (c a : ℕ) → c < 3 → eqb c 1 || eqb a 0 ≡ true → spaceCode (spaceAt c a) ≡ 8 * c + a
 space-back c a l h =
@@ -47,9 +47,9 @@ space-back c a l h =
 texture-back : (w : ℕ) → dimensionCode (dimensionAt (bits 1 0 w)) + 4 * flag (bitSet 2 w) ≡ bits 2 0 w
 texture-back w = rw (dimension-back (bits 1 0 w) (omega arith), flag-back (bit 2 w) (omega arith)) (omega (arith, field w 4 2))
 
--- ---- a well filed type's word is written again
+-- ---- a well formed type's word is written again
 
-code-back : (w size : ℕ) → resourceTypeFiled w ≡ true → resourceCode (resourceTypeOf w size) ≡ contentOf w
+code-back : (w size : ℕ) → resourceTypeWellFormed w ≡ true → resourceCode (resourceTypeOf w size) ≡ contentOf w
 unfolding resourceTypeOf
 code-back w size h =
     let high = field w (2 ^ 23) 16 in
@@ -69,17 +69,17 @@ code-back w size h =
     (λ e f. rw (e, texture-back w) (let z : bits 22 3 w ≡ 0 = eqb-true (bits 22 3 w) 0 f in omega (arith, field w 8 (2 ^ 20), high)))
     (λ e f. rw (e, flag-back (bit 0 w) (omega arith)) (let z : bits 22 1 w ≡ 0 = eqb-true (bits 22 1 w) 0 f in omega (arith, field w 2 (2 ^ 22), high)))
 
-sizes-back : (w size : ℕ) → sizeWords (resourceTypeOf w size) ≡ pick (isBuffer w) (ofKind 6 size ∷ []) []
+sizes-back : (w size : ℕ) → sizeWords (resourceTypeOf w size) ≡ pick (isBufferWord w) (ofKind 6 size ∷ []) []
 sizes-back w size =
-    by-resource (λ r. sizeWords r ≡ pick (isBuffer w) (ofKind 6 size ∷ []) []) w size
+    by-resource (λ r. sizeWords r ≡ pick (isBufferWord w) (ofKind 6 size ∷ []) []) w size
     (λ e. rw e) (λ e. rw e) (λ e. rw e) (λ e. rw e) (λ e. rw e) (λ e. rw e) (λ l. rw (ne-eqb (typeCode w) 0 (λ e. omega arith)))
 
-type-word : (t size : ℕ) → resourceWordFiled t ≡ true → ofKind 16 (resourceCode (resourceTypeOf t size)) ≡ t
+type-word : (t size : ℕ) → resourceWordWellFormed t ≡ true → ofKind 16 (resourceCode (resourceTypeOf t size)) ≡ t
 type-word t size h =
     let k : kindOf t ≡ 16 = search (eqb-true, first) in
-    rw (code-back t size (second (eqb (kindOf t) 16) (resourceTypeFiled t) h)) (omega arith)
+    rw (code-back t size (second (eqb (kindOf t) 16) (resourceTypeWellFormed t) h)) (omega arith)
 
-size-word : (s : ℕ) → sizeFiled s ≡ true → ofKind 6 (contentOf s) ≡ s
+size-word : (s : ℕ) → sizeWellFormed s ≡ true → ofKind 6 (contentOf s) ≡ s
 size-word s h = let k : kindOf s ≡ 6 = search (eqb-true, first) in omega arith
 
 -- the words of what was read, with those behind it, are those that were there
@@ -104,12 +104,12 @@ dimension-most Dim.D2 = omega arith
 dimension-most Dim.D3 = omega arith
 dimension-most Dim.Cube = omega arith
 
-kind-read : (k : SampleKind) → sampleKindAt (kindCode k) ≡ k
+kind-read : (k : SampleKind) → sampleKindAt (sampleKindCode k) ≡ k
 kind-read Kind.Float = refl
 kind-read Kind.Sint = refl
 kind-read Kind.Uint = refl
 
-kind-most : (k : SampleKind) → kindCode k ≤ 2
+kind-most : (k : SampleKind) → sampleKindCode k ≤ 2
 kind-most Kind.Float = omega arith
 kind-most Kind.Sint = omega arith
 kind-most Kind.Uint = omega arith
@@ -124,10 +124,10 @@ sizeOf (Res.Texture dim arrayed class) = 0
 sizeOf (Res.AccelerationStructure returns) = 0
 
 abbrev Again : ResourceType → Type 0
-Again ty = (resourceWordFiled (wordOf ty) ≡ true) × (resourceTypeOf (wordOf ty) (sizeOf ty) ≡ ty)
+Again ty = (resourceWordWellFormed (wordOf ty) ≡ true) × (resourceTypeOf (wordOf ty) (sizeOf ty) ≡ ty)
 
 storage-buffer : (size access : ℕ) → access < 8 → Again (Res.Buffer size (Space.Storage access))
-unfolding resourceTypeFiled resourceTypeOf
+unfolding resourceTypeWellFormed resourceTypeOf
 storage-buffer size access l =
     let w = wordOf (Res.Buffer size (Space.Storage access)) in
     let b : (kindOf w ≡ 16) × (typeCode w ≡ 0) × (bits 22 5 w ≡ 0) × (bits 4 3 w ≡ 1) × (bits 2 0 w ≡ access) = omega arith in
@@ -135,17 +135,17 @@ storage-buffer size access l =
 
 module _ (dim : ImageDimension) (arrayed : Bool) where
   sampled-again : (kind : SampleKind) (multi : Bool) → Again (Res.Texture dim arrayed (Class.Sampled kind multi))
-  unfolding resourceTypeFiled resourceTypeOf
+  unfolding resourceTypeWellFormed resourceTypeOf
   sampled-again kind multi =
       let w = wordOf (Res.Texture dim arrayed (Class.Sampled kind multi)) in
-      let b : (kindOf w ≡ 16) × (typeCode w ≡ 2) × (bits 22 6 w ≡ 0) × (bits 5 4 w ≡ kindCode kind) × (bit 3 w ≡ flag multi) × (bit 2 w ≡ flag arrayed)
+      let b : (kindOf w ≡ 16) × (typeCode w ≡ 2) × (bits 22 6 w ≡ 0) × (bits 5 4 w ≡ sampleKindCode kind) × (bit 3 w ≡ flag multi) × (bit 2 w ≡ flag arrayed)
       × (bits 1 0 w ≡ dimensionCode dim) = omega (arith, dimension-most dim, flag-most arrayed, kind-most kind, flag-most multi) in (
-        rw (b .0, b .1, b .2, b .3, lt-ltb (kindCode kind) 3 (omega (arith, kind-most kind))),
+        rw (b .0, b .1, b .2, b .3, lt-ltb (sampleKindCode kind) 3 (omega (arith, kind-most kind))),
         rw (b .1, b .3, b .4, b .5, b .6, kind-read kind, flag-read multi, flag-read arrayed, dimension-read dim),
       )
 
   depth-again : (multi : Bool) → Again (Res.Texture dim arrayed (Class.Depth multi))
-  unfolding resourceTypeFiled resourceTypeOf
+  unfolding resourceTypeWellFormed resourceTypeOf
   depth-again multi =
       let w = wordOf (Res.Texture dim arrayed (Class.Depth multi)) in
       let b : (kindOf w ≡ 16) × (typeCode w ≡ 3) × (bits 22 4 w ≡ 0) × (bit 3 w ≡ flag multi) × (bit 2 w ≡ flag arrayed)
@@ -154,7 +154,7 @@ module _ (dim : ImageDimension) (arrayed : Bool) where
 
   stored-again : (format access : ℕ) → storable format ≡ true → format < 43 → access < 8 → not (eqb access 0) ≡ true
       → Again (Res.Texture dim arrayed (Class.Storage format access))
-  unfolding resourceTypeFiled resourceTypeOf
+  unfolding resourceTypeWellFormed resourceTypeOf
   stored-again format access s f a n =
       let w = wordOf (Res.Texture dim arrayed (Class.Storage format access)) in
       let b : (kindOf w ≡ 16) × (typeCode w ≡ 4) × (bits 22 19 w ≡ 0) × (bit 15 w ≡ 0) × (bits 7 3 w ≡ 0) × (bits 14 8 w ≡ format)
@@ -162,15 +162,15 @@ module _ (dim : ImageDimension) (arrayed : Bool) where
       (rw (b .0, b .1, b .2, b .3, b .4, b .5, b .6, s, n), rw (b .1, b .5, b .6, b .7, b .8, flag-read arrayed, dimension-read dim))
 
   external-again : Again (Res.Texture dim arrayed Class.External)
-  unfolding resourceTypeFiled resourceTypeOf
+  unfolding resourceTypeWellFormed resourceTypeOf
   external-again =
       let w = wordOf (Res.Texture dim arrayed Class.External) in
       let b : (kindOf w ≡ 16) × (typeCode w ≡ 5) × (bits 22 3 w ≡ 0) × (bit 2 w ≡ flag arrayed) × (bits 1 0 w ≡ dimensionCode dim)
       = omega (arith, dimension-most dim, flag-most arrayed) in
       (rw (b .0, b .1, b .2), rw (b .1, b .3, b .4, flag-read arrayed, dimension-read dim))
 
-type-again : (ty : ResourceType) → typeHeld ty ≡ true → Again ty
-unfolding resourceTypeFiled resourceTypeOf typeHeld yes
+type-again : (ty : ResourceType) → typeEncodable ty ≡ true → Again ty
+unfolding resourceTypeWellFormed resourceTypeOf typeEncodable yes
 type-again (Res.Buffer size Space.Uniform) h = (refl, refl)
 type-again (Res.Buffer size (Space.Storage access)) h =
     storage-buffer size access (ltb-true access 8 (first (ltb access 8) (ltb size sizeLimit && not (eqb size 0)) h))
@@ -191,37 +191,37 @@ unlike : {P : Type 0} (w : ℕ) → w ∷ [] ≡ [] → P
 unlike w e = let z : _≡_ {A = ℕ} 0 1 = cc in absurd (omega arith)
 
 -- the words of a resource within the ranges are read as it, whatever stands behind
-module _ (bind : ResourceBinding) (ty : ResourceType) (rest : List ℕ) (p : placeHeld bind ≡ true) (h : typeHeld ty ≡ true) where
-  sizes : sizeWords ty ≡ pick (isBuffer (wordOf ty)) (ofKind 6 (sizeOf ty) ∷ []) []
+module _ (bind : ResourceBinding) (ty : ResourceType) (rest : List ℕ) (p : placeEncodable bind ≡ true) (h : typeEncodable ty ≡ true) where
+  sizes : sizeWords ty ≡ pick (isBufferWord (wordOf ty)) (ofKind 6 (sizeOf ty) ∷ []) []
   sizes = rw (type-again ty h .1) at (sizes-back (wordOf ty) (sizeOf ty))
 
-  sized-read : isBuffer (wordOf ty) ≡ true → sizeOf ty < sizeLimit → (sizeOf ty ≡ 0 → ⊥)
+  sized-read : isBufferWord (wordOf ty) ≡ true → sizeOf ty < sizeLimit → (sizeOf ty ≡ 0 → ⊥)
       → readResource (placeWord bind ∷ wordOf ty ∷ ofKind 6 (sizeOf ty) ∷ rest) ≡ got (record { bind = bind; ty = ty }) rest
   unfolding readResource
   sized-read g l n =
       let k : kindOf (ofKind 6 (sizeOf ty)) ≡ 6 = omega arith in
       let c : contentOf (ofKind 6 (sizeOf ty)) ≡ sizeOf ty = omega arith in
-      rw (place-filed bind p, type-again ty h .0, g, k, c, ne-eqb (sizeOf ty) 0 n, c, place-read bind p, type-again ty h .1)
+      rw (place-well-formed bind p, type-again ty h .0, g, k, c, ne-eqb (sizeOf ty) 0 n, c, place-read bind p, type-again ty h .1)
 
   bare-read : sizeWords ty ≡ [] → sizeOf ty ≡ 0 → readResource (placeWord bind ∷ wordOf ty ∷ rest) ≡ got (record { bind = bind; ty = ty }) rest
   unfolding readResource
   bare-read e z =
       let t : resourceTypeOf (wordOf ty) 0 ≡ ty = rw z at (type-again ty h .1) in
-      by-test (isBuffer (wordOf ty)) (λ g. unlike (ofKind 6 (sizeOf ty)) (sym (rw g at sizes) ∙ e))
-      (λ n. rw (place-filed bind p, type-again ty h .0, n, place-read bind p, t))
+      by-test (isBufferWord (wordOf ty)) (λ g. unlike (ofKind 6 (sizeOf ty)) (sym (rw g at sizes) ∙ e))
+      (λ n. rw (place-well-formed bind p, type-again ty h .0, n, place-read bind p, t))
 
-read-parts : (bind : ResourceBinding) (ty : ResourceType) (rest : List ℕ) → placeHeld bind ≡ true → typeHeld ty ≡ true
+read-parts : (bind : ResourceBinding) (ty : ResourceType) (rest : List ℕ) → placeEncodable bind ≡ true → typeEncodable ty ≡ true
     → readResource (placeWord bind ∷ wordOf ty ∷ (sizeWords ty ++ rest)) ≡ got (record { bind = bind; ty = ty }) rest
-unfolding typeHeld
+unfolding typeEncodable
 read-parts bind (Res.Buffer size space) rest p h =
-    let s : ltb size sizeLimit && not (eqb size 0) ≡ true = second (spaceHeld space) (ltb size sizeLimit && not (eqb size 0)) h in
-    by-test (isBuffer (wordOf (Res.Buffer size space)))
+    let s : ltb size sizeLimit && not (eqb size 0) ≡ true = second (spaceEncodable space) (ltb size sizeLimit && not (eqb size 0)) h in
+    by-test (isBufferWord (wordOf (Res.Buffer size space)))
     (λ g. sized-read bind (Res.Buffer size space) rest p h g (search (ltb-true, first)) (eqb-false size 0 (search (not-true, second))))
     (λ n. unlike (ofKind 6 size) (rw n at (sizes bind (Res.Buffer size space) rest p h)))
 read-parts bind (Res.Sampler comparison) rest p h = bare-read bind (Res.Sampler comparison) rest p h refl refl
 read-parts bind (Res.Texture dim arrayed class) rest p h = bare-read bind (Res.Texture dim arrayed class) rest p h refl refl
 read-parts bind (Res.AccelerationStructure returns) rest p h = bare-read bind (Res.AccelerationStructure returns) rest p h refl refl
 
-pub words-read : (r : Resource) (rest : List ℕ) → resourceHeld r ≡ true → readResource (resourceWords r ++ rest) ≡ got r rest
+pub words-read : (r : Resource) (rest : List ℕ) → resourceEncodable r ≡ true → readResource (resourceWords r ++ rest) ≡ got r rest
 unfolding resourceWords
-words-read r rest h = read-parts (r .bind) (r .ty) rest (first (placeHeld (r .bind)) (typeHeld (r .ty)) h) (second (placeHeld (r .bind)) (typeHeld (r .ty)) h)
+words-read r rest h = read-parts (r .bind) (r .ty) rest (first (placeEncodable (r .bind)) (typeEncodable (r .ty)) h) (second (placeEncodable (r .bind)) (typeEncodable (r .ty)) h)

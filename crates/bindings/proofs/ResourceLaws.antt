@@ -13,8 +13,8 @@ use Rattle.word.specs.Choice.{pick, yes}
 use Rattle.word.specs.Words.{wordAt, contentOf, bits, bit}
 use Rattle.word.specs.Parse.{Parsed, fault, got, next, one, nowhere, from, behind, restAt}
 use Rattle.bindings.specs.Rules.{storable}
-use Rattle.bindings.specs.Format.{placeFiled, placeOf, placeHeld, typeCode, spaceAt, sampleKindAt, storageFiled, resourceWordFiled}
-use Rattle.bindings.specs.Format.{sizeFiled, bitSet, texture, resourceTypeOf, isBuffer, resource, readResource, resourceAt}
+use Rattle.bindings.specs.Format.{placeWellFormed, placeOf, placeEncodable, typeCode, spaceAt, sampleKindAt, storageWellFormed, resourceWordWellFormed}
+use Rattle.bindings.specs.Format.{sizeWellFormed, bitSet, texture, resourceTypeOf, isBufferWord, resource, readResource, resourceAt}
 use Rattle.bindings.specs.declared.types.ResourceBinding.{ResourceBinding}
 use Rattle.bindings.specs.declared.types.AddressSpace.{AddressSpace}
 use Rattle.bindings.specs.declared.types.SampleKind.{SampleKind}
@@ -26,7 +26,7 @@ use Rattle.word.proofs.Truth.{first, second, by-test}
 
 -- ---- places
 
-pub place-fits : (bind : ResourceBinding) → placeHeld bind ≡ true → 2 ^ 23 * bind .group + bind .binding < 2 ^ 27
+pub place-fits : (bind : ResourceBinding) → placeEncodable bind ≡ true → 2 ^ 23 * bind .group + bind .binding < 2 ^ 27
 place-fits bind h =
     let g : bind .group < 16 = search (ltb-true, first) in
     let b : bind .binding < 2 ^ 23 = search (ltb-true, second) in
@@ -35,7 +35,7 @@ place-fits bind h =
 -- ---- types
 
 pub storage-bits : (w : ℕ) (x b : Bool) → b ≡ storable (bits 14 8 w)
-    → x ≡ (eqb (bits 22 19 w) 0 && (eqb (bit 15 w) 0 && (eqb (bits 7 3 w) 0 && (yes b && not (eqb (bits 18 16 w) 0))))) → x ≡ storageFiled w
+    → x ≡ (eqb (bits 22 19 w) 0 && (eqb (bit 15 w) 0 && (eqb (bits 7 3 w) 0 && (yes b && not (eqb (bits 18 16 w) 0))))) → x ≡ storageWellFormed w
 unfolding yes
 storage-bits w x b e h = rw (← e) h
 
@@ -63,18 +63,18 @@ at-from ws zero h = absurd (omega arith)
 at-from ws (suc n) h = refl
 
 -- the size that a buffer has
-module _ (ws : List ℕ) (at w : ℕ) (b : Bool) (be : b ≡ isBuffer w) where
-  pub size-none : 0 < at → not b ≡ true → restAt ws at ≡ pick (isBuffer w) (behind (one sizeFiled (drop at ws))) (from (drop at ws))
+module _ (ws : List ℕ) (at w : ℕ) (b : Bool) (be : b ≡ isBufferWord w) where
+  pub size-none : 0 < at → not b ≡ true → restAt ws at ≡ pick (isBufferWord w) (behind (one sizeWellFormed (drop at ws))) (from (drop at ws))
   size-none h n = rw (← be, not-true b n) (at-from ws at h)
 
-  pub size-past : not b ≡ false → length ws ≤ at → nowhere ≡ pick (isBuffer w) (behind (one sizeFiled (drop at ws))) (from (drop at ws))
+  pub size-past : not b ≡ false → length ws ≤ at → nowhere ≡ pick (isBufferWord w) (behind (one sizeWellFormed (drop at ws))) (from (drop at ws))
   size-past n h = rw (← be, not-false b n, drop-of-length-le ws h)
 
-  module _ (s : ℕ) (g : Bool) (n : not b ≡ false) (h : at < length ws) (se : s ≡ wordAt ws at) (ge : g ≡ sizeFiled s) where
-    pub size-bad : not g ≡ true → nowhere ≡ pick (isBuffer w) (behind (one sizeFiled (drop at ws))) (from (drop at ws))
+  module _ (s : ℕ) (g : Bool) (n : not b ≡ false) (h : at < length ws) (se : s ≡ wordAt ws at) (ge : g ≡ sizeWellFormed s) where
+    pub size-bad : not g ≡ true → nowhere ≡ pick (isBufferWord w) (behind (one sizeWellFormed (drop at ws))) (from (drop at ws))
     size-bad m = rw (← be, not-false b n, drop-cons ws at 0 h, ← se, ← ge, not-true g m)
 
-    pub size-good : not g ≡ false → restAt ws (at + 1) ≡ pick (isBuffer w) (behind (one sizeFiled (drop at ws))) (from (drop at ws))
+    pub size-good : not g ≡ false → restAt ws (at + 1) ≡ pick (isBufferWord w) (behind (one sizeWellFormed (drop at ws))) (from (drop at ws))
     size-good m = rw (← be, not-false b n, drop-cons ws at 0 h, ← se, ← ge, not-false g m, add-one)
 
 module _ (ws : List ℕ) (at : ℕ) where
@@ -91,25 +91,25 @@ module _ (ws : List ℕ) (at : ℕ) where
   unfolding readResource
   next-few k =
       by-test (ltb at (length ws))
-      (λ t. rw (one-left (ltb-true at (length ws) t) k) (by-test (placeFiled (wordAt ws at)) (λ e. rw e) (λ e. rw e)))
+      (λ t. rw (one-left (ltb-true at (length ws) t) k) (by-test (placeWellFormed (wordAt ws at)) (λ e. rw e) (λ e. rw e)))
       (λ f. rw (none-left (ltb-false at (length ws) f)))
 
-  module _ (p : ℕ) (b : Bool) (h : 2 ≤ length ws - at) (pe : p ≡ wordAt ws at) (be : b ≡ placeFiled p) where
+  module _ (p : ℕ) (b : Bool) (h : 2 ≤ length ws - at) (pe : p ≡ wordAt ws at) (be : b ≡ placeWellFormed p) where
     pub next-no-place : not b ≡ true → nowhere ≡ behind (readResource (drop at ws))
     unfolding readResource
     next-no-place n = rw (two-left h, ← pe, ← be, not-true b n)
 
-    module _ (t : ℕ) (c : Bool) (bt : not b ≡ false) (te : t ≡ wordAt ws (at + 1)) (ce : c ≡ resourceWordFiled t) where
+    module _ (t : ℕ) (c : Bool) (bt : not b ≡ false) (te : t ≡ wordAt ws (at + 1)) (ce : c ≡ resourceWordWellFormed t) where
       pub next-no-type : not c ≡ true → nowhere ≡ behind (readResource (drop at ws))
       unfolding readResource
       next-no-type n = rw (two-left h, ← pe, ← be, not-false b bt, ← te, ← ce, not-true c n)
 
       pub next-sized : (r : ℕ) → not c ≡ false
-          → restAt ws r ≡ pick (isBuffer t) (behind (one sizeFiled (drop (at + 2) ws))) (from (drop (at + 2) ws))
+          → restAt ws r ≡ pick (isBufferWord t) (behind (one sizeWellFormed (drop (at + 2) ws))) (from (drop (at + 2) ws))
           → restAt ws r ≡ behind (readResource (drop at ws))
       unfolding readResource
       next-sized r n e =
-          let behind-size = sized (isBuffer t) (one sizeFiled (drop (at + 2) ws)) (drop (at + 2) ws) (λ s. resource p t (contentOf s)) (resource p t 0) in
+          let behind-size = sized (isBufferWord t) (one sizeWellFormed (drop (at + 2) ws)) (drop (at + 2) ws) (λ s. resource p t (contentOf s)) (resource p t 0) in
           rw (two-left h, ← pe, ← be, not-false b bt, ← te, ← ce, not-false c n) (e ∙ behind-size)
 
 pub next-later : (at r : ℕ) → ((r ≡ 0 → ⊥) → at + 2 ≤ r) → (r ≡ 0 → ⊥) → at < r

@@ -5,7 +5,7 @@ use mathlib.Core.Bool.{true}
 use mathlib.Core.List.{List, [], _∷_, List·Memᴰ, List·Memᴰ·head, List·Memᴰ·tail}
 use borrow.Author.Tests.{eqb-true}
 use Rattle.bindings.specs.Rules.{useNumber}
-use Rattle.bindings.specs.Format.{bindingCode, leastSize, sameBinding, formatHeld}
+use Rattle.bindings.specs.Format.{bindingCode, leastSize, sameBinding, formatEncodable}
 use Rattle.bindings.specs.declared.types.BindingType.{BindingType}
 use Rattle.bindings.specs.declared.types.BindingUse.{BindingUse}
 use Rattle.bindings.specs.declared.types.BindingUse.the-variants as Use
@@ -13,7 +13,7 @@ use Rattle.word.proofs.Truth.{first, second}
 use Rattle.bindings.proofs.EntryFormat.{type-read}
 
 -- held types that are the same are equal
-pub same-binding-eq : (a b : BindingType) → formatHeld a ≡ true → formatHeld b ≡ true → sameBinding a b ≡ true → a ≡ b
+pub same-binding-eq : (a b : BindingType) → formatEncodable a ≡ true → formatEncodable b ≡ true → sameBinding a b ≡ true → a ≡ b
 same-binding-eq a b p q h =
     let c : bindingCode a ≡ bindingCode b = search (eqb-true, first) in
     let l : leastSize a ≡ leastSize b = search (eqb-true, second) in

@@ -9,8 +9,8 @@ use borrow.Author.Tests.{eqb-true, eqb-false, eq-eqb, ne-eqb}
 use Rattle.word.specs.Choice.{pick, yes}
 use Rattle.word.specs.Words.{kindOf, contentOf, bits, bit, ofKind}
 use Rattle.bindings.specs.Rules.{viewCode, derivedView, derivedSample, derivedAccess, derivedTexture, derivedBuffer, deriveBindingType}
-use Rattle.bindings.specs.Format.{bitSet, isBuffer, typeCode, dimensionAt, sampleKindAt, spaceAt, samplerCode, sampleCode, accessCode, resourceTypeOf}
-use Rattle.bindings.specs.Format.{bindingTypeFiled, bindingTypeOf, bindingCode, leastSize, sameBinding}
+use Rattle.bindings.specs.Format.{bitSet, isBufferWord, typeCode, dimensionAt, sampleKindAt, spaceAt, samplerCode, sampleCode, accessCode, resourceTypeOf}
+use Rattle.bindings.specs.Format.{bindingTypeWellFormed, bindingTypeOf, bindingCode, leastSize, sameBinding}
 use Rattle.bindings.specs.Answers.{derivedWord}
 use Rattle.bindings.specs.declared.types.ImageDimension.the-variants as Dim
 use Rattle.bindings.specs.declared.types.SamplerBindingType.the-variants as Samp
@@ -99,16 +99,16 @@ buffer-least size w =
     by-test (eqb (bits 4 3 w) 0) (λ t. rw t refl) λ n0.
     by-test (eqb (bits 4 3 w) 1) (λ t. rw (n0, t) refl) (λ n1. rw (n0, n1) tt)
 
-least-derived : (w size : ℕ) (named : Bool) → Least (deriveBindingType (resourceTypeOf w size) named) (pick (isBuffer w) size 0)
+least-derived : (w size : ℕ) (named : Bool) → Least (deriveBindingType (resourceTypeOf w size) named) (pick (isBufferWord w) size 0)
 unfolding deriveBindingType derivedTexture
 least-derived w size named =
-    by-resource (λ r. Least (deriveBindingType r named) (pick (isBuffer w) size 0)) w size
+    by-resource (λ r. Least (deriveBindingType r named) (pick (isBufferWord w) size 0)) w size
     (λ e. rw e (buffer-least size w)) (λ e. rw e refl) (λ e. rw e refl) (λ e. rw e refl) (λ e. rw e refl) (λ e. rw e refl)
     (λ l. rw (ne-eqb (typeCode w) 0 (λ e. omega arith)) refl)
 
 -- only a buffer derives a least size, and that is its own
 pub derived-least : (w size : ℕ) (named : Bool) (ty : BindingType) → deriveBindingType (resourceTypeOf w size) named ≡ Der.Binding ty
-    → leastSize ty ≡ pick (isBuffer w) size 0
+    → leastSize ty ≡ pick (isBufferWord w) size 0
 derived-least w size named ty d = rw d at (least-derived w size named)
 
 -- ---- the words of an entry against a type
@@ -119,7 +119,7 @@ word-agrees kind n w k =
     (λ t. let e : n ≡ contentOf w = eqb-true n (contentOf w) t in rw t (sym (eq-eqb w (ofKind kind n) (omega arith))))
     (λ f. let d : n ≡ contentOf w → ⊥ = eqb-false n (contentOf w) f in rw f (sym (ne-eqb w (ofKind kind n) (λ e. d (omega arith)))))
 
--- the type word and the least size of a well filed entry mean a type where they are that type's
-pub same-by-words : (entry least : ℕ) (ty : BindingType) → kindOf entry ≡ 18 → bindingTypeFiled entry ≡ true → isBuffer entry || eqb least 0 ≡ true
+-- the type word and the least size of a well formed entry mean a type where they are that type's
+pub same-by-words : (entry least : ℕ) (ty : BindingType) → kindOf entry ≡ 18 → bindingTypeWellFormed entry ≡ true → isBufferWord entry || eqb least 0 ≡ true
     → sameBinding ty (bindingTypeOf entry least) ≡ (eqb entry (ofKind 18 (bindingCode ty)) && eqb (leastSize ty) least)
-same-by-words entry least ty ke filed sized = rw (type-back entry least filed, least-back entry least sized, word-agrees 18 (bindingCode ty) entry ke)
+same-by-words entry least ty ke well-formed sized = rw (type-back entry least well-formed, least-back entry least sized, word-agrees 18 (bindingCode ty) entry ke)

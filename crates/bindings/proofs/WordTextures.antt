@@ -7,7 +7,7 @@ use lib.Dec.{eqb, ltb, leb}
 use borrow.Author.Tests.{eqb-true, eqb-false, eq-eqb, ne-eqb, ltb-true, ltb-false, le-ltb, le-leb, lt-leb, not-true, not-false}
 use Rattle.word.specs.Choice.{pick, yes}
 use Rattle.word.specs.Words.{bits, bit}
-use Rattle.bindings.specs.Rules.{sameBool, viewCode, viewFits, classOf, kindCode, sampledFits, accessOf, storable, storageFits, isExternal, classUse, textureUse}
+use Rattle.bindings.specs.Rules.{sameBool, viewCode, viewFits, classOf, sampleKindCode, sampledFits, accessOf, storable, storageFits, isExternal, classUse, textureUse}
 use Rattle.bindings.specs.Rules.{accelerationUse, checkBindingUse, useNumber}
 use Rattle.bindings.specs.Format.{typeCode, bitSet, dimensionAt, sampleKindAt, texture, resourceTypeOf, viewAt, sampleAt, accessAt, bindingTypeOf}
 use Rattle.bindings.specs.declared.types.SampleKind.{SampleKind}
@@ -19,7 +19,7 @@ use Rattle.bindings.specs.declared.types.TextureSampleType.the-variants 
 use Rattle.bindings.specs.declared.types.BindingUse.{BindingUse}
 use Rattle.bindings.specs.declared.types.BindingUse.the-variants as Use
 use Rattle.word.proofs.Truth.{by-test}
-use Rattle.bindings.proofs.HandBack.{same-bool}
+use Rattle.bindings.proofs.DerivedServes.{same-bool}
 use Rattle.bindings.proofs.ReadLaws.{by-resource}
 use Rattle.bindings.proofs.EntryFormat.{view-back}
 
@@ -113,10 +113,10 @@ module _ (sample : ℕ) (m : Bool) where
 
 kinds-apart : (kind : SampleKind) (sample : TextureSampleType) (a b : Bool) → sameBool a b ≡ false → false ≡ sampledFits (Class.Sampled kind a) (classOf sample b)
 unfolding sampledFits
-kinds-apart kind (Sample.Float filterable) a b h = rw h (by-test (eqb (kindCode kind) 0) (λ t. rw t) (λ f. rw f))
+kinds-apart kind (Sample.Float filterable) a b h = rw h (by-test (eqb (sampleKindCode kind) 0) (λ t. rw t) (λ f. rw f))
 kinds-apart kind Sample.Depth a b h = refl
-kinds-apart kind Sample.Sint a b h = rw h (by-test (eqb (kindCode kind) 1) (λ t. rw t) (λ f. rw f))
-kinds-apart kind Sample.Uint a b h = rw h (by-test (eqb (kindCode kind) 2) (λ t. rw t) (λ f. rw f))
+kinds-apart kind Sample.Sint a b h = rw h (by-test (eqb (sampleKindCode kind) 1) (λ t. rw t) (λ f. rw f))
+kinds-apart kind Sample.Uint a b h = rw h (by-test (eqb (sampleKindCode kind) 2) (λ t. rw t) (λ f. rw f))
 
 depths-fit : (sample : ℕ) (a b : Bool) → (eqb sample 2 && sameBool a b) ≡ sampledFits (Class.Depth a) (classOf (sampleAt sample) b)
 unfolding sampledFits

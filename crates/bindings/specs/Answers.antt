@@ -9,7 +9,7 @@ use Rattle.word.specs.Parse.{Parsed, fault, got}
 use Rattle.word.specs.Answers.{answer, accepted, refused}
 use Rattle.word.specs.declared.answer.Answer.{Answer}
 use Rattle.bindings.specs.Rules.{checkBindingUse, useNumber, deriveBindingType}
-use Rattle.bindings.specs.Format.{readResource, entryFiled, entryOf, bindingCode, leastSize, sizeWord}
+use Rattle.bindings.specs.Format.{readResource, entryWellFormed, entryOf, bindingCode, leastSize, sizeWord}
 use Rattle.bindings.specs.declared.types.ResourceBinding.{ResourceBinding}
 use Rattle.bindings.specs.declared.types.Resource.{Resource}
 use Rattle.bindings.specs.declared.types.BindGroupLayoutEntry.{BindGroupLayoutEntry}
@@ -33,7 +33,7 @@ onlyEntry (place ∷ []) k = refused 3
 onlyEntry (place ∷ type ∷ []) k = refused 3
 onlyEntry (place ∷ type ∷ least ∷ []) k = refused 3
 onlyEntry (place ∷ type ∷ least ∷ visibility ∷ []) k =
-    pick (entryFiled place type least visibility) (k (entryOf place type least visibility)) (refused 3)
+    pick (entryWellFormed place type least visibility) (k (entryOf place type least visibility)) (refused 3)
 onlyEntry (place ∷ type ∷ least ∷ visibility ∷ w ∷ ws) k = refused 3
 
 -- a resource's words against an entry's words

@@ -6,7 +6,7 @@ use lib.Dec.{eqb, ltb}
 use Rattle.word.specs.Choice.{pick, yes}
 use Rattle.word.specs.Words.{wordAt, kindOf, contentOf, bits, bit, ofKind}
 use Rattle.word.specs.Parse.{Parsed, got, next, one}
-use Rattle.bindings.specs.Rules.{kindCode, viewCode, storable}
+use Rattle.bindings.specs.Rules.{sampleKindCode, viewCode, storable}
 use Rattle.bindings.specs.declared.types.ResourceBinding.{ResourceBinding}
 use Rattle.bindings.specs.declared.types.AddressSpace.{AddressSpace}
 use Rattle.bindings.specs.declared.types.AddressSpace.the-variants as Space
@@ -38,8 +38,8 @@ flag b = pick (yes b) 1 0
 
 -- ---- places: 'kind 4 (group 26–23, binding 22–0)'
 
-abbrev pub placeFiled : ℕ → Bool
-placeFiled w = eqb (kindOf w) 4
+abbrev pub placeWellFormed : ℕ → Bool
+placeWellFormed w = eqb (kindOf w) 4
 
 abbrev pub placeOf : ℕ → ResourceBinding
 placeOf w = record { group = bits 26 23 w; binding = bits 22 0 w }
@@ -71,28 +71,28 @@ abbrev pub spaceAt : ℕ → ℕ → AddressSpace
 spaceAt code access = pick (eqb code 0) Space.Uniform (pick (eqb code 1) (Space.Storage access) Space.Other)
 
 -- 'buffer (access 2–0, space 4–3 …; access 0 unless storage)'
-abbrev pub bufferFiled : ℕ → Bool
-bufferFiled w = eqb (bits 22 5 w) 0 && (ltb (bits 4 3 w) 3 && (eqb (bits 4 3 w) 1 || eqb (bits 2 0 w) 0))
+abbrev pub bufferWellFormed : ℕ → Bool
+bufferWellFormed w = eqb (bits 22 5 w) 0 && (ltb (bits 4 3 w) 3 && (eqb (bits 4 3 w) 1 || eqb (bits 2 0 w) 0))
 
 -- 'storage … (format 14–8, access 18–16, not 0)', and 'a shader's format must be storable'
-abbrev pub storageFiled : ℕ → Bool
-storageFiled w =
+abbrev pub storageWellFormed : ℕ → Bool
+storageWellFormed w =
     eqb (bits 22 19 w) 0 && (eqb (bit 15 w) 0 && (eqb (bits 7 3 w) 0 && (storable (bits 14 8 w) && not (eqb (bits 18 16 w) 0))))
 
 -- the bits of each type, those unnamed zero; types are 0 to 6
-unfoldable pub resourceTypeFiled : ℕ → Bool
-resourceTypeFiled w =
-    pick (eqb (typeCode w) 0) (bufferFiled w)
+unfoldable pub resourceTypeWellFormed : ℕ → Bool
+resourceTypeWellFormed w =
+    pick (eqb (typeCode w) 0) (bufferWellFormed w)
     (pick (eqb (typeCode w) 1) (eqb (bits 22 1 w) 0)
     (pick (eqb (typeCode w) 2) (eqb (bits 22 6 w) 0 && ltb (bits 5 4 w) 3)
     (pick (eqb (typeCode w) 3) (eqb (bits 22 4 w) 0)
-    (pick (eqb (typeCode w) 4) (storageFiled w)
+    (pick (eqb (typeCode w) 4) (storageWellFormed w)
     (pick (eqb (typeCode w) 5) (eqb (bits 22 3 w) 0)
     (pick (eqb (typeCode w) 6) (eqb (bits 22 1 w) 0)
     false))))))
 
-abbrev pub resourceWordFiled : ℕ → Bool
-resourceWordFiled w = eqb (kindOf w) 16 && resourceTypeFiled w
+abbrev pub resourceWordWellFormed : ℕ → Bool
+resourceWordWellFormed w = eqb (kindOf w) 16 && resourceTypeWellFormed w
 
 -- ---- sizes: 'kind 6, size'
 
@@ -108,13 +108,13 @@ sizeLimit = 2 ^ 27
 abbrev pub sizeWord : ℕ → ℕ
 sizeWord size = ofKind 6 size
 
--- the size that stands at a position, read without asking whether it is well filed
+-- the size that stands at a position, read without asking whether it is well formed
 abbrev pub sizeStanding : List ℕ → ℕ → ℕ
 sizeStanding ws at = contentOf (wordAt ws at)
 
 -- 'kind 6, size, at least 1'
-abbrev pub sizeFiled : ℕ → Bool
-sizeFiled w = eqb (kindOf w) 6 && not (eqb (contentOf w) 0)
+abbrev pub sizeWellFormed : ℕ → Bool
+sizeWellFormed w = eqb (kindOf w) 6 && not (eqb (contentOf w) 0)
 
 -- a set bit of a word
 abbrev pub bitSet : ℕ → ℕ → Bool
@@ -134,8 +134,8 @@ resourceTypeOf w size =
     (pick (eqb (typeCode w) 5) (texture w Class.External)
     (Res.AccelerationStructure (bitSet 0 w)))))))
 
-abbrev pub isBuffer : ℕ → Bool
-isBuffer w = eqb (typeCode w) 0
+abbrev pub isBufferWord : ℕ → Bool
+isBufferWord w = eqb (typeCode w) 0
 
 abbrev pub resource : ℕ → ℕ → ℕ → Resource
 resource place type size = record { bind = placeOf place; ty = resourceTypeOf type size }
@@ -147,16 +147,16 @@ resourceWidth = 2 + sizeWidth
 -- 'Resource: kind 4; kind 16; for buffers kind 6'
 unfoldable pub readResource : List ℕ → Parsed Resource
 readResource ws =
-    next (one placeFiled ws) λ place rest.
-    next (one resourceWordFiled rest) λ type rest.
-    pick (isBuffer type) (next (one sizeFiled rest) λ size rest. got (resource place type (contentOf size)) rest)
+    next (one placeWellFormed ws) λ place rest.
+    next (one resourceWordWellFormed rest) λ type rest.
+    pick (isBufferWord type) (next (one sizeWellFormed rest) λ size rest. got (resource place type (contentOf size)) rest)
     (got (resource place type 0) rest)
 
 abbrev pub textureCode : ImageDimension → Bool → ℕ
 textureCode dim arrayed = dimensionCode dim + 4 * flag arrayed
 
 abbrev pub classCode : ImageClass → ℕ
-classCode (Class.Sampled kind multi) = 2 ^ 23 * 2 + (16 * kindCode kind + 8 * flag multi)
+classCode (Class.Sampled kind multi) = 2 ^ 23 * 2 + (16 * sampleKindCode kind + 8 * flag multi)
 classCode (Class.Depth multi) = 2 ^ 23 * 3 + 8 * flag multi
 classCode (Class.Storage format access) = 2 ^ 23 * 4 + (2 ^ 16 * access + 2 ^ 8 * format)
 classCode Class.External = 2 ^ 23 * 5
@@ -183,28 +183,28 @@ unfoldable pub resourceWords : Resource → List ℕ
 resourceWords r = placeWord (r .bind) ∷ ofKind 16 (resourceCode (r .ty)) ∷ sizeWords (r .ty)
 
 -- what a pack can hold of a resource: the ranges of its numbers
-abbrev pub placeHeld : ResourceBinding → Bool
-placeHeld bind = ltb (bind .group) 16 && ltb (bind .binding) (2 ^ 23)
+abbrev pub placeEncodable : ResourceBinding → Bool
+placeEncodable bind = ltb (bind .group) 16 && ltb (bind .binding) (2 ^ 23)
 
-abbrev pub spaceHeld : AddressSpace → Bool
-spaceHeld Space.Uniform = true
-spaceHeld (Space.Storage access) = ltb access 8
-spaceHeld Space.Other = true
+abbrev pub spaceEncodable : AddressSpace → Bool
+spaceEncodable Space.Uniform = true
+spaceEncodable (Space.Storage access) = ltb access 8
+spaceEncodable Space.Other = true
 
-abbrev pub classHeld : ImageClass → Bool
-classHeld (Class.Sampled kind multi) = true
-classHeld (Class.Depth multi) = true
-classHeld (Class.Storage format access) = storable format && (ltb access 8 && not (eqb access 0))
-classHeld Class.External = true
+abbrev pub classEncodable : ImageClass → Bool
+classEncodable (Class.Sampled kind multi) = true
+classEncodable (Class.Depth multi) = true
+classEncodable (Class.Storage format access) = storable format && (ltb access 8 && not (eqb access 0))
+classEncodable Class.External = true
 
-unfoldable pub typeHeld : ResourceType → Bool
-typeHeld (Res.Buffer size space) = spaceHeld space && (ltb size sizeLimit && not (eqb size 0))
-typeHeld (Res.Sampler comparison) = true
-typeHeld (Res.Texture dim arrayed class) = classHeld class
-typeHeld (Res.AccelerationStructure returns) = true
+unfoldable pub typeEncodable : ResourceType → Bool
+typeEncodable (Res.Buffer size space) = spaceEncodable space && (ltb size sizeLimit && not (eqb size 0))
+typeEncodable (Res.Sampler comparison) = true
+typeEncodable (Res.Texture dim arrayed class) = classEncodable class
+typeEncodable (Res.AccelerationStructure returns) = true
 
-abbrev pub resourceHeld : Resource → Bool
-resourceHeld r = placeHeld (r .bind) && typeHeld (r .ty)
+abbrev pub resourceEncodable : Resource → Bool
+resourceEncodable r = placeEncodable (r .bind) && typeEncodable (r .ty)
 
 -- ---- layout entries: types of kind 18 'as above, without 3'
 
@@ -254,8 +254,8 @@ bufferCode Buf.Uniform = 0
 bufferCode (Buf.Storage read-only) = 1 + 2 * flag read-only
 
 -- the bits of each type by its code, those unnamed zero; formats are 0 to 76
-abbrev pub fieldsFiled : ℕ → ℕ → Bool
-fieldsFiled code w =
+abbrev pub fieldsWellFormed : ℕ → ℕ → Bool
+fieldsWellFormed code w =
     pick (eqb code 0) (eqb (bits 22 3 w) 0 && (eqb (bit 1 w) 0 || eqb (bit 0 w) 1))
     (pick (eqb code 1) (ltb (bits 22 0 w) 3)
     (pick (eqb code 2) (eqb (bits 22 7 w) 0 && (ltb (bits 2 0 w) 6 && ltb (bits 6 4 w) 5))
@@ -265,8 +265,8 @@ fieldsFiled code w =
     (pick (eqb code 6) (eqb (bits 22 1 w) 0)
     false)))))
 
-unfoldable pub bindingTypeFiled : ℕ → Bool
-bindingTypeFiled w = fieldsFiled (typeCode w) w
+unfoldable pub bindingTypeWellFormed : ℕ → Bool
+bindingTypeWellFormed w = fieldsWellFormed (typeCode w) w
 
 -- what a type word and a least size mean
 unfoldable pub bindingTypeOf : ℕ → ℕ → BindingType
@@ -279,10 +279,10 @@ bindingTypeOf w least =
     (Bind.AccelerationStructure (bitSet 0 w))))))
 
 -- 'type (kind 18), least size (kind 6; 0 means none, and is the only form for non-buffers), visibility (kind 19, bit s for stage s)'
-unfoldable pub entryFiled : ℕ → ℕ → ℕ → ℕ → Bool
-entryFiled place type least visibility =
-    placeFiled place && (eqb (kindOf type) 18 && (bindingTypeFiled type
-    && (eqb (kindOf least) 6 && ((isBuffer type || eqb (contentOf least) 0)
+unfoldable pub entryWellFormed : ℕ → ℕ → ℕ → ℕ → Bool
+entryWellFormed place type least visibility =
+    placeWellFormed place && (eqb (kindOf type) 18 && (bindingTypeWellFormed type
+    && (eqb (kindOf least) 6 && ((isBufferWord type || eqb (contentOf least) 0)
     && (eqb (kindOf visibility) 19 && ltb (contentOf visibility) 32)))))
 
 unfoldable pub entryOf : ℕ → ℕ → ℕ → ℕ → BindGroupLayoutEntry
@@ -320,24 +320,24 @@ entryWords e =
     placeWord (e .bind) ∷ ofKind 18 (bindingCode (e .ty)) ∷ sizeWord (leastSize (e .ty)) ∷ ofKind 19 (e .visibility) ∷ []
 
 -- what a layout list can hold of an entry: the ranges of its numbers
-abbrev pub formatHeld : BindingType → Bool
-formatHeld (Bind.Buffer ty dynamic least) = ltb least sizeLimit
-formatHeld (Bind.Sampler ty) = true
-formatHeld (Bind.Texture sample view multi) = true
-formatHeld (Bind.StorageTexture access format view) = ltb format 77
-formatHeld Bind.ExternalTexture = true
-formatHeld (Bind.AccelerationStructure returns) = true
+abbrev pub formatEncodable : BindingType → Bool
+formatEncodable (Bind.Buffer ty dynamic least) = ltb least sizeLimit
+formatEncodable (Bind.Sampler ty) = true
+formatEncodable (Bind.Texture sample view multi) = true
+formatEncodable (Bind.StorageTexture access format view) = ltb format 77
+formatEncodable Bind.ExternalTexture = true
+formatEncodable (Bind.AccelerationStructure returns) = true
 
-abbrev pub entryHeld : BindGroupLayoutEntry → Bool
-entryHeld e = placeHeld (e .bind) && (formatHeld (e .ty) && ltb (e .visibility) 32)
+abbrev pub entryEncodable : BindGroupLayoutEntry → Bool
+entryEncodable e = placeEncodable (e .bind) && (formatEncodable (e .ty) && ltb (e .visibility) 32)
 
--- ---- what stands at a position, read without asking whether it is well filed
+-- ---- what stands at a position, read without asking whether it is well formed
 
 abbrev pub resourceAt : List ℕ → ℕ → Resource
 resourceAt ws at = resource (wordAt ws at) (wordAt ws (at + 1)) (sizeStanding ws (at + 2))
 
-abbrev pub entryFiledAt : List ℕ → ℕ → Bool
-entryFiledAt ws at = entryFiled (wordAt ws at) (wordAt ws (at + 1)) (wordAt ws (at + 2)) (wordAt ws (at + 3))
+abbrev pub entryWellFormedAt : List ℕ → ℕ → Bool
+entryWellFormedAt ws at = entryWellFormed (wordAt ws at) (wordAt ws (at + 1)) (wordAt ws (at + 2)) (wordAt ws (at + 3))
 
 abbrev pub entryAt : List ℕ → ℕ → BindGroupLayoutEntry
 entryAt ws at = entryOf (wordAt ws at) (wordAt ws (at + 1)) (wordAt ws (at + 2)) (wordAt ws (at + 3))

@@ -33,10 +33,10 @@ use Rattle.bindings.specs.declared.types.Derived.the-variants as Der
 
 -- ---- numbers of the enums that are compared (document 01's codes)
 
-abbrev pub kindCode : SampleKind → ℕ
-kindCode Kind.Float = 0
-kindCode Kind.Sint = 1
-kindCode Kind.Uint = 2
+abbrev pub sampleKindCode : SampleKind → ℕ
+sampleKindCode Kind.Float = 0
+sampleKindCode Kind.Sint = 1
+sampleKindCode Kind.Uint = 2
 
 abbrev pub viewCode : TextureViewDimension → ℕ
 viewCode View.D1 = 0
@@ -126,7 +126,7 @@ classOf Sample.Uint multi = Class.Sampled Kind.Uint multi
 
 -- whether a shader's class is that of a sampled entry
 unfoldable pub sampledFits : ImageClass → ImageClass → Bool
-sampledFits (Class.Sampled kind multi) (Class.Sampled k m) = eqb (kindCode kind) (kindCode k) && sameBool multi m
+sampledFits (Class.Sampled kind multi) (Class.Sampled k m) = eqb (sampleKindCode kind) (sampleKindCode k) && sameBool multi m
 sampledFits (Class.Sampled kind multi) (Class.Depth m) = false
 sampledFits (Class.Sampled kind multi) (Class.Storage f a) = false
 sampledFits (Class.Sampled kind multi) Class.External = false
@@ -234,31 +234,31 @@ deriveBindingType (Res.AccelerationStructure returns) named = Der.Binding (Bind.
 
 -- 'storage buffers are load or load with store, its arrayed textures 2D or cube, its external textures 2D and not arrayed,
 -- its atomic storage textures also load and store'
-abbrev pub spaceKept : AddressSpace → Bool
-spaceKept Space.Uniform = true
-spaceKept (Space.Storage access) = eqb access 1 || eqb access 3
-spaceKept Space.Other = true
+abbrev pub spaceReusable : AddressSpace → Bool
+spaceReusable Space.Uniform = true
+spaceReusable (Space.Storage access) = eqb access 1 || eqb access 3
+spaceReusable Space.Other = true
 
-abbrev pub arrayKept : ImageDimension → Bool → Bool
-arrayKept Dim.D1 arrayed = not arrayed
-arrayKept Dim.D2 arrayed = true
-arrayKept Dim.D3 arrayed = not arrayed
-arrayKept Dim.Cube arrayed = true
+abbrev pub arrayReusable : ImageDimension → Bool → Bool
+arrayReusable Dim.D1 arrayed = not arrayed
+arrayReusable Dim.D2 arrayed = true
+arrayReusable Dim.D3 arrayed = not arrayed
+arrayReusable Dim.Cube arrayed = true
 
-abbrev pub flat : ImageDimension → Bool → Bool
-flat Dim.D1 arrayed = false
-flat Dim.D2 arrayed = not arrayed
-flat Dim.D3 arrayed = false
-flat Dim.Cube arrayed = false
+abbrev pub plain2D : ImageDimension → Bool → Bool
+plain2D Dim.D1 arrayed = false
+plain2D Dim.D2 arrayed = not arrayed
+plain2D Dim.D3 arrayed = false
+plain2D Dim.Cube arrayed = false
 
-abbrev pub classKept : ImageDimension → Bool → ImageClass → Bool
-classKept dim arrayed (Class.Sampled kind multi) = true
-classKept dim arrayed (Class.Depth multi) = true
-classKept dim arrayed (Class.Storage format access) = ltb access 4 || eqb access 7
-classKept dim arrayed Class.External = flat dim arrayed
+abbrev pub classReusable : ImageDimension → Bool → ImageClass → Bool
+classReusable dim arrayed (Class.Sampled kind multi) = true
+classReusable dim arrayed (Class.Depth multi) = true
+classReusable dim arrayed (Class.Storage format access) = ltb access 4 || eqb access 7
+classReusable dim arrayed Class.External = plain2D dim arrayed
 
-unfoldable pub handBack : ResourceType → Bool
-handBack (Res.Buffer size space) = spaceKept space
-handBack (Res.Sampler comparison) = true
-handBack (Res.Texture dim arrayed class) = arrayKept dim arrayed && classKept dim arrayed class
-handBack (Res.AccelerationStructure returns) = true
+unfoldable pub resourceReusable : ResourceType → Bool
+resourceReusable (Res.Buffer size space) = spaceReusable space
+resourceReusable (Res.Sampler comparison) = true
+resourceReusable (Res.Texture dim arrayed class) = arrayReusable dim arrayed && classReusable dim arrayed class
+resourceReusable (Res.AccelerationStructure returns) = true

@@ -4,7 +4,7 @@ ghost use mathlib.Core.Bool.{true};
 ghost use Prim.Native.Nat.{_≤_};
 ghost use Rattle.word.specs.Words.{ofKind};
 ghost use Rattle.bindings.specs.Rules.{viewCode};
-ghost use Rattle.bindings.specs.Format.{flag, bufferCode, samplerCode, sampleCode, accessCode, bindingCode, leastSize, formatHeld, sizeWord};
+ghost use Rattle.bindings.specs.Format.{flag, bufferCode, samplerCode, sampleCode, accessCode, bindingCode, leastSize, formatEncodable, sizeWord};
 use crate::sizes::size_word;
 use crate::types::BindingType;
 use crate::types::BufferBindingType;
@@ -139,7 +139,7 @@ pub fn least_size(ty: BindingType) -> u64
 
 // The type word of a binding type that words can hold.
 pub fn binding_word(ty: BindingType) -> u32
-    requires { ⌜ formatHeld ty ≡ true ⌝ }
+    requires { ⌜ formatEncodable ty ≡ true ⌝ }
     ensures { λ r. ⌜ r ≡ ofKind 18 (bindingCode ty) ⌝ }
 {
     (0x9000_0000 + binding_code(ty)) as u32
@@ -147,7 +147,7 @@ pub fn binding_word(ty: BindingType) -> u32
 
 // The least-size word of a binding type that words can hold.
 pub fn least_word(ty: BindingType) -> u32
-    requires { ⌜ formatHeld ty ≡ true ⌝ }
+    requires { ⌜ formatEncodable ty ≡ true ⌝ }
     ensures { λ r. ⌜ r ≡ sizeWord (leastSize ty) ⌝ }
 {
     size_word(least_size(ty))

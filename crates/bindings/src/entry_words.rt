@@ -4,7 +4,7 @@ ghost use mathlib.Core.Bool.{true, _&&_, _||_};
 ghost use lib.Dec.{eqb, ltb};
 ghost use Rattle.word.specs.Words.{kindOf, contentOf};
 ghost use Prim.Native.Nat.{_<_, _^_};
-ghost use Rattle.bindings.specs.Format.{placeHeld, isBuffer, viewAt, sampleAt, accessAt, samplerAt, bufferAt, fieldsFiled, bindingTypeFiled, bindingTypeOf, entryFiled, entryOf, entryFiledAt, entryAt};
+ghost use Rattle.bindings.specs.Format.{placeEncodable, isBufferWord, viewAt, sampleAt, accessAt, samplerAt, bufferAt, fieldsWellFormed, bindingTypeWellFormed, bindingTypeOf, entryWellFormed, entryOf, entryWellFormedAt, entryAt};
 use crate::resource_words::place_of;
 use crate::sizes::word_size;
 use crate::types::BindGroupLayoutEntry;
@@ -94,8 +94,8 @@ fn buffer_at(w: u32) -> BufferBindingType
 }
 
 // Whether a code is a binding type's and the word's unnamed bits are zero.
-fn fields_filed(code: u32, w: u32) -> bool
-    ensures { λ r. ⌜ r ≡ fieldsFiled code w ⌝ }
+fn fields_well_formed(code: u32, w: u32) -> bool
+    ensures { λ r. ⌜ r ≡ fieldsWellFormed code w ⌝ }
 {
     if code == 0 {
         return w / 8 % 0x10_0000 == 0 && (w / 2 % 2 == 0 || w % 2 == 1);
@@ -158,44 +158,44 @@ fn binding_type_of(w: u32, least: u64) -> BindingType
     }
 }
 
-fn visibility_filed(w: u32) -> bool
+fn visibility_well_formed(w: u32) -> bool
     ensures { λ r. ⌜ r ≡ (eqb (kindOf w) 19 && ltb (contentOf w) 32) ⌝ }
 {
     w / 0x800_0000 == 19 && w % 0x800_0000 < 32
 }
 
 // Only a buffer has a least size.
-fn least_filed(w: u32, least: u32, visibility: u32) -> bool
-    ensures { λ r. ⌜ r ≡ (eqb (kindOf least) 6 && ((isBuffer w || eqb (contentOf least) 0) && (eqb (kindOf visibility) 19 && ltb (contentOf visibility) 32))) ⌝ }
+fn least_well_formed(w: u32, least: u32, visibility: u32) -> bool
+    ensures { λ r. ⌜ r ≡ (eqb (kindOf least) 6 && ((isBufferWord w || eqb (contentOf least) 0) && (eqb (kindOf visibility) 19 && ltb (contentOf visibility) 32))) ⌝ }
 {
     if least / 0x800_0000 != 6 {
         return false;
     }
     if w / 0x80_0000 % 16 == 0 {
-        return visibility_filed(visibility);
+        return visibility_well_formed(visibility);
     }
     if least % 0x800_0000 == 0 {
-        return visibility_filed(visibility);
+        return visibility_well_formed(visibility);
     }
     false
 }
 
 // Whether a word tells a binding type: its kind and its code stand side by side, and are tested as one.
-fn type_filed(w: u32) -> bool
-    ensures { λ r. ⌜ r ≡ (eqb (kindOf w) 18 && bindingTypeFiled w) ⌝ }
+fn type_well_formed(w: u32) -> bool
+    ensures { λ r. ⌜ r ≡ (eqb (kindOf w) 18 && bindingTypeWellFormed w) ⌝ }
 {
-    fields_filed(std::num::wrapping_sub_u32(w / 0x80_0000, 288), w)
+    fields_well_formed(std::num::wrapping_sub_u32(w / 0x80_0000, 288), w)
 }
 
 // Whether four words are an entry.
-pub fn words_filed(place: u32, w: u32, least: u32, visibility: u32) -> bool
-    ensures { λ r. ⌜ r ≡ entryFiled place w least visibility ⌝ }
+pub fn words_well_formed(place: u32, w: u32, least: u32, visibility: u32) -> bool
+    ensures { λ r. ⌜ r ≡ entryWellFormed place w least visibility ⌝ }
 {
     if place / 0x800_0000 != 4 {
         return false;
     }
-    if type_filed(w) {
-        return least_filed(w, least, visibility);
+    if type_well_formed(w) {
+        return least_well_formed(w, least, visibility);
     }
     false
 }
@@ -203,7 +203,7 @@ pub fn words_filed(place: u32, w: u32, least: u32, visibility: u32) -> bool
 // The entry that four words mean.
 pub fn entry_of(place: u32, w: u32, least: u32, visibility: u32) -> BindGroupLayoutEntry
     ensures { λ r. ⌜ r ≡ entryOf place w least visibility ⌝ }
-    ensures { λ r. ⌜ placeHeld (r .bind) ≡ true ⌝ }
+    ensures { λ r. ⌜ placeEncodable (r .bind) ≡ true ⌝ }
     ensures { λ r. ⌜ r .visibility < 2 ^ 27 ⌝ }
 {
     let bind = place_of(place);
@@ -216,13 +216,13 @@ pub fn entry_of(place: u32, w: u32, least: u32, visibility: u32) -> BindGroupLay
 }
 
 // Whether an entry stands at a position.
-pub fn entry_filed(l: &[u32], at: usize) -> bool
-    ensures { λ r. ⌜ r ≡ entryFiledAt (now (l .entry)) at ⌝ }
+pub fn entry_well_formed(l: &[u32], at: usize) -> bool
+    ensures { λ r. ⌜ r ≡ entryWellFormedAt (now (l .entry)) at ⌝ }
 {
     if l.len() <= at {
         return false;
     }
-    words_filed(
+    words_well_formed(
         word(l, at),
         word(l, at + 1),
         word(l, at + 2),
@@ -233,7 +233,7 @@ pub fn entry_filed(l: &[u32], at: usize) -> bool
 // The entry that stands at a position, read without asking whether it is one.
 pub fn entry_at(l: &[u32], at: usize) -> BindGroupLayoutEntry
     ensures { λ r. ⌜ r ≡ entryAt (now (l .entry)) at ⌝ }
-    ensures { λ r. ⌜ placeHeld (r .bind) ≡ true ⌝ }
+    ensures { λ r. ⌜ placeEncodable (r .bind) ≡ true ⌝ }
     ensures { λ r. ⌜ r .visibility < 2 ^ 27 ⌝ }
 {
     if l.len() <= at {

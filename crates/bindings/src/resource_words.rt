@@ -6,10 +6,10 @@ ghost use lib.ListN.{length, drop};
 ghost use Rattle.word.specs.Choice.{pick};
 ghost use Rattle.word.specs.Parse.{one, from, behind, restAt};
 ghost use Rattle.bindings.specs.Rules.{storable};
-ghost use Rattle.bindings.specs.Format.{placeFiled, placeOf, placeWord, placeHeld, dimensionAt, sampleKindAt, spaceAt, bufferFiled, storageFiled};
-ghost use Rattle.bindings.specs.Format.{resourceTypeFiled, resourceWordFiled, sizeFiled, isBuffer, texture, resourceTypeOf, resource, readResource, resourceAt};
-ghost use Rattle.bindings.specs.Format.{placeFiled, placeOf, placeWord, placeHeld, dimensionAt, sampleKindAt, spaceAt, bufferFiled, storageFiled};
-ghost use Rattle.bindings.specs.Format.{resourceTypeFiled, resourceWordFiled, sizeFiled, isBuffer, texture, resourceTypeOf, resource, readResource, resourceAt};
+ghost use Rattle.bindings.specs.Format.{placeWellFormed, placeOf, placeWord, placeEncodable, dimensionAt, sampleKindAt, spaceAt, bufferWellFormed, storageWellFormed};
+ghost use Rattle.bindings.specs.Format.{resourceTypeWellFormed, resourceWordWellFormed, sizeWellFormed, isBufferWord, texture, resourceTypeOf, resource, readResource, resourceAt};
+ghost use Rattle.bindings.specs.Format.{placeWellFormed, placeOf, placeWord, placeEncodable, dimensionAt, sampleKindAt, spaceAt, bufferWellFormed, storageWellFormed};
+ghost use Rattle.bindings.specs.Format.{resourceTypeWellFormed, resourceWordWellFormed, sizeWellFormed, isBufferWord, texture, resourceTypeOf, resource, readResource, resourceAt};
 use crate::sizes::word_size;
 use crate::types::AddressSpace;
 use crate::types::ImageClass;
@@ -21,8 +21,8 @@ use crate::types::SampleKind;
 use word::word;
 
 // Whether a word is a place.
-fn place_filed(w: u32) -> bool
-    ensures { λ r. ⌜ r ≡ placeFiled w ⌝ }
+fn place_well_formed(w: u32) -> bool
+    ensures { λ r. ⌜ r ≡ placeWellFormed w ⌝ }
 {
     w / 0x800_0000 == 4
 }
@@ -31,7 +31,7 @@ fn place_filed(w: u32) -> bool
 pub fn place_of(w: u32) -> ResourceBinding
     ensures { λ r. ⌜ r ≡ placeOf w ⌝ }
     ensures { λ r. ⌜ (r .group < 16) × (r .binding < 2 ^ 23) ⌝ }
-    ensures { λ r. ⌜ placeHeld r ≡ true ⌝ }
+    ensures { λ r. ⌜ placeEncodable r ≡ true ⌝ }
 {
     ResourceBinding {
         group: w / 0x80_0000 % 16,
@@ -41,7 +41,7 @@ pub fn place_of(w: u32) -> ResourceBinding
 
 // The word of a place that words can hold.
 pub(crate) fn place_word(bind: ResourceBinding) -> u32
-    requires { ⌜ placeHeld bind ≡ true ⌝ }
+    requires { ⌜ placeEncodable bind ≡ true ⌝ }
     ensures { λ r. ⌜ r ≡ placeWord bind ⌝ }
 {
     0x2000_0000 + (0x80_0000 * bind.group + bind.binding)
@@ -87,8 +87,8 @@ fn space_at(code: u32, access: u32) -> AddressSpace
 }
 
 // Only storage has an access.
-fn buffer_filed(w: u32) -> bool
-    ensures { λ r. ⌜ r ≡ bufferFiled w ⌝ }
+fn buffer_well_formed(w: u32) -> bool
+    ensures { λ r. ⌜ r ≡ bufferWellFormed w ⌝ }
 {
     w / 32 % 0x4_0000 == 0 && (w / 8 % 4 < 3 && (w / 8 % 4 == 1 || w % 8 == 0))
 }
@@ -104,8 +104,8 @@ pub fn storable(format: u32) -> bool
 }
 
 // A shader's format is storable, and its access is not 0.
-fn storage_filed(w: u32) -> bool
-    ensures { λ r. ⌜ r ≡ storageFiled w ⌝ }
+fn storage_well_formed(w: u32) -> bool
+    ensures { λ r. ⌜ r ≡ storageWellFormed w ⌝ }
 {
     if w / 0x8_0000 % 16 != 0 {
         return false;
@@ -123,12 +123,12 @@ fn storage_filed(w: u32) -> bool
 }
 
 // Whether a word's type is known and its unnamed bits are zero.
-fn resource_type_filed(w: u32) -> bool
-    ensures { λ r. ⌜ r ≡ resourceTypeFiled w ⌝ }
+fn resource_type_well_formed(w: u32) -> bool
+    ensures { λ r. ⌜ r ≡ resourceTypeWellFormed w ⌝ }
 {
     let code = w / 0x80_0000 % 16;
     if code == 0 {
-        return buffer_filed(w);
+        return buffer_well_formed(w);
     }
     if code == 1 {
         return w / 2 % 0x40_0000 == 0;
@@ -140,7 +140,7 @@ fn resource_type_filed(w: u32) -> bool
         return w / 16 % 0x8_0000 == 0;
     }
     if code == 4 {
-        return storage_filed(w);
+        return storage_well_formed(w);
     }
     if code == 5 {
         return w / 8 % 0x10_0000 == 0;
@@ -198,23 +198,23 @@ fn resource_type_of(w: u32, size: u64) -> ResourceType
     }
 }
 
-fn resource_word_filed(w: u32) -> bool
-    ensures { λ r. ⌜ r ≡ resourceWordFiled w ⌝ }
+fn resource_word_well_formed(w: u32) -> bool
+    ensures { λ r. ⌜ r ≡ resourceWordWellFormed w ⌝ }
 {
     if w / 0x800_0000 == 16 {
-        return resource_type_filed(w);
+        return resource_type_well_formed(w);
     }
     false
 }
 
-fn size_filed(w: u32) -> bool
-    ensures { λ r. ⌜ r ≡ sizeFiled w ⌝ }
+fn size_well_formed(w: u32) -> bool
+    ensures { λ r. ⌜ r ≡ sizeWellFormed w ⌝ }
 {
     w / 0x800_0000 == 6 && w % 0x800_0000 != 0
 }
 
 fn is_buffer(w: u32) -> bool
-    ensures { λ r. ⌜ r ≡ isBuffer w ⌝ }
+    ensures { λ r. ⌜ r ≡ isBufferWord w ⌝ }
 {
     w / 0x80_0000 % 16 == 0
 }
@@ -223,7 +223,7 @@ fn is_buffer(w: u32) -> bool
 fn size_next(body: &[u32], at: usize, w: u32) -> usize
     requires { ⌜ (0 < at) × (at ≤ length (now body)) ⌝ }
     ensures { λ r. ⌜ restAt (now (body .entry)) r
-        ≡ pick (isBuffer w) (behind (one sizeFiled (drop at (now (body .entry))))) (from (drop at (now (body .entry)))) ⌝ }
+        ≡ pick (isBufferWord w) (behind (one sizeWellFormed (drop at (now (body .entry))))) (from (drop at (now (body .entry)))) ⌝ }
     ensures { λ r. ⌜ r ≤ length (now (body .entry)) ⌝ }
     ensures { λ r. ⌜ ((r ≡ 0 → ⊥) → at ≤ r) ⌝ }
 {
@@ -233,7 +233,7 @@ fn size_next(body: &[u32], at: usize, w: u32) -> usize
     if body.len() <= at {
         return 0;
     }
-    if !size_filed(body[at]) {
+    if !size_well_formed(body[at]) {
         return 0;
     }
     at + 1
@@ -249,11 +249,11 @@ pub fn resource_next(body: &[u32], at: usize) -> usize
     if body.len() - at < 2 {
         return 0;
     }
-    if !place_filed(body[at]) {
+    if !place_well_formed(body[at]) {
         return 0;
     }
     let w = body[at + 1];
-    if !resource_word_filed(w) {
+    if !resource_word_well_formed(w) {
         return 0;
     }
     size_next(body, at + 2, w)
@@ -262,7 +262,7 @@ pub fn resource_next(body: &[u32], at: usize) -> usize
 // The resource that stands at a position, read without asking whether it is one.
 pub fn resource_at(pack: &[u32], at: usize) -> Resource
     ensures { λ r. ⌜ r ≡ resourceAt (now (pack .entry)) at ⌝ }
-    ensures { λ r. ⌜ placeHeld (r .bind) ≡ true ⌝ }
+    ensures { λ r. ⌜ placeEncodable (r .bind) ≡ true ⌝ }
 {
     if pack.len() <= at {
         return resource_of(0, 0, 0);
@@ -276,7 +276,7 @@ pub fn resource_at(pack: &[u32], at: usize) -> Resource
 
 fn resource_of(place: u32, w: u32, size: u64) -> Resource
     ensures { λ r. ⌜ r ≡ resource place w size ⌝ }
-    ensures { λ r. ⌜ placeHeld (r .bind) ≡ true ⌝ }
+    ensures { λ r. ⌜ placeEncodable (r .bind) ≡ true ⌝ }
 {
     let bind = place_of(place);
     let ty = resource_type_of(w, size);

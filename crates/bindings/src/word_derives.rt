@@ -4,7 +4,7 @@ ghost use Prim.Native.Nat.{ℕ, _≤_};
 ghost use Rattle.word.specs.Choice.{pick};
 ghost use Rattle.word.specs.Words.{bits};
 ghost use Rattle.bindings.specs.Rules.{viewCode, derivedView, derivedSample, derivedAccess, derivedBuffer, deriveBindingType};
-ghost use Rattle.bindings.specs.Format.{bitSet, isBuffer, dimensionAt, sampleKindAt, spaceAt, resourceTypeOf, sampleCode, accessCode};
+ghost use Rattle.bindings.specs.Format.{bitSet, isBufferWord, dimensionAt, sampleKindAt, spaceAt, resourceTypeOf, sampleCode, accessCode};
 ghost use Rattle.bindings.specs.Answers.{derivedWord};
 
 // The number of a derived view.
@@ -108,7 +108,7 @@ pub fn derived_word(w: u32, named: bool) -> u32
 
 // The least size of that entry: only a buffer has a size.
 pub fn derived_least(w: u32, size: u64) -> u64
-    ensures { λ r. ⌜ r ≡ pick (isBuffer w) size 0 ⌝ }
+    ensures { λ r. ⌜ r ≡ pick (isBufferWord w) size 0 ⌝ }
 {
     if w / 0x80_0000 % 16 == 0 {
         return size;

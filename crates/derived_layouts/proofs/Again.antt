@@ -10,14 +10,14 @@ use borrow.Author.Tests.{leb-true}
 use Rattle.word.specs.Answers.{accepted}
 use Rattle.word.specs.Words.{ofKind}
 use Rattle.word.specs.Lists.{flat, among}
-use Rattle.bindings.specs.Format.{placeHeld, typeHeld}
+use Rattle.bindings.specs.Format.{placeEncodable, typeEncodable}
 use Rattle.word.proofs.Truth.{first, second}
 use Rattle.varying.specs.Format.{locatedWords, payloadWord}
 use Rattle.varying.specs.declared.Located.{Located}
 use Rattle.stage_lists.specs.Meaning.{StageIo}
-use Rattle.layouts.specs.Format.{layoutFiled, decodeLayout}
-use Rattle.sizes.specs.Format.{sizesFiled, decodeSizes}
-use Rattle.stage_lists.specs.Format.{stageFiled, decodeStage, encodeStage, primitiveCode}
+use Rattle.layouts.specs.Format.{layoutWellFormed, decodeLayout}
+use Rattle.sizes.specs.Format.{sizesWellFormed, decodeSizes}
+use Rattle.stage_lists.specs.Format.{stageWellFormed, decodeStage, encodeStage, primitiveCode}
 use Rattle.places.specs.Records.{countOf}
 use Rattle.layouts.proofs.LayoutLists.{good, good-decode}
 use Rattle.interface.specs.Meaning.{Interface, EntryPoint}
@@ -28,11 +28,11 @@ use Rattle.stage.specs.Meaning.{Call}
 use Rattle.resource_steps.specs.Resources.{resourceNth, namedTexture, providedUse, provideSteps, pairUses}
 use Rattle.sizes.specs.Meaning.{sizeRecordWidth}
 use Rattle.stage.specs.Stage.{listsGood, codesGood, callGood, requestOf, inputWalk, checkStage}
-use Rattle.stage.proofs.GivenLaws.{resource-held, entry-pairs}
-use Rattle.derived_layouts.specs.HandBack.{derivedOver, putAgain, packKept, interfaceOfCall, entryOfCall, lacking, RoomEnough, used, Again}
+use Rattle.stage.proofs.GivenLaws.{resource-encodable, entry-pairs}
+use Rattle.derived_layouts.specs.Theorem.{derivedOver, putAgain, packReusable, interfaceOfCall, entryOfCall, lacking, RoomEnough, used, Again}
 use Rattle.derived_layouts.proofs.Growth.{Grows}
-use Rattle.derived_layouts.proofs.Derives.{Placed, placed-grows}
-use Rattle.derived_layouts.proofs.Packs.{resource-kept, pairs-kept}
+use Rattle.derived_layouts.proofs.Derives.{HasEntry, has-entry-grows}
+use Rattle.derived_layouts.proofs.Packs.{resource-reusable, pairs-reusable}
 use Rattle.derived_layouts.proofs.Provides.{placed-serves, provide-steps}
 use Rattle.derived_layouts.proofs.Pairs.{pairs-accepted}
 use Rattle.derived_layouts.proofs.Bodies.{provided-accepts}
@@ -60,8 +60,8 @@ used-same stage e w a b = used-front (stageOut stage e w a) ∙ sym (used-front 
 
 -- ---- put again
 
-module _ (l final sizes out : List ℕ) (c : Call) (x : Leaves l c) (f : layoutFiled final ≡ true)
-    (g : Grows (decodeLayout (checkStage (derivedOver l c) .layout)) (decodeLayout final)) (k : packKept (interfaceOfCall c) ≡ true) (r : RoomEnough c sizes out) where
+module _ (l final sizes out : List ℕ) (c : Call) (x : Leaves l c) (f : layoutWellFormed final ≡ true)
+    (g : Grows (decodeLayout (checkStage (derivedOver l c) .layout)) (decodeLayout final)) (k : packReusable (interfaceOfCall c) ≡ true) (r : RoomEnough c sizes out) where
   abbrev again : Call
   again = putAgain final sizes out c
 
@@ -82,7 +82,7 @@ module _ (l final sizes out : List ℕ) (c : Call) (x : Leaves l c) (f : layoutF
   good-again =
       let lists = listsGood l (c .lent .sizes) (c .lent .inputs) in
       let codes = codesGood (again .codes) in
-      let inputs = second (sizesFiled (c .lent .sizes)) (stageFiled (c .lent .inputs)) (second (layoutFiled l) (sizesFiled (c .lent .sizes) && stageFiled (c .lent .inputs)) (first lists codes (x .runs .good))) in
+      let inputs = second (sizesWellFormed (c .lent .sizes)) (stageWellFormed (c .lent .inputs)) (second (layoutWellFormed l) (sizesWellFormed (c .lent .sizes) && stageWellFormed (c .lent .inputs)) (first lists codes (x .runs .good))) in
       rw (f, r .passes3, inputs) (second lists codes (x .runs .good))
 
   runs-again : Runs again
@@ -97,17 +97,17 @@ module _ (l final sizes out : List ℕ) (c : Call) (x : Leaves l c) (f : layoutF
       }
 
   -- every resource is served over the finished list
-  placed-again : (j : ℕ) → among (e .resources) j ≡ true → Placed (requestOf (c .codes) .stage) (namedTexture j (e .pairs)) (resourceNth (i .resources) j) (decodeLayout final)
+  placed-again : (j : ℕ) → among (e .resources) j ≡ true → HasEntry (requestOf (c .codes) .stage) (namedTexture j (e .pairs)) (resourceNth (i .resources) j) (decodeLayout final)
   placed-again j m =
-      placed-grows (requestOf (c .codes) .stage) (namedTexture j (e .pairs)) (resourceNth (i .resources) j) (decodeLayout (checkStage (derivedOver l c) .layout)) (decodeLayout final) g
+      has-entry-grows (requestOf (c .codes) .stage) (namedTexture j (e .pairs)) (resourceNth (i .resources) j) (decodeLayout (checkStage (derivedOver l c) .layout)) (decodeLayout final) g
       (x .placed j m)
 
   served-again : (j : ℕ) → among (e .resources) j ≡ true → providedUse (requestOf (c .codes) .stage) (decodeLayout final) (resourceNth (i .resources) j) ≡ accepted
   served-again j m =
       let s = resourceNth (i .resources) j in
       placed-serves (requestOf (c .codes) .stage) (namedTexture j (e .pairs)) s (decodeLayout final) (good (decodeLayout final) (good-decode final f) .distinct) (placed-again j m)
-      (second (placeHeld (s .bind)) (typeHeld (s .ty)) (resource-held (c .pack) i (x .runs .decoded) j))
-      (resource-kept i (rw interface-is at k) j)
+      (second (placeEncodable (s .bind)) (typeEncodable (s .ty)) (resource-encodable (c .pack) i (x .runs .decoded) j))
+      (resource-reusable i (rw interface-is at k) j)
 
   steps-again : provideSteps (requestOf (c .codes) .stage) (decodeLayout final) (i .resources) (e .resources) (decodeSizes sizes) .answer ≡ accepted
   steps-again =
@@ -117,7 +117,7 @@ module _ (l final sizes out : List ℕ) (c : Call) (x : Leaves l c) (f : layoutF
   pairs-again : pairUses (decodeLayout final) (i .resources) (e .pairs) ≡ accepted
   pairs-again =
       pairs-accepted (requestOf (c .codes) .stage) (i .resources) (e .pairs) (decodeLayout final) (good (decodeLayout final) (good-decode final f) .distinct) (e .resources) placed-again
-      (entry-pairs (c .pack) i (x .runs .decoded) (x .runs .position)) (pairs-kept i (rw interface-is at k) (x .runs .position))
+      (entry-pairs (c .pack) i (x .runs .decoded) (x .runs .position)) (pairs-reusable i (rw interface-is at k) (x .runs .position))
 
   answered-again : runOf again i e .answer ≡ accepted
   answered-again =

@@ -7,8 +7,8 @@ use lib.Dec.{ltb}
 use lib.ListN.{length}
 use Rattle.word.specs.Answers.{accepted}
 use Rattle.word.proofs.Truth.{by-test}
-use Rattle.interface.specs.Meaning.{EntryPoint, Interface, entryNth}
-use Rattle.interface.specs.Format.{Decoded, Torn, Misfiled, Pack, decode}
+use Rattle.interface.specs.Meaning.{EntryPoint, Interface, entryPointNth}
+use Rattle.interface.specs.Format.{Decoded, Damaged, Malformed, Pack, decode}
 use Rattle.entry_points.specs.Rules.{findEntryPoint}
 use Rattle.entry_points.specs.declared.choose.Chosen.{Chosen}
 use Rattle.entry_points.specs.declared.choose.Chosen.the-variants as Ch
@@ -26,26 +26,26 @@ pub record Runs (c : Call) : Type 0 where
   pub decoded : decode (c .pack) ≡ Pack interface
   pub good : callGood (c .lent) (c .codes) ≡ true
   pub chosen : findEntryPoint (requestOf (c .codes) .stage) (c .name) (interface .entries) ≡ Ch.At position
-  pub room : ltb (length (c .lent .out)) (outWords (entryNth (interface .entries) position)) ≡ false
+  pub room : ltb (length (c .lent .out)) (outWords (entryPointNth (interface .entries) position)) ≡ false
 
-pub runs-on : (c : Call) (b : Runs c) → checkStage c ≡ runOf c (b .interface) (entryNth (b .interface .entries) (b .position))
+pub runs-on : (c : Call) (b : Runs c) → checkStage c ≡ runOf c (b .interface) (entryPointNth (b .interface .entries) (b .position))
 unfolding checkStage
 runs-on c b = rw (b .decoded, b .good, b .chosen, b .room)
 
 module _ (P : Outcome → Type 0) (c : Call) (refusal : (n : ℕ) → (n ≡ 0 → ⊥) → P (unchanged (c .lent) n))
-    (steps : (b : Runs c) → P (runOf c (b .interface) (entryNth (b .interface .entries) (b .position)))) where
+    (steps : (b : Runs c) → P (runOf c (b .interface) (entryPointNth (b .interface .entries) (b .position)))) where
   chosen-call : (i : Interface) → decode (c .pack) ≡ Pack i → callGood (c .lent) (c .codes) ≡ true → (x : Chosen)
       → findEntryPoint (requestOf (c .codes) .stage) (c .name) (i .entries) ≡ x → P (onChosen (derivedOf (c .codes)) (requestOf (c .codes)) (c .lent) i x)
   chosen-call i d g (Ch.At k) e =
-      by-test (ltb (length (c .lent .out)) (outWords (entryNth (i .entries) k)))
+      by-test (ltb (length (c .lent .out)) (outWords (entryPointNth (i .entries) k)))
       (λ t. rw t (refusal 4 (omega arith)))
       (λ n. rw n (steps (record { interface = i; position = k; decoded = d; good = g; chosen = e; room = n })))
   chosen-call i d g Ch.Absent e = refusal 10 (omega arith)
   chosen-call i d g Ch.Several e = refusal 10 (omega arith)
 
   decoded-call : (x : Decoded) → decode (c .pack) ≡ x → P (onDecoded c x)
-  decoded-call Torn d = refusal 1 (omega arith)
-  decoded-call Misfiled d = refusal 2 (omega arith)
+  decoded-call Damaged d = refusal 1 (omega arith)
+  decoded-call Malformed d = refusal 2 (omega arith)
   decoded-call (Pack i) d =
       by-test (callGood (c .lent) (c .codes))
       (λ t. rw t (chosen-call i d t (findEntryPoint (requestOf (c .codes) .stage) (c .name) (i .entries)) refl))

@@ -12,14 +12,14 @@ use Rattle.word.specs.Answers.{accepted}
 use Rattle.word.specs.declared.answer.Answer.{Answer}
 use Rattle.word.specs.Lists.{among}
 use Rattle.bindings.specs.Rules.{deriveBindingType}
-use Rattle.bindings.specs.Format.{placeHeld, typeHeld, resourceHeld, sameBinding, entryWidth}
+use Rattle.bindings.specs.Format.{placeEncodable, typeEncodable, resourceEncodable, sameBinding, entryWidth}
 use Rattle.bindings.specs.Answers.{bindingAnswer}
 use Rattle.bindings.specs.declared.types.Resource.{Resource}
 use Rattle.bindings.specs.declared.types.BindingType.{BindingType}
 use Rattle.bindings.specs.declared.types.Derived.{Derived}
 use Rattle.bindings.specs.declared.types.Derived.the-variants as Der
 use Rattle.bindings.proofs.SameBinding.{same-binding-eq}
-use Rattle.bindings.proofs.HandBack.{derived-held}
+use Rattle.bindings.proofs.DerivedServes.{derived-encodable}
 use Rattle.word.proofs.Truth.{first, second, by-test, never}
 use Rattle.layouts.specs.Meaning.{Layout, findEntry, entryPlaces, entryHas, entryNth, pushed, seesBit, joined, roomForEntry}
 use Rattle.places.specs.Places.{samePlace}
@@ -59,7 +59,7 @@ bit-seen Stage.Mesh = refl
 
 -- ---- a resource that a layout serves
 
-pub record Placed (stage : ShaderStage) (named : Bool) (r : Resource) (M : Layout) : Type 0 where
+pub record HasEntry (stage : ShaderStage) (named : Bool) (r : Resource) (M : Layout) : Type 0 where
   pub type : BindingType
   pub derived : deriveBindingType (r .ty) named ≡ Der.Binding type
   pub at : ℕ
@@ -68,8 +68,8 @@ pub record Placed (stage : ShaderStage) (named : Bool) (r : Resource) (M : Layou
   pub holds : entryNth (M .entries) at .ty ≡ type
   pub seen : seesBit (stageCode stage) (entryNth (M .entries) at .visibility) ≡ true
 
-pub placed-grows : (stage : ShaderStage) (named : Bool) (r : Resource) (L M : Layout) → Grows L M → Placed stage named r L → Placed stage named r M
-placed-grows stage named r L M g p =
+pub has-entry-grows : (stage : ShaderStage) (named : Bool) (r : Resource) (L M : Layout) → Grows L M → HasEntry stage named r L → HasEntry stage named r M
+has-entry-grows stage named r L M g p =
     let s = g (p .at) (p .there) in
     record {
       type = p .type;
@@ -87,20 +87,20 @@ placed-grows stage named r L M g p =
 pub record Stepped (stage : ShaderStage) (named : Bool) (r : Resource) (L : Layout) (x : LayoutAfter) : Type 0 where
   pub good : layoutGood (x .layout) ≡ true
   pub grows : Grows L (x .layout)
-  pub placed : eqb (x .answer .number) 0 ≡ true → Placed stage named r (x .layout)
+  pub placed : eqb (x .answer .number) 0 ≡ true → HasEntry stage named r (x .layout)
 
 module _ (stage : ShaderStage) (named : Bool) (r : Resource) (L : Layout) (g : layoutGood L ≡ true) where
   refuses : (a : Answer) → eqb (a .number) 0 ≡ false → Stepped stage named r L (layoutAfter a L)
   refuses a f = record { good = g; grows = grows-refl L; placed = λ t. never (eqb (a .number) 0) t f }
 
-  module _ (ty : BindingType) (e : deriveBindingType (r .ty) named ≡ Der.Binding ty) (h : resourceHeld r ≡ true) where
+  module _ (ty : BindingType) (e : deriveBindingType (r .ty) named ≡ Der.Binding ty) (h : resourceEncodable r ≡ true) where
     below : (i : ℕ) → findEntry (r .bind) L ≡ At i → i < length (L .entries)
     below i q = let f = find-sound (r .bind) (L .entries) 0 i q in omega (arith, f .sum, f .there)
 
     lacks : findEntry (r .bind) L ≡ Nothing → entryHas (r .bind) (L .entries) ≡ false
     lacks q = sym (place-lacks (r .bind) (entryPlaces (L .entries)) (findEntry (r .bind) L) refl q)
 
-    joins : (i : ℕ) → findEntry (r .bind) L ≡ At i → sameBinding ty (entryNth (L .entries) i .ty) ≡ true → Placed stage named r (joined (stageCode stage) L i)
+    joins : (i : ℕ) → findEntry (r .bind) L ≡ At i → sameBinding ty (entryNth (L .entries) i .ty) ≡ true → HasEntry stage named r (joined (stageCode stage) L i)
     unfolding joined
     joins i q t =
         let f = find-sound (r .bind) (L .entries) 0 i q in
@@ -108,18 +108,18 @@ module _ (stage : ShaderStage) (named : Bool) (r : Resource) (L : Layout) (g : l
         let there = below i q in
         let fit = good-nth L i g there in
         let same = nth-joined (stageCode stage) (L .entries) i there in
-        let held = derived-held (r .ty) named ty (second (placeHeld (r .bind)) (typeHeld (r .ty)) h) e in
+        let encodable = derived-encodable (r .ty) named ty (second (placeEncodable (r .bind)) (typeEncodable (r .ty)) h) e in
         record {
           type = ty;
           derived = e;
           at = i;
           there = omega (arith, length-join (stageCode stage) (L .entries) i);
           place = rw (same, at) (f .same);
-          holds = rw same (sym (same-binding-eq ty (entryNth (L .entries) i .ty) held (fit .format) t));
+          holds = rw same (sym (same-binding-eq ty (entryNth (L .entries) i .ty) encodable (fit .format) t));
           seen = rw same (join-sets (stageCode stage) (entryNth (L .entries) i .visibility) (stage-below stage) (fit .visibility));
         }
 
-    pushes : Placed stage named r (pushed L (newEntry stage (r .bind) ty))
+    pushes : HasEntry stage named r (pushed L (newEntry stage (r .bind) ty))
     unfolding pushed
     pushes =
         let last = nth-last (L .entries) (newEntry stage (r .bind) ty) in
@@ -135,8 +135,8 @@ module _ (stage : ShaderStage) (named : Bool) (r : Resource) (L : Layout) (g : l
 
     new-fits : ltb (r .bind .group) (L .groups) ≡ true → entryFits (L .groups) (newEntry stage (r .bind) ty) ≡ true
     new-fits t =
-        let p : placeHeld (r .bind) ≡ true = search first in
-        rw (p, derived-held (r .ty) named ty (second (placeHeld (r .bind)) (typeHeld (r .ty)) h) e, lt-ltb (2 ^ stageCode stage) 32 (bit-short stage), t)
+        let p : placeEncodable (r .bind) ≡ true = search first in
+        rw (p, derived-encodable (r .ty) named ty (second (placeEncodable (r .bind)) (typeEncodable (r .ty)) h) e, lt-ltb (2 ^ stageCode stage) 32 (bit-short stage), t)
 
     place-step : ltb (r .bind .group) (L .groups) ≡ true → (f : Found) → findEntry (r .bind) L ≡ f → Stepped stage named r L (placeStep stage (r .bind) ty f L)
     unfolding occupied vacant
@@ -161,12 +161,12 @@ module _ (stage : ShaderStage) (named : Bool) (r : Resource) (L : Layout) (g : l
         }))
         (λ n. rw n (refuses (bindingAnswer 5 (r .bind)) refl))
 
-  derived-step : resourceHeld r ≡ true → ltb (r .bind .group) (L .groups) ≡ true → (d : Derived) → deriveBindingType (r .ty) named ≡ d
+  derived-step : resourceEncodable r ≡ true → ltb (r .bind .group) (L .groups) ≡ true → (d : Derived) → deriveBindingType (r .ty) named ≡ d
       → Stepped stage named r L (derivedStep stage (r .bind) d L)
   derived-step h l (Der.Binding ty) e = place-step ty e h l (findEntry (r .bind) L) refl
   derived-step h l Der.WrongBufferAddressSpace e = refuses (bindingAnswer 24 (r .bind)) refl
 
-  pub derive-step : resourceHeld r ≡ true → Stepped stage named r L (deriveStep stage named r L)
+  pub derive-step : resourceEncodable r ≡ true → Stepped stage named r L (deriveStep stage named r L)
   unfolding deriveStep
   derive-step h =
       by-test (ltb (r .bind .group) (L .groups))
@@ -179,7 +179,7 @@ module _ (stage : ShaderStage) (named : Bool) (r : Resource) (L : Layout) (g : l
 pub record Folded (stage : ShaderStage) (resources : List Resource) (pairs : List SamplingPair) (is : List ℕ) (L : Layout) (x : DeriveResult) : Type 0 where
   pub good : layoutGood (x .layout) ≡ true
   pub grows : Grows L (x .layout)
-  pub placed : eqb (x .answer .number) 0 ≡ true → (i : ℕ) → among is i ≡ true → Placed stage (namedTexture i pairs) (resourceNth resources i) (x .layout)
+  pub placed : eqb (x .answer .number) 0 ≡ true → (i : ℕ) → among is i ≡ true → HasEntry stage (namedTexture i pairs) (resourceNth resources i) (x .layout)
 
 module _ (stage : ShaderStage) (resources : List Resource) (pairs : List SamplingPair) where
   fold-none : (L : Layout) (a : Answer) → layoutGood L ≡ true → Folded stage resources pairs [] L (deriveResult a 0 L)
@@ -202,16 +202,16 @@ module _ (stage : ShaderStage) (resources : List Resource) (pairs : List Samplin
             by-test (eqb j i)
             (λ p.
             rw (eqb-true j i p)
-            (placed-grows stage (namedTexture i pairs) (resourceNth resources i) (x .layout) (y .layout) (rest .grows) (s .placed t)))
+            (has-entry-grows stage (namedTexture i pairs) (resourceNth resources i) (x .layout) (y .layout) (rest .grows) (s .placed t)))
             (λ p. rest .placed z j (rw p at m));
       }))
       (λ n. rw n (record { good = s .good; grows = s .grows; placed = λ z. never (eqb (x .answer .number) 0) z n }))
 
-  pub derive-steps : ((i : ℕ) → resourceHeld (resourceNth resources i) ≡ true) → (is : List ℕ) (L : Layout) → layoutGood L ≡ true
+  pub derive-steps : ((i : ℕ) → resourceEncodable (resourceNth resources i) ≡ true) → (is : List ℕ) (L : Layout) → layoutGood L ≡ true
       → Folded stage resources pairs is L (deriveSteps stage resources pairs is L)
   unfolding deriveSteps
-  derive-steps held [] L g = fold-none L accepted g
-  derive-steps held (i ∷ is) L g =
+  derive-steps encodable [] L g = fold-none L accepted g
+  derive-steps encodable (i ∷ is) L g =
       let x = deriveStep stage (namedTexture i pairs) (resourceNth resources i) L in
-      let s = derive-step stage (namedTexture i pairs) (resourceNth resources i) L g (held i) in
-      fold-cons i is L x (λ L. deriveSteps stage resources pairs is L) s (derive-steps held is (x .layout) (s .good))
+      let s = derive-step stage (namedTexture i pairs) (resourceNth resources i) L g (encodable i) in
+      fold-cons i is L x (λ L. deriveSteps stage resources pairs is L) s (derive-steps encodable is (x .layout) (s .good))

@@ -14,14 +14,14 @@ use Rattle.places.specs.declared.found.Found.the-variants.{At}
 use Rattle.places.proofs.PlaceLaws.{same-place-eq, passed-not}
 
 -- an entry of a place at a position
-pub record FoundAt (place : ResourceBinding) (es : List BindGroupLayoutEntry) (i j : ℕ) : Type 0 where
+pub record EntryFoundAt (place : ResourceBinding) (es : List BindGroupLayoutEntry) (i j : ℕ) : Type 0 where
   pub at : ℕ
   pub sum : j ≡ i + at
   pub there : at < length es
   pub same : samePlace (entryNth es at .bind) place ≡ true
 
 module _ (place : ResourceBinding) where
-  pub find-sound : (es : List BindGroupLayoutEntry) (i j : ℕ) → placeFrom place (entryPlaces es) i ≡ At j → FoundAt place es i j
+  pub find-sound : (es : List BindGroupLayoutEntry) (i j : ℕ) → placeFrom place (entryPlaces es) i ≡ At j → EntryFoundAt place es i j
   unfolding placeFrom entryNth
   find-sound [] i j h = let z : _≡_ {A = ℕ} 0 1 = cc in absurd (omega arith)
   find-sound (e ∷ es) i j h =

@@ -7,7 +7,7 @@ use mathlib.Core.List.{[], _∷_}
 use lib.Dec.{eqb}
 use lib.ListN.{length, length-append}
 use borrow.Author.Tests.{eqb-true, eqb-false, ltb-true, eq-eqb}
-use Rattle.bindings.specs.Format.{formatHeld}
+use Rattle.bindings.specs.Format.{formatEncodable}
 use Rattle.bindings.specs.declared.types.BindGroupLayoutEntry.{BindGroupLayoutEntry}
 use Rattle.word.proofs.Truth.{first, second, by-test}
 use Rattle.layouts.specs.Meaning.{Layout, entryNth, emptyEntry, pushed, seesBit, joinBit, joined}
@@ -15,7 +15,7 @@ use Rattle.layouts.specs.Format.{entryFits, layoutGood}
 use Rattle.places.proofs.Records.{every-nth}
 use Rattle.layouts.proofs.LayoutLists.{good}
 use Rattle.layouts.proofs.LayoutLaws.{nth-getD, nth-more, length-join, nth-joined, nth-beside, join-bits}
-use Rattle.derived_layouts.specs.HandBack.{StandsAt}
+use Rattle.derived_layouts.specs.Theorem.{StandsAt}
 
 -- ---- bits of a visibility
 
@@ -28,14 +28,14 @@ module _ (s v : ℕ) (hs : s < 5) (hv : v < 32) where
 
 -- ---- an entry that a layout holds
 
-pub record Held (e : BindGroupLayoutEntry) : Type 0 where
-  pub format : formatHeld (e .ty) ≡ true
+pub record Encodable (e : BindGroupLayoutEntry) : Type 0 where
+  pub format : formatEncodable (e .ty) ≡ true
   pub visibility : e .visibility < 32
 
-pub good-nth : (L : Layout) (k : ℕ) → layoutGood L ≡ true → k < length (L .entries) → Held (entryNth (L .entries) k)
+pub good-nth : (L : Layout) (k : ℕ) → layoutGood L ≡ true → k < length (L .entries) → Encodable (entryNth (L .entries) k)
 good-nth L k g h =
     let t : entryFits (L .groups) (entryNth (L .entries) k) ≡ true
-    = rw (nth-getD (L .entries) k) (every-nth (entryFits (L .groups)) (L .entries) k emptyEntry (good L g .held) h) in
+    = rw (nth-getD (L .entries) k) (every-nth (entryFits (L .groups)) (L .entries) k emptyEntry (good L g .encodable) h) in
     record { format = search (first, second); visibility = search (ltb-true, first, second) }
 
 -- ---- every entry of one layout stands in another

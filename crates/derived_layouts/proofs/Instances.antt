@@ -18,7 +18,7 @@ use Rattle.bindings.specs.declared.types.Resource.{Resource}
 use Rattle.bindings.specs.declared.types.ResourceType.{ResourceType}
 use Rattle.bindings.specs.declared.types.ResourceType.the-variants as Res
 use Rattle.varying.specs.declared.Payload.the-variants as Pay
-use Rattle.interface.specs.Meaning.{Interface, entryNth as interface-entryNth}
+use Rattle.interface.specs.Meaning.{Interface, entryPointNth as interface-entryNth, entryPointNth}
 use Rattle.interface.specs.Format.{stageCode, readVarying, clips, bytesOf, noZero, allZero, readName, readWorkgroup, readMesh, contents, ofType, pairsOf}
 use Rattle.interface.specs.declared.types.ShaderStage.{ShaderStage}
 use Rattle.interface.specs.declared.types.ShaderStage.the-variants as Stage
@@ -29,29 +29,29 @@ use Rattle.interface.specs.declared.types.SamplingPair.{SamplingPair}
 use Rattle.interface.specs.declared.types.Limits.{Limits}
 use Rattle.input_steps.specs.Workgroup.{workgroupUse, workgroupStep}
 use Rattle.input_steps.specs.Inputs.{inputStep, inputSteps}
-use Rattle.output_steps.specs.Outputs.{clipPlaces, builtInPlaces, localCount, locationUses, vertexOutputs, anyOf, attachmentUse, fragmentPlaces, fragmentOutputs, placesStep}
+use Rattle.output_steps.specs.Outputs.{clipSlots, builtInSlots, localCount, locationUses, vertexOutputs, anyOf, attachmentUse, fragmentSlots, fragmentOutputs, slotsStep}
 use Rattle.output_steps.specs.Last.{meshUse, payloadMatch, primitiveUse, drawUse, perVertexUse, lastStep}
 use Rattle.output_steps.specs.ListOut.{localsOf, stageOut}
 use Rattle.stage.specs.Meaning.{Call, codes, lent, call}
-use Rattle.derived_layouts.specs.HandBack.{derivedOver, putAgain, packKept, interfaceOfCall, RoomEnough, Again, runOver, pairsKept, entriesKept, resourcesKept, lacking}
-use Rattle.derived_layouts.proofs.HandBack.{hand-back}
+use Rattle.derived_layouts.specs.Theorem.{derivedOver, putAgain, packReusable, interfaceOfCall, RoomEnough, Again, runOver, pairsReusable, entryPointsReusable, resourcesReusable, lacking}
+use Rattle.derived_layouts.proofs.Theorem.{derived-serves}
 use Rattle.word.specs.Parse.{several}
 use Rattle.word.specs.Lists.{flat, among}
-use Rattle.numeric.specs.TypeWords.{typeFiled, typeOf, typeWord}
+use Rattle.numeric.specs.TypeWords.{typeWellFormed, typeOf, typeWord}
 use Rattle.bindings.specs.Rules.{sameSpace, bufferUse, samplerUse, viewFits, sampledFits, storageFits, textureUse, checkBindingUse, derivedTexture}
-use Rattle.bindings.specs.Rules.{deriveBindingType, handBack}
-use Rattle.bindings.specs.Format.{resourceTypeFiled, resourceTypeOf, readResource, resourceWords, bindingTypeFiled, bindingTypeOf, entryFiled, entryOf}
+use Rattle.bindings.specs.Rules.{deriveBindingType, resourceReusable}
+use Rattle.bindings.specs.Format.{resourceTypeWellFormed, resourceTypeOf, readResource, resourceWords, bindingTypeWellFormed, bindingTypeOf, entryWellFormed, entryOf}
 use Rattle.bindings.specs.Format.{bindingCode, entryWords}
-use Rattle.varying.specs.Format.{varFiled, varOf, varWord, payloadFiled, payloadOf, payloadWord}
+use Rattle.varying.specs.Format.{varWellFormed, varOf, varWord, payloadWellFormed, payloadOf, payloadWord}
 use Rattle.places.specs.Places.{placeFrom, placeIn, distinctPlaces}
-use Rattle.layouts.specs.Meaning.{entryNth, pushed, joinAt, joined}
+use Rattle.layouts.specs.Meaning.{pushed, joinAt, joined}
 use Rattle.sizes.specs.Meaning.{raiseAt, recorded}
 use Rattle.stage_lists.specs.Meaning.{varyingAt, rising, insert}
 use Rattle.places.specs.Records.{past, each, put, countOf, records}
-use Rattle.layouts.specs.Format.{groupsOf, layoutHead, layoutFiled, decodeLayout, encodeLayout}
-use Rattle.sizes.specs.Format.{sizesHead, sizesFiled, decodeSizes, encodeSizes}
-use Rattle.stage_lists.specs.Format.{stageHead, outFiled, decodeStage, encodeStage}
-use Rattle.interface.specs.Format.{readEntryPoint, sameBytes, hasName, distinctNames, readPack, torn, decode, packName, entryPointWords, recordWords, encode}
+use Rattle.layouts.specs.Format.{groupsOf, layoutHead, layoutWellFormed, decodeLayout, encodeLayout}
+use Rattle.sizes.specs.Format.{sizesHead, sizesWellFormed, decodeSizes, encodeSizes}
+use Rattle.stage_lists.specs.Format.{stageHead, outWellFormed, decodeStage, encodeStage}
+use Rattle.interface.specs.Format.{readEntryPoint, sameBytes, hasName, distinctNames, readPack, damaged, decode, packName, entryPointWords, recordWords, encode}
 use Rattle.entry_points.specs.Rules.{findFrom}
 use Rattle.resource_steps.specs.Resources.{resourceNth, recordSize, providedUse, provideStep, provideSteps, occupied, vacant, deriveStep, namedTexture, deriveSteps, resourceSteps}
 use Rattle.resource_steps.specs.Resources.{pairNumber, pairUse, pairUses}
@@ -152,29 +152,29 @@ abbrev out : List ℕ
 out = 7 ∷ 7 ∷ 7 ∷ 7 ∷ 7 ∷ []
 
 pub record Met : Type 0 where
-  pub filed : layoutFiled start ≡ true
+  pub well-formed : layoutWellFormed start ≡ true
   pub first : checkStage (derivedOver start vertex) .answer ≡ accepted
   pub second : checkStage (derivedOver (runOver start (vertex ∷ [])) compute) .answer ≡ answer 29 0 0 0
   pub third : checkStage (derivedOver (runOver start (vertex ∷ compute ∷ [])) fragment) .answer ≡ accepted
-  pub kept-first : packKept (interfaceOfCall vertex) ≡ true
-  pub kept-third : packKept (interfaceOfCall fragment) ≡ true
+  pub kept-first : packReusable (interfaceOfCall vertex) ≡ true
+  pub kept-third : packReusable (interfaceOfCall fragment) ≡ true
   pub room-first : RoomEnough vertex sizes out
   pub room-third : RoomEnough fragment sizes out
 
 pub met : Met
-unfolding yes sumOf closingSum several typeFiled typeOf typeWord sameSpace bufferUse samplerUse viewFits sampledFits storageFits textureUse checkBindingUse
-    derivedTexture deriveBindingType handBack resourceTypeFiled resourceTypeOf readResource resourceWords bindingTypeFiled bindingTypeOf entryFiled
-    entryOf bindingCode entryWords varFiled varOf varWord payloadFiled payloadOf payloadWord placeFrom placeIn distinctPlaces entryNth pushed joinAt
-    joined raiseAt recorded varyingAt rising insert past records each flat put groupsOf countOf layoutHead layoutFiled decodeLayout encodeLayout
-    sizesHead sizesFiled decodeSizes encodeSizes stageHead outFiled decodeStage encodeStage readVarying clips bytesOf noZero allZero readName
-    readWorkgroup readMesh contents among ofType pairsOf readEntryPoint sameBytes hasName distinctNames readPack torn decode packName
-    entryPointWords recordWords encode interface-entryNth findFrom workgroupUse workgroupStep inputStep inputSteps clipPlaces builtInPlaces localCount
-    locationUses vertexOutputs anyOf attachmentUse fragmentPlaces fragmentOutputs placesStep meshUse payloadMatch primitiveUse drawUse perVertexUse
+unfolding yes sumOf closingSum several typeWellFormed typeOf typeWord sameSpace bufferUse samplerUse viewFits sampledFits storageFits textureUse checkBindingUse
+    derivedTexture deriveBindingType resourceReusable resourceTypeWellFormed resourceTypeOf readResource resourceWords bindingTypeWellFormed bindingTypeOf entryWellFormed
+    entryOf bindingCode entryWords varWellFormed varOf varWord payloadWellFormed payloadOf payloadWord placeFrom placeIn distinctPlaces entryPointNth pushed joinAt
+    joined raiseAt recorded varyingAt rising insert past records each flat put groupsOf countOf layoutHead layoutWellFormed decodeLayout encodeLayout
+    sizesHead sizesWellFormed decodeSizes encodeSizes stageHead outWellFormed decodeStage encodeStage readVarying clips bytesOf noZero allZero readName
+    readWorkgroup readMesh contents among ofType pairsOf readEntryPoint sameBytes hasName distinctNames readPack damaged decode packName
+    entryPointWords recordWords encode interface-entryNth findFrom workgroupUse workgroupStep inputStep inputSteps clipSlots builtInSlots localCount
+    locationUses vertexOutputs anyOf attachmentUse fragmentSlots fragmentOutputs slotsStep meshUse payloadMatch primitiveUse drawUse perVertexUse
     lastStep localsOf stageOut resourceNth recordSize providedUse provideStep provideSteps occupied vacant deriveStep namedTexture deriveSteps resourceSteps
-    pairNumber pairUse pairUses behindInputs judgement stageBody listsGood callGood finish runBody checkStage runOver pairsKept entriesKept resourcesKept lacking
+    pairNumber pairUse pairUses behindInputs judgement stageBody listsGood callGood finish runBody checkStage runOver pairsReusable entryPointsReusable resourcesReusable lacking
 met =
     record {
-      filed = refl;
+      well-formed = refl;
       first = refl;
       second = refl;
       third = refl;
@@ -186,12 +186,12 @@ met =
 
 pub first-again : Again (checkStage (derivedOver start vertex)) (checkStage (putAgain (runOver start run) sizes out vertex))
 unfolding runOver
-first-again = hand-back start (met .filed) run .again [] (compute ∷ fragment ∷ []) vertex refl (met .first) (met .kept-first) sizes out (met .room-first)
+first-again = derived-serves start (met .well-formed) run .again [] (compute ∷ fragment ∷ []) vertex refl (met .first) (met .kept-first) sizes out (met .room-first)
 
 pub third-again :
     Again (checkStage (derivedOver (runOver start (vertex ∷ compute ∷ [])) fragment)) (checkStage (putAgain (runOver start run) sizes out fragment))
 third-again =
-    hand-back start (met .filed) run .again (vertex ∷ compute ∷ []) [] fragment refl (met .third) (met .kept-third) sizes out (met .room-third)
+    derived-serves start (met .well-formed) run .again (vertex ∷ compute ∷ []) [] fragment refl (met .third) (met .kept-third) sizes out (met .room-third)
 
 -- ---- outside the five conditions
 
@@ -212,7 +212,7 @@ pub record Case : Type 0 where
 
 abbrev right : Case → Bool
 right c =
-    eqb (pick (packKept (interfaceOfCall (c .call))) 1 0) (pick (c .kept) 1 0)
+    eqb (pick (packReusable (interfaceOfCall (c .call))) 1 0) (pick (c .kept) 1 0)
     && (eqb (checkStage (derivedOver start (c .call)) .answer .number) 0
     && eqb (checkStage (putAgain (checkStage (derivedOver start (c .call)) .layout) sizes (0 ∷ 0 ∷ []) (c .call)) .answer .number) (c .again))
 
@@ -253,14 +253,14 @@ cases =
     []
 
 pub cases-right : allRight cases ≡ true
-unfolding allRight cases yes sumOf closingSum several typeFiled typeOf typeWord sameSpace bufferUse samplerUse viewFits sampledFits storageFits textureUse checkBindingUse
-    derivedTexture deriveBindingType handBack resourceTypeFiled resourceTypeOf readResource resourceWords bindingTypeFiled bindingTypeOf entryFiled
-    entryOf bindingCode entryWords varFiled varOf varWord payloadFiled payloadOf payloadWord placeFrom placeIn distinctPlaces entryNth pushed joinAt
-    joined raiseAt recorded varyingAt rising insert past records each flat put groupsOf countOf layoutHead layoutFiled decodeLayout encodeLayout
-    sizesHead sizesFiled decodeSizes encodeSizes stageHead outFiled decodeStage encodeStage readVarying clips bytesOf noZero allZero readName
-    readWorkgroup readMesh contents among ofType pairsOf readEntryPoint sameBytes hasName distinctNames readPack torn decode packName
-    entryPointWords recordWords encode interface-entryNth findFrom workgroupUse workgroupStep inputStep inputSteps clipPlaces builtInPlaces localCount
-    locationUses vertexOutputs anyOf attachmentUse fragmentPlaces fragmentOutputs placesStep meshUse payloadMatch primitiveUse drawUse perVertexUse
+unfolding allRight cases yes sumOf closingSum several typeWellFormed typeOf typeWord sameSpace bufferUse samplerUse viewFits sampledFits storageFits textureUse checkBindingUse
+    derivedTexture deriveBindingType resourceReusable resourceTypeWellFormed resourceTypeOf readResource resourceWords bindingTypeWellFormed bindingTypeOf entryWellFormed
+    entryOf bindingCode entryWords varWellFormed varOf varWord payloadWellFormed payloadOf payloadWord placeFrom placeIn distinctPlaces entryPointNth pushed joinAt
+    joined raiseAt recorded varyingAt rising insert past records each flat put groupsOf countOf layoutHead layoutWellFormed decodeLayout encodeLayout
+    sizesHead sizesWellFormed decodeSizes encodeSizes stageHead outWellFormed decodeStage encodeStage readVarying clips bytesOf noZero allZero readName
+    readWorkgroup readMesh contents among ofType pairsOf readEntryPoint sameBytes hasName distinctNames readPack damaged decode packName
+    entryPointWords recordWords encode interface-entryNth findFrom workgroupUse workgroupStep inputStep inputSteps clipSlots builtInSlots localCount
+    locationUses vertexOutputs anyOf attachmentUse fragmentSlots fragmentOutputs slotsStep meshUse payloadMatch primitiveUse drawUse perVertexUse
     lastStep localsOf stageOut resourceNth recordSize providedUse provideStep provideSteps occupied vacant deriveStep namedTexture deriveSteps resourceSteps
-    pairNumber pairUse pairUses behindInputs judgement stageBody listsGood callGood finish runBody checkStage runOver pairsKept entriesKept resourcesKept lacking
+    pairNumber pairUse pairUses behindInputs judgement stageBody listsGood callGood finish runBody checkStage runOver pairsReusable entryPointsReusable resourcesReusable lacking
 cases-right = refl

@@ -23,8 +23,8 @@ use Rattle.interface.specs.Format.{isTexture, isSampler, ofType, pairGood}
 use Rattle.interface.specs.declared.types.ShaderStage.{ShaderStage}
 use Rattle.interface.specs.declared.types.SamplingPair.{SamplingPair}
 use Rattle.resource_steps.specs.Resources.{resourceNth, namedTexture, pairNumber, typeAt, pairUse, pairUses}
-use Rattle.derived_layouts.specs.HandBack.{integer, comparison, pairKept, pairsKept}
-use Rattle.derived_layouts.proofs.Derives.{Placed}
+use Rattle.derived_layouts.specs.Theorem.{integer, comparison, pairReusable, pairsReusable}
+use Rattle.derived_layouts.proofs.Derives.{HasEntry}
 use Rattle.derived_layouts.proofs.Provides.{placed-found}
 
 -- ---- one pair
@@ -61,11 +61,11 @@ of-type test (r ∷ rs) zero h = h
 of-type test (r ∷ rs) (suc i) h = of-type test rs i h
 
 module _ (stage : ShaderStage) (resources : List Resource) (all : List SamplingPair) (M : Layout) (d : distinctEntries (M .entries) ≡ true) where
-  type-placed : (i : ℕ) (p : Placed stage (namedTexture i all) (resourceNth resources i) M) → typeAt M (resourceNth resources i .bind) ≡ p .type
+  type-placed : (i : ℕ) (p : HasEntry stage (namedTexture i all) (resourceNth resources i) M) → typeAt M (resourceNth resources i .bind) ≡ p .type
   type-placed i p = rw (placed-found stage (namedTexture i all) (resourceNth resources i) M d p) (p .holds)
 
-  pair-number : (t s : ℕ) (p : Placed stage (namedTexture t all) (resourceNth resources t) M) (q : Placed stage (namedTexture s all) (resourceNth resources s) M)
-      → namedTexture t all ≡ true → ofType isTexture resources t ≡ true → ofType isSampler resources s ≡ true → pairKept resources (record { texture = t; sampler = s }) ≡ true
+  pair-number : (t s : ℕ) (p : HasEntry stage (namedTexture t all) (resourceNth resources t) M) (q : HasEntry stage (namedTexture s all) (resourceNth resources s) M)
+      → namedTexture t all ≡ true → ofType isTexture resources t ≡ true → ofType isSampler resources s ≡ true → pairReusable resources (record { texture = t; sampler = s }) ≡ true
       → pairNumber (typeAt M (resourceNth resources t .bind)) (typeAt M (resourceNth resources s .bind)) ≡ 0
   pair-number t s p q n h k c =
       let x = rw n at (p .derived) in
@@ -75,8 +75,8 @@ module _ (stage : ShaderStage) (resources : List Resource) (all : List SamplingP
 
   -- ---- each pair in pack order
 
-  module _ (listed : List ℕ) (placed : (i : ℕ) → among listed i ≡ true → Placed stage (namedTexture i all) (resourceNth resources i) M) where
-    pair-use : (p : SamplingPair) → pairGood resources listed p ≡ true → pairKept resources p ≡ true → namedTexture (p .texture) all ≡ true
+  module _ (listed : List ℕ) (placed : (i : ℕ) → among listed i ≡ true → HasEntry stage (namedTexture i all) (resourceNth resources i) M) where
+    pair-use : (p : SamplingPair) → pairGood resources listed p ≡ true → pairReusable resources p ≡ true → namedTexture (p .texture) all ≡ true
         → pairUse M resources p ≡ accepted
     unfolding pairUse
     pair-use p g k n =
@@ -86,18 +86,18 @@ module _ (stage : ShaderStage) (resources : List Resource) (all : List SamplingP
         let os : ofType isSampler resources (p .sampler) ≡ true = search (first, second) in
         rw (pair-number (p .texture) (p .sampler) (placed (p .texture) mt) (placed (p .sampler) ms) n ot os k)
 
-    pair-uses : (ps : List SamplingPair) → every (pairGood resources listed) ps ≡ true → pairsKept resources ps ≡ true
+    pair-uses : (ps : List SamplingPair) → every (pairGood resources listed) ps ≡ true → pairsReusable resources ps ≡ true
         → ((i : ℕ) → namedTexture i ps ≡ true → namedTexture i all ≡ true) → pairUses M resources ps ≡ accepted
-    unfolding pairUses every pairsKept namedTexture
+    unfolding pairUses every pairsReusable namedTexture
     pair-uses [] g k n = refl
     pair-uses (p ∷ ps) g k n =
         let good = pairGood resources listed p in
         let goods = every (pairGood resources listed) ps in
-        let kept = pairKept resources p in
+        let kept = pairReusable resources p in
         let here = n (p .texture) (rw (eq-eqb (p .texture) (p .texture) refl)) in
-        rw (pair-use p (first-passes good goods g) (first-passes kept (pairsKept resources ps) k) here)
-        (pair-uses ps (rest-passes good goods g) (rest-passes kept (pairsKept resources ps) k)
+        rw (pair-use p (first-passes good goods g) (first-passes kept (pairsReusable resources ps) k) here)
+        (pair-uses ps (rest-passes good goods g) (rest-passes kept (pairsReusable resources ps) k)
         (λ i h. n i (by-test (eqb (p .texture) i) (λ t. rw t) (λ f. rw f h))))
 
-    pub pairs-accepted : every (pairGood resources listed) all ≡ true → pairsKept resources all ≡ true → pairUses M resources all ≡ accepted
+    pub pairs-accepted : every (pairGood resources listed) all ≡ true → pairsReusable resources all ≡ true → pairUses M resources all ≡ accepted
     pairs-accepted g k = pair-uses all g k (λ i h. h)

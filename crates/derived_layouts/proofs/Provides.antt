@@ -10,34 +10,34 @@ use borrow.Author.Tests.{eq-eqb, le-leb}
 use Rattle.word.specs.Choice.{pick}
 use Rattle.word.specs.Answers.{accepted}
 use Rattle.word.specs.Lists.{among}
-use Rattle.bindings.specs.Rules.{handBack}
-use Rattle.bindings.specs.Format.{typeHeld}
+use Rattle.bindings.specs.Rules.{resourceReusable}
+use Rattle.bindings.specs.Format.{typeEncodable}
 use Rattle.bindings.specs.declared.types.ResourceBinding.{ResourceBinding}
 use Rattle.bindings.specs.declared.types.AddressSpace.{AddressSpace}
 use Rattle.bindings.specs.declared.types.Resource.{Resource}
 use Rattle.bindings.specs.declared.types.ResourceType.{ResourceType}
 use Rattle.bindings.specs.declared.types.ResourceType.the-variants as Res
-use Rattle.bindings.proofs.HandBack.{derived-accepted}
+use Rattle.bindings.proofs.DerivedServes.{derived-accepted}
 use Rattle.word.proofs.Truth.{by-test}
 use Rattle.layouts.specs.Meaning.{Layout, findEntry, distinctEntries}
 use Rattle.sizes.specs.Meaning.{Sizes, sizePlaces, sizeHas, raiseAt, sizeRecord, recorded, sizeRecordWidth}
-use Rattle.places.specs.Records.{fits}
+use Rattle.places.specs.Records.{roomFor}
 use Rattle.sizes.specs.declared.size_record.SizeRecord.{SizeRecord}
 use Rattle.places.specs.declared.found.Found.the-variants.{At}
 use Rattle.sizes.proofs.SizeLaws.{places-raised}
 use Rattle.interface.specs.declared.types.ShaderStage.{ShaderStage}
 use Rattle.resource_steps.specs.Resources.{resourceNth, SizesAfter, sizesAfter, recordSize, providedUse, provideStep, provideSteps}
-use Rattle.derived_layouts.specs.HandBack.{isBuffer, lacking}
+use Rattle.derived_layouts.specs.Theorem.{isBuffer, lacking}
 use Rattle.derived_layouts.proofs.Entries.{find-unique}
-use Rattle.derived_layouts.proofs.Derives.{Placed}
+use Rattle.derived_layouts.proofs.Derives.{HasEntry}
 
 -- ---- one resource against the layout
 
-module _ (stage : ShaderStage) (named : Bool) (r : Resource) (M : Layout) (d : distinctEntries (M .entries) ≡ true) (p : Placed stage named r M) where
+module _ (stage : ShaderStage) (named : Bool) (r : Resource) (M : Layout) (d : distinctEntries (M .entries) ≡ true) (p : HasEntry stage named r M) where
   pub placed-found : findEntry (r .bind) M ≡ At (p .at)
   placed-found = let z : 0 + p .at ≡ p .at = omega arith in find-unique (r .bind) (M .entries) 0 (p .at) d (p .there) (p .place) ∙ ap At z
 
-  pub placed-serves : typeHeld (r .ty) ≡ true → handBack (r .ty) ≡ true → providedUse stage M r ≡ accepted
+  pub placed-serves : typeEncodable (r .ty) ≡ true → resourceReusable (r .ty) ≡ true → providedUse stage M r ≡ accepted
   unfolding providedUse
   placed-serves h k = rw (placed-found, p .seen, p .holds, derived-accepted (r .ty) named (p .type) h k (p .derived))
 
@@ -77,7 +77,7 @@ module _ (resources : List Resource) (is : List ℕ) (bind : ResourceBinding) (S
   unfolding recordSize recorded
   raises size space t = rw t
 
-  adds : (size : ℕ) (space : AddressSpace) → sizeHas bind (S .records) ≡ false → fits sizeRecordWidth (S .room) ≡ true
+  adds : (size : ℕ) (space : AddressSpace) → sizeHas bind (S .records) ≡ false → roomFor sizeRecordWidth (S .room) ≡ true
       → recordSize bind (Res.Buffer size space) S ≡ sizesAfter accepted (added bind size S)
   unfolding recordSize recorded
   adds size space n f = rw (n, f)

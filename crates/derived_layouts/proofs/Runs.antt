@@ -8,37 +8,37 @@ use Rattle.word.specs.Answers.{accepted}
 use Rattle.word.specs.Lists.{among}
 use Rattle.word.proofs.Truth.{first}
 use Rattle.layouts.specs.Meaning.{Layout}
-use Rattle.layouts.specs.Format.{layoutFiled, layoutGood, decodeLayout, encodeLayout}
+use Rattle.layouts.specs.Format.{layoutWellFormed, layoutGood, decodeLayout, encodeLayout}
 use Rattle.sizes.specs.Format.{decodeSizes}
 use Rattle.stage_lists.specs.Format.{decodeStage, encodeStage}
-use Rattle.layouts.proofs.LayoutLists.{good-decode, filed-encode, decode-encode}
-use Rattle.interface.specs.Meaning.{Interface, EntryPoint, entryNth}
+use Rattle.layouts.proofs.LayoutLists.{good-decode, well-formed-encode, decode-encode}
+use Rattle.interface.specs.Meaning.{Interface, EntryPoint, entryPointNth}
 use Rattle.output_steps.specs.ListOut.{stageOut}
 use Rattle.output_steps.specs.declared.types.Request.{Request}
 use Rattle.stage.specs.Meaning.{Lent, Call}
 use Rattle.resource_steps.specs.Resources.{resourceNth, namedTexture, DeriveResult, deriveSteps}
 use Rattle.stage.specs.Stage.{requestOf, inputWalk, behindPairs, stageBody, finish, runBody, checkStage}
-use Rattle.stage.proofs.GivenLaws.{resource-held}
-use Rattle.derived_layouts.specs.HandBack.{derivedOver, runOver}
+use Rattle.stage.proofs.GivenLaws.{resource-encodable}
+use Rattle.derived_layouts.specs.Theorem.{derivedOver, runOver}
 use Rattle.derived_layouts.proofs.Growth.{Grows, grows-refl, grows-trans}
-use Rattle.derived_layouts.proofs.Derives.{Placed, Folded, derive-steps}
+use Rattle.derived_layouts.proofs.Derives.{HasEntry, Folded, derive-steps}
 use Rattle.derived_layouts.proofs.Bodies.{derived-layout, derived-parts}
 use Rattle.derived_layouts.proofs.Calls.{runOf, Runs, runs-on, by-call}
 
 -- ---- one list after another
 
 pub record Ran (before after : List ℕ) : Type 0 where
-  pub filed : layoutFiled after ≡ true
+  pub well-formed : layoutWellFormed after ≡ true
   pub grows : Grows (decodeLayout before) (decodeLayout after)
 
-pub ran-none : (l : List ℕ) → layoutFiled l ≡ true → Ran l l
-ran-none l f = record { filed = f; grows = grows-refl (decodeLayout l) }
+pub ran-none : (l : List ℕ) → layoutWellFormed l ≡ true → Ran l l
+ran-none l f = record { well-formed = f; grows = grows-refl (decodeLayout l) }
 
 pub ran-on : (l m n : List ℕ) → Ran l m → Ran m n → Ran l n
-ran-on l m n p q = record { filed = q .filed; grows = grows-trans (decodeLayout l) (decodeLayout m) (decodeLayout n) (p .grows) (q .grows) }
+ran-on l m n p q = record { well-formed = q .well-formed; grows = grows-trans (decodeLayout l) (decodeLayout m) (decodeLayout n) (p .grows) (q .grows) }
 
 ran-encoded : (l : List ℕ) (X : Layout) → layoutGood X ≡ true → Grows (decodeLayout l) X → Ran l (encodeLayout X)
-ran-encoded l X g h = record { filed = filed-encode X g; grows = rw (decode-encode X g) h }
+ran-encoded l X g h = record { well-formed = well-formed-encode X g; grows = rw (decode-encode X g) h }
 
 -- ---- the steps of a call in derived mode
 
@@ -51,11 +51,11 @@ module _ (l : List ℕ) (c : Call) where
   unfolding runBody finish
   run-layout i e = ap encodeLayout (derived-layout (requestOf (c .codes)) i e (decodeStage (c .lent .inputs)) (decodeLayout l) (decodeSizes (c .lent .sizes)))
 
-  module _ (f : layoutFiled l ≡ true) where
+  module _ (f : layoutWellFormed l ≡ true) where
     folded : (b : Runs (derivedOver l c)) (e : EntryPoint)
         → Folded (requestOf (c .codes) .stage) (b .interface .resources) (e .pairs) (e .resources) (decodeLayout l) (stepsOf (b .interface) e)
     folded b e =
-        derive-steps (requestOf (c .codes) .stage) (b .interface .resources) (e .pairs) (resource-held (c .pack) (b .interface) (b .decoded)) (e .resources) (decodeLayout l)
+        derive-steps (requestOf (c .codes) .stage) (b .interface .resources) (e .pairs) (resource-encodable (c .pack) (b .interface) (b .decoded)) (e .resources) (decodeLayout l)
         (good-decode l f)
 
     pub ran-call : Ran l (checkStage (derivedOver l c) .layout)
@@ -63,20 +63,20 @@ module _ (l : List ℕ) (c : Call) where
         by-call (λ o. Ran l (o .layout)) (derivedOver l c)
         (λ n z. ran-none l f)
         (λ b.
-        let e = entryNth (b .interface .entries) (b .position) in
+        let e = entryPointNth (b .interface .entries) (b .position) in
         let x = folded b e in
         rw (run-layout (b .interface) e) (ran-encoded l (stepsOf (b .interface) e .layout) (x .good) (x .grows)))
 
 -- ---- an accepted call in derived mode
 
 abbrev pub entryOf : (c : Call) → Runs c → EntryPoint
-entryOf c b = entryNth (b .interface .entries) (b .position)
+entryOf c b = entryPointNth (b .interface .entries) (b .position)
 
 -- what it leaves: every resource is served, what is judged behind the resources passed, and the list out is written
 pub record Leaves (l : List ℕ) (c : Call) : Type 0 where
   pub runs : Runs (derivedOver l c)
   pub placed : (i : ℕ) → among (entryOf (derivedOver l c) runs .resources) i ≡ true
-      → Placed (requestOf (c .codes) .stage) (namedTexture i (entryOf (derivedOver l c) runs .pairs)) (resourceNth (runs .interface .resources) i)
+      → HasEntry (requestOf (c .codes) .stage) (namedTexture i (entryOf (derivedOver l c) runs .pairs)) (resourceNth (runs .interface .resources) i)
       (decodeLayout (checkStage (derivedOver l c) .layout))
   pub passed : behindPairs (requestOf (c .codes)) (runs .interface) (entryOf (derivedOver l c) runs) (decodeStage (c .lent .inputs)) ≡ accepted
   pub written :
@@ -95,7 +95,7 @@ module _ (derived : Bool) (q : Request) (t : Lent) (i : Interface) (e : EntryPoi
   unfolding runBody finish
   run-out h = rw h
 
-module _ (l : List ℕ) (c : Call) (f : layoutFiled l ≡ true) (b : Runs (derivedOver l c)) (h : checkStage (derivedOver l c) .answer ≡ accepted) where
+module _ (l : List ℕ) (c : Call) (f : layoutWellFormed l ≡ true) (b : Runs (derivedOver l c)) (h : checkStage (derivedOver l c) .answer ≡ accepted) where
   abbrev entry : EntryPoint
   entry = entryOf (derivedOver l c) b
 
@@ -123,13 +123,13 @@ module _ (l : List ℕ) (c : Call) (f : layoutFiled l ≡ true) (b : Runs (deriv
 
 -- ---- a list of calls in derived mode
 
-pub ran-calls : (l : List ℕ) (calls : List Call) → layoutFiled l ≡ true → Ran l (runOver l calls)
+pub ran-calls : (l : List ℕ) (calls : List Call) → layoutWellFormed l ≡ true → Ran l (runOver l calls)
 unfolding runOver
 ran-calls l [] f = ran-none l f
 ran-calls l (c ∷ cs) f =
     let first = ran-call l c f in
     let m = checkStage (derivedOver l c) .layout in
-    ran-on l m (runOver m cs) first (ran-calls m cs (first .filed))
+    ran-on l m (runOver m cs) first (ran-calls m cs (first .well-formed))
 
 pub run-append : (l : List ℕ) (before after : List Call) → runOver l (before ++ after) ≡ runOver (runOver l before) after
 unfolding runOver

@@ -1,1 +1,1 @@
-pub mod HandBack
+pub mod DerivedServes

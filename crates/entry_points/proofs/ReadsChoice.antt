@@ -14,11 +14,11 @@ use Rattle.word.specs.Choice.{pick}
 use Rattle.word.specs.Words.{wordAt}
 use Rattle.word.specs.Answers.{answer, refused}
 use Rattle.word.specs.declared.answer.Answer.{Answer}
-use Rattle.interface.specs.Meaning.{EntryPoint, entryNth}
-use Rattle.interface.specs.Format.{stageAt, stageCode, named, sameBytes, Decoded, Torn, Misfiled, Pack, decode, decodedNumber, interfaceOf}
+use Rattle.interface.specs.Meaning.{EntryPoint, entryPointNth}
+use Rattle.interface.specs.Format.{stageAt, stageCode, named, sameBytes, Decoded, Damaged, Malformed, Pack, decode, decodedNumber, interfaceOf}
 use Rattle.interface.specs.inner.Reads.{nameAt, standing}
 use Rattle.entry_points.specs.Rules.{ofStage, findFrom, onlyFrom, onlyEntryPoint, onlyAnswer, finalizeName, met, chosenIn}
-use Rattle.interface.specs.inner.Parts.{partsAt, entryEnd, entryAt, entryCount, entriesAt, Heads}
+use Rattle.interface.specs.inner.Parts.{partsAt, entryEnd, entryPointAt, entryCount, entriesAt, Heads}
 use Rattle.interface.specs.declared.types.ShaderStage.{ShaderStage}
 use Rattle.entry_points.specs.declared.choose.Chosen.{Chosen}
 use Rattle.entry_points.specs.declared.choose.Chosen.the-variants as Ch
@@ -30,9 +30,9 @@ use Rattle.interface.proofs.ReadsPack.{accepted}
 
 module _ (ws heads : List ℕ) (p at : ℕ) (h : decodedNumber (decode ws) ≡ 0) (g : Heads ws heads) (k : p < length (interfaceOf (decode ws) .entries)) (ea : at ≡ wordAt heads p) where
   abbrev here : EntryPoint
-  here = entryNth (interfaceOf (decode ws) .entries) p
+  here = entryPointNth (interfaceOf (decode ws) .entries) p
 
-  stands-here : entryAt ws at ≡ here
+  stands-here : entryPointAt ws at ≡ here
   stands-here = nth-read ws heads p at h g ea k (partsAt ws at) refl
 
   pub stage-read : (w a b : ℕ) (s stage : ShaderStage) → w ≡ wordAt ws at → s ≡ stageAt (w / 16777216 % 8) → a ≡ stageCode s → b ≡ stageCode stage
@@ -49,14 +49,14 @@ named-other e stage name b h f = rw (← h, f)
 
 -- ---- by stage and name
 
-drop-nth : (es : List EntryPoint) (i : ℕ) → i < length es → drop i es ≡ entryNth es i ∷ drop (i + 1) es
-unfolding entryNth
+drop-nth : (es : List EntryPoint) (i : ℕ) → i < length es → drop i es ≡ entryPointNth es i ∷ drop (i + 1) es
+unfolding entryPointNth
 drop-nth [] i h = absurd (omega arith)
 drop-nth (e ∷ es) zero h = refl
 drop-nth (e ∷ es) (suc i) h = rw suc-add (drop-nth es i (omega arith))
 
 module _ (stage : ShaderStage) (name : List ℕ) (es : List EntryPoint) (i n : ℕ) (b : Bool) (goal : Chosen) (inv : goal ≡ findFrom stage name (drop i es) i)
-    (k : i < n) (l : n ≡ length es) (e : b ≡ named stage name (entryNth es i)) where
+    (k : i < n) (l : n ≡ length es) (e : b ≡ named stage name (entryPointNth es i)) where
   find-step : goal ≡ pick b (Ch.At i) (findFrom stage name (drop (i + 1) es) (i + 1))
   unfolding findFrom
   find-step = inv ∙ rw (drop-nth es i (omega arith), e)
@@ -102,9 +102,9 @@ only-step stage Ch.Several e es i true h = sym (several-stays stage es (i + 1))
 only-step stage Ch.Several e es i false h = sym (several-stays stage es (i + 1))
 
 pub only-onward : (stage : ShaderStage) (es : List EntryPoint) (found more goal : Chosen) (i n : ℕ) → goal ≡ onlyFrom stage found (drop i es) i
-    → i < n → n ≡ length es → more ≡ met found (ofStage stage (entryNth es i)) i → goal ≡ onlyFrom stage more (drop (i + 1) es) (i + 1)
+    → i < n → n ≡ length es → more ≡ met found (ofStage stage (entryPointNth es i)) i → goal ≡ onlyFrom stage more (drop (i + 1) es) (i + 1)
 only-onward stage es found more goal i n inv k l m =
-    inv ∙ rw (drop-nth es i (omega arith), m) (only-step stage found (entryNth es i) (drop (i + 1) es) i (ofStage stage (entryNth es i)) refl)
+    inv ∙ rw (drop-nth es i (omega arith), m) (only-step stage found (entryPointNth es i) (drop (i + 1) es) i (ofStage stage (entryPointNth es i)) refl)
 
 pub only-ended : (stage : ShaderStage) (found goal : Chosen) (es : List EntryPoint) (i n : ℕ) → goal ≡ onlyFrom stage found (drop i es) i → n ≡ length es → n ≤ i → found ≡ goal
 unfolding onlyFrom
@@ -142,7 +142,7 @@ few-in ws c n e z k = by c k
     h = sym e ∙ z
 
     few : length (interfaceOf (decode ws) .entries) ≤ 16
-    few = rw (accepted ws h .entries, records-length (entryAt ws) (entryEnd ws) (entryCount ws) (entriesAt ws)) (accepted ws h .few-entries)
+    few = rw (accepted ws h .entries, records-length (entryPointAt ws) (entryEnd ws) (entryCount ws) (entriesAt ws)) (accepted ws h .few-entries)
 
     by : (c : Chosen) → chosenIn c (length (interfaceOf (decode ws) .entries)) ≡ true → chosenIn c 16 ≡ true
     by (Ch.At i) k = lt-ltb i 16 (omega (arith, ltb-true i (length (interfaceOf (decode ws) .entries)) k, few))
@@ -165,8 +165,8 @@ module _ (ws : List ℕ) (stage n : ℕ) (x : Answer) (e : n ≡ decodedNumber (
   pack-refused z h = by (decode ws) (λ k. z (e ∙ k)) (rw e at h)
     where
       by : (d : Decoded) → (decodedNumber d ≡ 0 → ⊥) → x ≡ refused (decodedNumber d) → x ≡ finalizeName d stage
-      by Torn z h = h
-      by Misfiled z h = h
+      by Damaged z h = h
+      by Malformed z h = h
       by (Pack i) z h = absurd (z refl)
 
   stage-of : (x : Answer) → n ≡ 0 → x ≡ pick (ltb stage 5) (onlyAnswer (onlyEntryPoint (stageAt stage) (interfaceOf (decode ws) .entries))) (refused 3) → x ≡ finalizeName (decode ws) stage
@@ -174,8 +174,8 @@ module _ (ws : List ℕ) (stage n : ℕ) (x : Answer) (e : n ≡ decodedNumber (
   stage-of x z h = by (decode ws) (sym e ∙ z) h
     where
       by : (d : Decoded) → decodedNumber d ≡ 0 → x ≡ pick (ltb stage 5) (onlyAnswer (onlyEntryPoint (stageAt stage) (interfaceOf d .entries))) (refused 3) → x ≡ finalizeName d stage
-      by Torn z h = absurd (omega arith)
-      by Misfiled z h = absurd (omega arith)
+      by Damaged z h = absurd (omega arith)
+      by Malformed z h = absurd (omega arith)
       by (Pack i) z h = h
 
   pub stage-refused : n ≡ 0 → 4 < stage → x ≡ refused 3 → x ≡ finalizeName (decode ws) stage

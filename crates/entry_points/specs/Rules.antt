@@ -7,7 +7,7 @@ use Rattle.word.specs.Choice.{pick}
 use Rattle.word.specs.Answers.{answer, refused}
 use Rattle.word.specs.declared.answer.Answer.{Answer}
 use Rattle.interface.specs.Meaning.{EntryPoint}
-use Rattle.interface.specs.Format.{Decoded, Torn, Misfiled, Pack, stageAt, stageCode, named}
+use Rattle.interface.specs.Format.{Decoded, Damaged, Malformed, Pack, stageAt, stageCode, named}
 use Rattle.interface.specs.declared.types.ShaderStage.{ShaderStage}
 use Rattle.entry_points.specs.declared.choose.Chosen.{Chosen}
 use Rattle.entry_points.specs.declared.choose.Chosen.the-variants as Ch
@@ -44,8 +44,8 @@ onlyAnswer Ch.Several = refused 12
 
 -- 'Choosing a name where none is given: 1, 2, 3, 11, 12'
 unfoldable pub finalizeName : Decoded → ℕ → Answer
-finalizeName Torn stage = refused 1
-finalizeName Misfiled stage = refused 2
+finalizeName Damaged stage = refused 1
+finalizeName Malformed stage = refused 2
 finalizeName (Pack i) stage = pick (ltb stage 5) (onlyAnswer (onlyEntryPoint (stageAt stage) (i .entries))) (refused 3)
 
 -- ---- the walk over entry points

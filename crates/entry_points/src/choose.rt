@@ -4,7 +4,7 @@ ghost use mathlib.Core.Bool.{true};
 ghost use Prim.Native.Nat.{_+_, _<_};
 ghost use lib.ListN.{length};
 ghost use Rattle.interface.specs.Format.{named, decode, decodedNumber, interfaceOf};
-ghost use Rattle.interface.specs.Meaning.{entryNth};
+ghost use Rattle.interface.specs.Meaning.{entryPointNth};
 ghost use Rattle.interface.specs.inner.Parts.{Heads};
 ghost use Rattle.entry_points.specs.Rules.{met, chosenIn, ofStage, findEntryPoint, onlyEntryPoint, onlyAnswer, finalizeName};
 use crate::names::same_name;
@@ -27,7 +27,7 @@ pub enum Chosen {
 fn of_stage(pack: &[u32], heads: &[u16], position: usize, stage: ShaderStage) -> bool
     requires { ⌜ (decodedNumber (decode (now pack)) ≡ 0) × Heads (now pack) (now heads) ⌝ }
     requires { ⌜ position < length (interfaceOf (decode (now pack)) .entries) ⌝ }
-    ensures { λ r. ⌜ r ≡ ofStage stage (entryNth (interfaceOf (decode (now (pack .entry))) .entries) position) ⌝ }
+    ensures { λ r. ⌜ r ≡ ofStage stage (entryPointNth (interfaceOf (decode (now (pack .entry))) .entries) position) ⌝ }
 {
     let at = position_at(heads, position) as usize;
     let head = pack[at];
@@ -38,7 +38,7 @@ fn of_stage(pack: &[u32], heads: &[u16], position: usize, stage: ShaderStage) ->
 fn is_named(pack: &[u32], heads: &[u16], position: usize, stage: ShaderStage, name: &[u8]) -> bool
     requires { ⌜ (decodedNumber (decode (now pack)) ≡ 0) × Heads (now pack) (now heads) ⌝ }
     requires { ⌜ position < length (interfaceOf (decode (now pack)) .entries) ⌝ }
-    ensures { λ r. ⌜ r ≡ named stage (now (name .entry)) (entryNth (interfaceOf (decode (now (pack .entry))) .entries) position) ⌝ }
+    ensures { λ r. ⌜ r ≡ named stage (now (name .entry)) (entryPointNth (interfaceOf (decode (now (pack .entry))) .entries) position) ⌝ }
 {
     if of_stage(pack, heads, position, stage) {
         return same_name(pack, position_at(heads, position) as usize, name);
@@ -67,7 +67,7 @@ pub fn find_entry_point(pack: &[u32], heads: &[u16], stage: ShaderStage, name: &
 fn met_one(pack: &[u32], heads: &[u16], stage: ShaderStage, found: Chosen, i: usize) -> Chosen
     requires { ⌜ (decodedNumber (decode (now pack)) ≡ 0) × Heads (now pack) (now heads) ⌝ }
     requires { ⌜ (i < length (interfaceOf (decode (now pack)) .entries)) × (chosenIn found i ≡ true) ⌝ }
-    ensures { λ r. ⌜ r ≡ met found (ofStage stage (entryNth (interfaceOf (decode (now (pack .entry))) .entries) i)) i ⌝ }
+    ensures { λ r. ⌜ r ≡ met found (ofStage stage (entryPointNth (interfaceOf (decode (now (pack .entry))) .entries) i)) i ⌝ }
     ensures { λ r. ⌜ chosenIn r (i + 1) ≡ true ⌝ }
 {
     if of_stage(pack, heads, i, stage) {

@@ -16,8 +16,8 @@ use Rattle.numeric.specs.Types.{fits}
 use Rattle.numeric.specs.TypeWords.{typeOf}
 use Rattle.numeric.proofs.Subtype.{fits-itself}
 use Rattle.bindings.specs.Rules.{sameBool}
-use Rattle.bindings.proofs.HandBack.{same-bool}
-use Rattle.varying.specs.Format.{locationFiled, varOf}
+use Rattle.bindings.proofs.DerivedServes.{same-bool}
+use Rattle.varying.specs.Format.{locationWellFormed, varOf}
 use Rattle.varying.specs.declared.InterfaceVar.{InterfaceVar}
 use Rattle.varying.specs.declared.Located.{Located}
 use Rattle.numeric.proofs.Joined.{kind-back}
@@ -107,38 +107,38 @@ pub met-at : (b k : BuiltIn) (w r : InputWalk) → b ≡ k → r ≡ metBuiltIn 
 met-at b k w r e h = rw e h
 
 -- one input by its words, which a test tells apart
-module _ (x y : ℕ) (t : Bool) (ht : t ≡ locationFiled x) where
+module _ (x y : ℕ) (t : Bool) (ht : t ≡ locationWellFormed x) where
   module _ (stage : ShaderStage) (provided : List Located) where
     pub number-local : (location number : ℕ) → t ≡ true → location ≡ contentOf x → number ≡ inputNumber stage (varOf y) (varyingAt location provided)
-        → number ≡ pick (locationFiled x) (inputNumber stage (varOf y) (varyingAt (contentOf x) provided)) 0
+        → number ≡ pick (locationWellFormed x) (inputNumber stage (varOf y) (varyingAt (contentOf x) provided)) 0
     number-local location number is hl hn = rw (← ht, is, ← hl) hn
 
-    pub number-built-in : t ≡ false → 0 ≡ pick (locationFiled x) (inputNumber stage (varOf y) (varyingAt (contentOf x) provided)) 0
+    pub number-built-in : t ≡ false → 0 ≡ pick (locationWellFormed x) (inputNumber stage (varOf y) (varyingAt (contentOf x) provided)) 0
     number-built-in is = rw (← ht, is)
 
   module _ (w m : InputWalk) where
-    pub past-local : t ≡ true → m ≡ metLocal (varOf y) w → m ≡ pick (locationFiled x) (metLocal (varOf y) w) (metBuiltIn (builtInOf x) w)
+    pub past-local : t ≡ true → m ≡ metLocal (varOf y) w → m ≡ pick (locationWellFormed x) (metLocal (varOf y) w) (metBuiltIn (builtInOf x) w)
     past-local is e = rw (← ht, is) e
 
     pub past-built-in : (b : BuiltIn) → t ≡ false → b ≡ builtInOf x → m ≡ metBuiltIn b w
-        → m ≡ pick (locationFiled x) (metLocal (varOf y) w) (metBuiltIn (builtInOf x) w)
+        → m ≡ pick (locationWellFormed x) (metLocal (varOf y) w) (metBuiltIn (builtInOf x) w)
     past-built-in b is hb e = rw (← ht, is, ← hb) e
 
 module _ (stage : ShaderStage) (provided : List Located) (x y number : ℕ) (w : InputWalk) (a : Answer)
-    (hn : number ≡ pick (locationFiled x) (inputNumber stage (varOf y) (varyingAt (contentOf x) provided)) 0) where
+    (hn : number ≡ pick (locationWellFormed x) (inputNumber stage (varOf y) (varyingAt (contentOf x) provided)) 0) where
   pub value-refused : (location : ℕ) → (number ≡ 0 → ⊥) → location ≡ contentOf x → a ≡ answer number location 0 0
       → walked w a ≡ inputStep stage provided (varying (x ∷ y ∷ [])) w
   unfolding inputStep
   value-refused location n hl h =
-      by-test (locationFiled x)
+      by-test (locationWellFormed x)
       (λ t. let e : number ≡ inputNumber stage (varOf y) (varyingAt (contentOf x) provided) = rw t at hn in rw (t, ← e, ne-eqb number 0 n, h, hl))
       (λ f. absurd (n (rw f at hn)))
 
-  pub value-met : (m : InputWalk) → number ≡ 0 → m ≡ pick (locationFiled x) (metLocal (varOf y) w) (metBuiltIn (builtInOf x) w) → a ≡ accepted
+  pub value-met : (m : InputWalk) → number ≡ 0 → m ≡ pick (locationWellFormed x) (metLocal (varOf y) w) (metBuiltIn (builtInOf x) w) → a ≡ accepted
       → walked m a ≡ inputStep stage provided (varying (x ∷ y ∷ [])) w
   unfolding inputStep
   value-met m n e h =
-      by-test (locationFiled x)
+      by-test (locationWellFormed x)
       (λ t. let k : number ≡ inputNumber stage (varOf y) (varyingAt (contentOf x) provided) = rw t at hn in rw (e, t, ← k, eq-eqb number 0 n, h))
       (λ f. rw (e, f, h))
 
@@ -148,10 +148,10 @@ chosen-locals true iv w x y = omega arith
 chosen-locals false iv w x y = omega arith
 
 built-in-locals : (b : BuiltIn) (w : InputWalk) → metBuiltIn b w .locals ≡ w .locals
-built-in-locals (In.Other places) w = refl
-built-in-locals (In.PrimitiveIndex places) w = refl
-built-in-locals (In.DrawIndex places) w = refl
-built-in-locals (In.FragDepth places) w = refl
+built-in-locals (In.Other slots) w = refl
+built-in-locals (In.PrimitiveIndex slots) w = refl
+built-in-locals (In.DrawIndex slots) w = refl
+built-in-locals (In.FragDepth slots) w = refl
 built-in-locals (In.ClipDistances size) w = refl
 
 step-locals : (stage : ShaderStage) (provided : List Located) (v : Varying) (w : InputWalk) → inputStep stage provided v w .walk .locals ≤ w .locals + 1

@@ -63,10 +63,10 @@ metLocal iv w =
     record { «primitive_index» = w .«primitive_index»; «draw_index» = w .«draw_index»; «per_vertex» = w .«per_vertex» || eqb (iv .interpolation) 4; locals = w .locals + 1 }
 
 abbrev pub metBuiltIn : BuiltIn → InputWalk → InputWalk
-metBuiltIn (In.Other places) w = w
-metBuiltIn (In.PrimitiveIndex places) w = record { «primitive_index» = true; «draw_index» = w .«draw_index»; «per_vertex» = w .«per_vertex»; locals = w .locals }
-metBuiltIn (In.DrawIndex places) w = record { «primitive_index» = w .«primitive_index»; «draw_index» = true; «per_vertex» = w .«per_vertex»; locals = w .locals }
-metBuiltIn (In.FragDepth places) w = w
+metBuiltIn (In.Other slots) w = w
+metBuiltIn (In.PrimitiveIndex slots) w = record { «primitive_index» = true; «draw_index» = w .«draw_index»; «per_vertex» = w .«per_vertex»; locals = w .locals }
+metBuiltIn (In.DrawIndex slots) w = record { «primitive_index» = w .«primitive_index»; «draw_index» = true; «per_vertex» = w .«per_vertex»; locals = w .locals }
+metBuiltIn (In.FragDepth slots) w = w
 metBuiltIn (In.ClipDistances size) w = w
 
 abbrev pub walked : InputWalk → Answer → Walked

@@ -7,9 +7,9 @@ ghost use lib.ListN.{length, drop};
 ghost use Rattle.word.specs.Choice.{pick};
 ghost use Rattle.word.specs.Words.{wordAt, contentOf};
 ghost use Rattle.bindings.specs.Rules.{sameBool};
-ghost use Rattle.varying.specs.Format.{locationFiled, varOf};
+ghost use Rattle.varying.specs.Format.{locationWellFormed, varOf};
 ghost use Rattle.stage_lists.specs.Meaning.{varyingAt};
-ghost use Rattle.stage_lists.specs.Format.{outFiled, decodeStage};
+ghost use Rattle.stage_lists.specs.Format.{outWellFormed, decodeStage};
 ghost use Rattle.stage_lists.specs.declared.types.Provided.the-variants.{Var};
 ghost use Rattle.interface.specs.Format.{builtInOf};
 ghost use Rattle.interface.specs.inner.Reads.{varying, varyingWidth, varyings};
@@ -24,7 +24,7 @@ use interface::types::ShaderStage;
 use places::found::Found;
 use stage_lists::stage_io::find_location;
 use varying::InterfaceVar;
-use varying::location_filed;
+use varying::location_well_formed;
 use varying::var_of;
 use word::answer::Answer;
 use word::content;
@@ -106,7 +106,7 @@ fn provided_number(stage: ShaderStage, w: u32, provided: u32) -> u32
 
 // The refusal of a local input at a location, 0 for none. Inputs mostly stand in the order of what is provided.
 fn input_number(stage: ShaderStage, inputs: &[u32], location: u32, w: u32, near: usize) -> u32
-    requires { ⌜ outFiled (now inputs) ≡ true ⌝ }
+    requires { ⌜ outWellFormed (now inputs) ≡ true ⌝ }
     ensures { λ r. ⌜ r ≡ inputNumber stage (varOf w) (varyingAt location (decodeStage (now (inputs .entry)) .varyings)) ⌝ }
     ensures { λ r. ⌜ r ≤ 54 ⌝ }
 {
@@ -163,12 +163,12 @@ fn met_built_in(built_in: BuiltIn, walk: InputWalk) -> InputWalk
 
 // The refusal of an input by its words, 0 for none. A built-in one is never refused.
 fn refusal(stage: ShaderStage, inputs: &[u32], first: u32, second: u32, near: usize) -> u32
-    requires { ⌜ outFiled (now inputs) ≡ true ⌝ }
-    ensures { λ r. ⌜ r ≡ pick (locationFiled first) (inputNumber stage (varOf second)
+    requires { ⌜ outWellFormed (now inputs) ≡ true ⌝ }
+    ensures { λ r. ⌜ r ≡ pick (locationWellFormed first) (inputNumber stage (varOf second)
         (varyingAt (contentOf first) (decodeStage (now (inputs .entry)) .varyings))) 0 ⌝ }
     ensures { λ r. ⌜ r ≤ 54 ⌝ }
 {
-    if location_filed(first) {
+    if location_well_formed(first) {
         return input_number(stage, inputs, content(first), second, near);
     }
     0
@@ -177,9 +177,9 @@ fn refusal(stage: ShaderStage, inputs: &[u32], first: u32, second: u32, near: us
 // The walk past an input by its words.
 fn met(first: u32, second: u32, walk: InputWalk) -> InputWalk
     requires { ⌜ walk .locals < 2 ^ 31 ⌝ }
-    ensures { λ r. ⌜ r ≡ pick (locationFiled first) (metLocal (varOf second) walk) (metBuiltIn (builtInOf first) walk) ⌝ }
+    ensures { λ r. ⌜ r ≡ pick (locationWellFormed first) (metLocal (varOf second) walk) (metBuiltIn (builtInOf first) walk) ⌝ }
 {
-    if location_filed(first) {
+    if location_well_formed(first) {
         return met_local(second, walk);
     }
     met_built_in(built_in_of(first), walk)
@@ -193,7 +193,7 @@ fn input_value(
     second: u32,
     walk: InputWalk,
 ) -> Walked
-    requires { ⌜ (walk .locals < 2 ^ 31) × (outFiled (now inputs) ≡ true) ⌝ }
+    requires { ⌜ (walk .locals < 2 ^ 31) × (outWellFormed (now inputs) ≡ true) ⌝ }
     ensures { λ r. ⌜ r ≡ inputStep stage (decodeStage (now (inputs .entry)) .varyings) (varying (first ∷ second ∷ [])) walk ⌝ }
 {
     let near = walk.locals as usize;
@@ -218,7 +218,7 @@ pub(crate) fn input_step(
     second: u32,
     walk: &mut InputWalk,
 ) -> Answer
-    requires { ⌜ (now walk .locals < 2 ^ 31) × (outFiled (now inputs) ≡ true) ⌝ }
+    requires { ⌜ (now walk .locals < 2 ^ 31) × (outWellFormed (now inputs) ≡ true) ⌝ }
     ensures { λ r. ⌜ (r ≡ inputStep stage (decodeStage (now (inputs .entry)) .varyings) (varying (first ∷ second ∷ [])) (now (walk .entry)) .answer)
         × (now (walk .exit) ≡ inputStep stage (decodeStage (now (inputs .entry)) .varyings) (varying (first ∷ second ∷ [])) (now (walk .entry)) .walk) ⌝ }
 {
@@ -251,7 +251,7 @@ pub fn input_steps(
     inputs: &[u32],
     stage: ShaderStage,
 ) -> Walked
-    requires { ⌜ (varyingsEnd (now pack) n from < length (now pack)) × (length (now pack) ≤ 4096) × (n ≤ 63) × (outFiled (now inputs) ≡ true) ⌝ }
+    requires { ⌜ (varyingsEnd (now pack) n from < length (now pack)) × (length (now pack) ≤ 4096) × (n ≤ 63) × (outWellFormed (now inputs) ≡ true) ⌝ }
     ensures { λ r. ⌜ r ≡ inputSteps stage (decodeStage (now (inputs .entry)) .varyings)
         (varyings n (drop from (now (pack .entry)))) startWalk ⌝ }
 {

@@ -15,15 +15,15 @@ use Rattle.bindings.specs.declared.types.Resource.{Resource}
 use Rattle.bindings.specs.declared.types.ResourceType.{ResourceType}
 use Rattle.bindings.proofs.CodeLaws.{flag-most}
 use Rattle.bindings.proofs.EntryFormat.{flag-read}
-use Rattle.varying.specs.Format.{payloadWord, payloadHeld}
+use Rattle.varying.specs.Format.{payloadWord, payloadEncodable}
 use Rattle.word.proofs.Truth.{first, second}
 use Rattle.word.proofs.Lists.{every-first, every-others}
-use Rattle.varying.proofs.Joined.{payload-filed, payload-read}
+use Rattle.varying.proofs.Joined.{payload-well-formed, payload-read}
 use Rattle.interface.specs.Meaning.{EntryPoint}
-use Rattle.interface.specs.Format.{stageAt, stageCode, topologyAt, topologyCode, readWorkgroup, workgroupWords, readMesh, meshWords, meshFlag, headFiled, headWord}
-use Rattle.interface.specs.Format.{countsWord, indexFiled, indexWords, contents, ofType, pairGood, pairFiled, pairWords, pairsOf}
+use Rattle.interface.specs.Format.{stageAt, stageCode, topologyAt, topologyCode, readWorkgroup, workgroupWords, readMesh, meshWords, meshFlag, headWellFormed, headWord}
+use Rattle.interface.specs.Format.{countsWord, indexWellFormed, indexWords, contents, ofType, pairGood, pairWellFormed, pairWords, pairsOf}
 use Rattle.interface.specs.Format.{packName, varyingWords, entryPointWords, readEntryPoint, readVarying, clips}
-use Rattle.interface.specs.Held.{nameHeld, workgroupHeld, meshHeld, varyingHeld, entryPointHeld}
+use Rattle.interface.specs.Encodable.{nameEncodable, workgroupEncodable, meshEncodable, varyingEncodable, entryPointEncodable}
 use Rattle.interface.specs.declared.types.ShaderStage.{ShaderStage}
 use Rattle.interface.specs.declared.types.ShaderStage.the-variants as Stage
 use Rattle.interface.specs.declared.types.PrimitiveTopology.{PrimitiveTopology}
@@ -75,7 +75,7 @@ pub record Of (kind n w : ℕ) : Type 0 where
 pub of-kind : (kind n : ℕ) → content n ≡ true → Of kind n (ofKind kind n)
 of-kind kind n h = omega (arith, ltb-true n (2 ^ 27) h)
 
-workgroup-got : (g : WorkgroupSize) (rest : List ℕ) → workgroupHeld g ≡ true → readWorkgroup (workgroupWords g ++ rest) ≡ got g rest
+workgroup-got : (g : WorkgroupSize) (rest : List ℕ) → workgroupEncodable g ≡ true → readWorkgroup (workgroupWords g ++ rest) ≡ got g rest
 unfolding readWorkgroup
 workgroup-got g rest h =
     let x : Of 8 (g .x) (ofKind 8 (g .x)) = search (of-kind, first) in
@@ -83,7 +83,7 @@ workgroup-got g rest h =
     let z : Of 8 (g .z) (ofKind 8 (g .z)) = search (of-kind, first, second) in
     rw (x .is, y .is, z .is, x .holds, y .holds, z .holds)
 
-mesh-got : (m : MeshRecord) (rest : List ℕ) → meshHeld m ≡ true → readMesh (eqb (meshFlag m) 1) (meshWords m ++ rest) ≡ got m rest
+mesh-got : (m : MeshRecord) (rest : List ℕ) → meshEncodable m ≡ true → readMesh (eqb (meshFlag m) 1) (meshWords m ++ rest) ≡ got m rest
 unfolding readMesh
 mesh-got Mesh.Absent rest h = refl
 mesh-got (Mesh.Info info) rest h =
@@ -97,19 +97,19 @@ mesh-got (Mesh.Info info) rest h =
 -- ---- the indexes and the pairs
 
 pub record Listed {A : Type 0} (test : ℕ → Bool) (back : List ℕ → List A) (all : List A) (words : List ℕ) : Type 0 where
-  pub filed : every test words ≡ true
+  pub well-formed : every test words ≡ true
   pub again : back words ≡ all
   pub counted : length words ≡ length all
 
-indexes : (n : ℕ) → n ≤ 128 → (is : List ℕ) → every (λ i. ltb i n) is ≡ true → Listed (indexFiled n) contents is (flat indexWords is)
+indexes : (n : ℕ) → n ≤ 128 → (is : List ℕ) → every (λ i. ltb i n) is ≡ true → Listed (indexWellFormed n) contents is (flat indexWords is)
 unfolding every contents flat
-indexes n few [] h = record { filed = refl; again = refl; counted = refl }
+indexes n few [] h = record { well-formed = refl; again = refl; counted = refl }
 indexes n few (i ∷ is) h =
     let b : ltb i n ≡ true = every-first (λ i. ltb i n) i is h in
     let j : i < n = ltb-true i n b in
     let w : Of 5 i (ofKind 5 i) = of-kind 5 i (lt-ltb i (2 ^ 27) (omega arith)) in
-    let l : Listed (indexFiled n) contents is (flat indexWords is) = indexes n few is (every-others (λ i. ltb i n) i is h) in
-    record { filed = rw (w .is, w .holds, b) (l .filed); again = rw (w .holds, l .again); counted = ap suc (l .counted) }
+    let l : Listed (indexWellFormed n) contents is (flat indexWords is) = indexes n few is (every-others (λ i. ltb i n) i is h) in
+    record { well-formed = rw (w .is, w .holds, b) (l .well-formed); again = rw (w .holds, l .again); counted = ap suc (l .counted) }
 
 pub type-below : (test : ResourceType → Bool) (rs : List Resource) (i : ℕ) → ofType test rs i ≡ true → i < length rs
 unfolding ofType
@@ -130,15 +130,15 @@ module _ (rs : List Resource) (few : length rs ≤ 128) (listed : List ℕ) wher
       let s : p .sampler < length rs = search (type-below, first, second) depth 6 in
       omega arith
 
-  pairs : (ps : List SamplingPair) → every (pairGood rs listed) ps ≡ true → Listed (pairFiled rs listed) pairsOf ps (flat pairWords ps)
+  pairs : (ps : List SamplingPair) → every (pairGood rs listed) ps ≡ true → Listed (pairWellFormed rs listed) pairsOf ps (flat pairWords ps)
   unfolding every pairsOf flat
-  pairs [] h = record { filed = refl; again = refl; counted = refl }
+  pairs [] h = record { well-formed = refl; again = refl; counted = refl }
   pairs (p ∷ ps) h =
       let g : pairGood rs listed p ≡ true = every-first (pairGood rs listed) p ps h in
       let w : PairWord p (ofKind 5 (2 ^ 8 * p .texture + p .sampler)) = pair-word p g in
-      let l : Listed (pairFiled rs listed) pairsOf ps (flat pairWords ps) = pairs ps (every-others (pairGood rs listed) p ps h) in
+      let l : Listed (pairWellFormed rs listed) pairsOf ps (flat pairWords ps) = pairs ps (every-others (pairGood rs listed) p ps h) in
       record {
-        filed = rw (w .kind, w .none, w .texture, w .sampler, g) (l .filed);
+        well-formed = rw (w .kind, w .none, w .texture, w .sampler, g) (l .well-formed);
         again = rw (w .texture, w .sampler, l .again);
         counted = ap suc (l .counted);
       }
@@ -161,8 +161,8 @@ pub record HeadWord (e : EntryPoint) (w : ℕ) : Type 0 where
 head-word : (e : EntryPoint) → length (e .name) ≤ 64 → HeadWord e (headWord e)
 head-word e h = omega (arith, stage-below (e .stage), mesh-below (e .mesh), flag-most (e .dual))
 
-head-filed : (e : EntryPoint) → 1 ≤ length (e .name) → length (e .name) ≤ 64 → headFiled (headWord e) ≡ true
-head-filed e g h =
+head-well-formed : (e : EntryPoint) → 1 ≤ length (e .name) → length (e .name) ≤ 64 → headWellFormed (headWord e) ≡ true
+head-well-formed e g h =
     let w : HeadWord e (headWord e) = head-word e h in
     let n : ℕ = length (e .name) in
     rw (w .kind, w .stage, w .high, w .name, w .low, lt-ltb (stageCode (e .stage)) 5 (stage-below (e .stage)), le-leb 1 n g, le-leb n 64 h)
@@ -180,36 +180,36 @@ counts-word e a b c d = omega arith
 
 -- ---- an entry point
 
-index-got : (n : ℕ) (is rest : List ℕ) → Listed (indexFiled n) contents is (flat indexWords is)
-    → several (length is) (one (indexFiled n)) (flat indexWords is ++ rest) ≡ got (flat indexWords is) rest
-index-got n is rest l = rw (l .counted) at (words-got (indexFiled n) (flat indexWords is) rest (l .filed))
+index-got : (n : ℕ) (is rest : List ℕ) → Listed (indexWellFormed n) contents is (flat indexWords is)
+    → several (length is) (one (indexWellFormed n)) (flat indexWords is ++ rest) ≡ got (flat indexWords is) rest
+index-got n is rest l = rw (l .counted) at (words-got (indexWellFormed n) (flat indexWords is) rest (l .well-formed))
 
-pair-got : (rs : List Resource) (listed : List ℕ) (ps : List SamplingPair) (rest : List ℕ) → Listed (pairFiled rs listed) pairsOf ps (flat pairWords ps)
-    → several (length ps) (one (pairFiled rs listed)) (flat pairWords ps ++ rest) ≡ got (flat pairWords ps) rest
-pair-got rs listed ps rest l = rw (l .counted) at (words-got (pairFiled rs listed) (flat pairWords ps) rest (l .filed))
+pair-got : (rs : List Resource) (listed : List ℕ) (ps : List SamplingPair) (rest : List ℕ) → Listed (pairWellFormed rs listed) pairsOf ps (flat pairWords ps)
+    → several (length ps) (one (pairWellFormed rs listed)) (flat pairWords ps ++ rest) ≡ got (flat pairWords ps) rest
+pair-got rs listed ps rest l = rw (l .counted) at (words-got (pairWellFormed rs listed) (flat pairWords ps) rest (l .well-formed))
 
 -- what the condition says, part by part
-pub record HeldParts (rs : List Resource) (e : EntryPoint) : Type 0 where
-  pub name : nameHeld (e .name) ≡ true
-  pub workgroup : workgroupHeld (e .workgroup) ≡ true
-  pub payload : payloadHeld (e .payload) ≡ true
-  pub mesh : meshHeld (e .mesh) ≡ true
+pub record EncodableParts (rs : List Resource) (e : EntryPoint) : Type 0 where
+  pub name : nameEncodable (e .name) ≡ true
+  pub workgroup : workgroupEncodable (e .workgroup) ≡ true
+  pub payload : payloadEncodable (e .payload) ≡ true
+  pub mesh : meshEncodable (e .mesh) ≡ true
   pub few-resources : leb (length (e .resources)) 63 ≡ true
   pub few-pairs : leb (length (e .pairs)) 63 ≡ true
   pub few-inputs : leb (length (e .inputs)) 63 ≡ true
   pub few-outputs : leb (length (e .outputs)) 63 ≡ true
   pub resources : every (λ i. ltb i (length rs)) (e .resources) ≡ true
   pub pairs : every (pairGood rs (e .resources)) (e .pairs) ≡ true
-  pub inputs : every (varyingHeld 4) (e .inputs) ≡ true
-  pub outputs : every (varyingHeld 5) (e .outputs) ≡ true
+  pub inputs : every (varyingEncodable 4) (e .inputs) ≡ true
+  pub outputs : every (varyingEncodable 5) (e .outputs) ≡ true
   pub clip : leb (clips (e .outputs)) 1 ≡ true
 
 pub both-then : {G : Type 0} (a b : Bool) → (a && b) ≡ true → (a ≡ true → b ≡ true → G) → G
 both-then a b h f = f (first a b h) (second a b h)
 
-held-parts : (rs : List Resource) (e : EntryPoint) → entryPointHeld rs e ≡ true → HeldParts rs e
-unfolding entryPointHeld
-held-parts rs e h =
+encodable-parts : (rs : List Resource) (e : EntryPoint) → entryPointEncodable rs e ≡ true → EncodableParts rs e
+unfolding entryPointEncodable
+encodable-parts rs e h =
     both-then _ _ h λ name h.
     both-then _ _ h λ workgroup h.
     both-then _ _ h λ payload h.
@@ -261,7 +261,7 @@ module _ (rs : List Resource) (few : length rs ≤ 128) (e : EntryPoint) (rest :
   unfolding entryPointWords
   laid = simp append-assoc
 
-  module _ (h : HeldParts rs e) where
+  module _ (h : EncodableParts rs e) where
     few-bytes : (1 ≤ length (e .name)) × (length (e .name) ≤ 64)
     few-bytes =
         both-then _ _ (h .name) λ a k.
@@ -273,15 +273,15 @@ module _ (rs : List Resource) (few : length rs ≤ 128) (e : EntryPoint) (rest :
     parts-got =
         let w : HeadWord e (headWord e) = head-word e (few-bytes .1) in
         let c : CountsWord e (countsWord e) = counts-word e (leb-true _ 63 (h .few-resources)) (leb-true _ 63 (h .few-pairs)) (leb-true _ 63 (h .few-inputs)) (leb-true _ 63 (h .few-outputs)) in
-        let i : Listed (indexFiled (length rs)) contents (e .resources) (flat indexWords (e .resources)) = indexes (length rs) few (e .resources) (h .resources) in
-        let p : Listed (pairFiled rs (e .resources)) pairsOf (e .pairs) (flat pairWords (e .pairs)) = pairs rs few (e .resources) (e .pairs) (h .pairs) in
+        let i : Listed (indexWellFormed (length rs)) contents (e .resources) (flat indexWords (e .resources)) = indexes (length rs) few (e .resources) (h .resources) in
+        let p : Listed (pairWellFormed rs (e .resources)) pairsOf (e .pairs) (flat pairWords (e .pairs)) = pairs rs few (e .resources) (e .pairs) (h .pairs) in
         rw (
           laid,
-          head-filed e (few-bytes .0) (few-bytes .1),
+          head-well-formed e (few-bytes .0) (few-bytes .1),
           w .name,
           name-got (e .name) workgroup-on (h .name),
           workgroup-got (e .workgroup) (payloadWord (e .payload) ∷ mesh-on) (h .workgroup),
-          payload-filed (e .payload) (h .payload),
+          payload-well-formed (e .payload) (h .payload),
           w .mesh,
           mesh-got (e .mesh) (countsWord e ∷ indexes-on) (h .mesh),
           c .kind,
@@ -293,9 +293,9 @@ module _ (rs : List Resource) (few : length rs ≤ 128) (e : EntryPoint) (rest :
           pair-got rs (e .resources) (e .pairs) inputs-on p,
           p .again,
           c .inputs,
-          records-got (readVarying 4) varyingWords (varyingHeld 4) (λ v rest. varying-got 4 (omega arith) rest v) (e .inputs) outputs-on (h .inputs),
+          records-got (readVarying 4) varyingWords (varyingEncodable 4) (λ v rest. varying-got 4 (omega arith) rest v) (e .inputs) outputs-on (h .inputs),
           c .outputs,
-          records-got (readVarying 5) varyingWords (varyingHeld 5) (λ v rest. varying-got 5 (omega arith) rest v) (e .outputs) rest (h .outputs),
+          records-got (readVarying 5) varyingWords (varyingEncodable 5) (λ v rest. varying-got 5 (omega arith) rest v) (e .outputs) rest (h .outputs),
           h .clip,
           w .stage,
           stage-back (e .stage),
@@ -304,5 +304,5 @@ module _ (rs : List Resource) (few : length rs ≤ 128) (e : EntryPoint) (rest :
           payload-read (e .payload) (h .payload),
         )
 
-  pub entry-got : entryPointHeld rs e ≡ true → readEntryPoint rs (entryPointWords e ++ rest) ≡ got e rest
-  entry-got h = parts-got (held-parts rs e h)
+  pub entry-got : entryPointEncodable rs e ≡ true → readEntryPoint rs (entryPointWords e ++ rest) ≡ got e rest
+  entry-got h = parts-got (encodable-parts rs e h)

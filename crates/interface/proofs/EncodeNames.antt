@@ -13,7 +13,7 @@ use Rattle.word.specs.Lists.{every}
 use Rattle.word.proofs.Truth.{first, second}
 use Rattle.word.proofs.Lists.{every-first, every-others}
 use Rattle.interface.specs.Format.{bytesOf, noZero, allZero, nameWords, readName, packName}
-use Rattle.interface.specs.Held.{nameHeld}
+use Rattle.interface.specs.Encodable.{nameEncodable}
 use Rattle.interface.proofs.EncodeRecords.{words-got, next-got}
 
 abbrev byte : ℕ → Bool
@@ -84,7 +84,7 @@ unfolding every
 any-words [] = refl
 any-words (w ∷ words) = any-words words
 
-pub name-got : (name rest : List ℕ) → nameHeld name ≡ true → readName (length name) (packName name ++ rest) ≡ got name rest
+pub name-got : (name rest : List ℕ) → nameEncodable name ≡ true → readName (length name) (packName name ++ rest) ≡ got name rest
 unfolding readName
 name-got name rest h =
     let n : ℕ = length name in

@@ -10,13 +10,13 @@ use lib.Seq.{take-at, getD-at}
 use Rattle.word.specs.Words.{wordAt, kindOf, bits, ofKind, sumOf, closingSum, content}
 use Rattle.word.specs.Parse.{got, one, several}
 use Rattle.word.specs.Lists.{flat, every}
-use Rattle.bindings.specs.Format.{readResource, resourceWords, resourceHeld}
+use Rattle.bindings.specs.Format.{readResource, resourceWords, resourceEncodable}
 use Rattle.bindings.proofs.ResourceFormat.{words-read}
 use Rattle.word.proofs.Lists.{every-first, every-others}
 use Rattle.interface.specs.Meaning.{Interface}
-use Rattle.interface.specs.Format.{mostWords, mostResources, mostEntries, ofWord, contents, entryPointWords, readEntryPoint, limitsBy, limitsOf, limitWord, limitWords, recordWords, openWords, readPack, distinctNames, encode, body, torn, decode, Pack}
+use Rattle.interface.specs.Format.{mostWords, mostResources, mostEntries, ofWord, contents, entryPointWords, readEntryPoint, limitsBy, limitsOf, limitWord, limitWords, recordWords, openWords, readPack, distinctNames, encode, body, damaged, decode, Pack}
 use Rattle.interface.specs.Format.{limitNumbers}
-use Rattle.interface.specs.Held.{entryPointHeld, interfaceHeld}
+use Rattle.interface.specs.Encodable.{entryPointEncodable, interfaceEncodable}
 use Rattle.interface.specs.declared.types.Limits.{Limits}
 use Rattle.interface.proofs.EncodeRecords.{words-got, records-got}
 use Rattle.interface.proofs.EncodeEntry.{Of, of-kind, Listed, both-then, entry-got}
@@ -25,15 +25,15 @@ use Rattle.interface.proofs.EncodeEntry.{Of, of-kind, Listed, both-then
 
 numbers : (ns : List ℕ) → every content ns ≡ true → Listed (ofWord 3) contents ns (flat limitWord ns)
 unfolding every contents flat
-numbers [] h = record { filed = refl; again = refl; counted = refl }
+numbers [] h = record { well-formed = refl; again = refl; counted = refl }
 numbers (n ∷ ns) h =
     let w : Of 3 n (ofKind 3 n) = of-kind 3 n (every-first content n ns h) in
     let l : Listed (ofWord 3) contents ns (flat limitWord ns) = numbers ns (every-others content n ns h) in
-    record { filed = rw (w .is) (l .filed); again = rw (w .holds, l .again); counted = ap suc (l .counted) }
+    record { well-formed = rw (w .is) (l .well-formed); again = rw (w .holds, l .again); counted = ap suc (l .counted) }
 
 limits-got : (l : Limits) (rest : List ℕ) → every content (limitNumbers l) ≡ true → several 13 (one (ofWord 3)) (limitWords l ++ rest) ≡ got (limitWords l) rest
 unfolding flat
-limits-got l rest h = words-got (ofWord 3) (limitWords l) rest (numbers (limitNumbers l) h .filed)
+limits-got l rest h = words-got (ofWord 3) (limitWords l) rest (numbers (limitNumbers l) h .well-formed)
 
 abbrev limitsFrom : List ℕ → Limits
 limitsFrom ns =
@@ -46,18 +46,18 @@ limits-again l h = ap limitsFrom (numbers (limitNumbers l) h .again)
 
 -- ---- the records
 
-pub record HeldPack (i : Interface) : Type 0 where
+pub record EncodablePack (i : Interface) : Type 0 where
   pub limits : every content (limitNumbers (i .limits)) ≡ true
   pub few-resources : length (i .resources) ≤ mostResources
   pub few-entries : length (i .entries) ≤ mostEntries
-  pub resources : every resourceHeld (i .resources) ≡ true
-  pub entries : every (entryPointHeld (i .resources)) (i .entries) ≡ true
+  pub resources : every resourceEncodable (i .resources) ≡ true
+  pub entries : every (entryPointEncodable (i .resources)) (i .entries) ≡ true
   pub distinct : distinctNames (i .entries) ≡ true
   pub short : length (encode i) ≤ mostWords
 
-held-pack : (i : Interface) → interfaceHeld i ≡ true → HeldPack i
-unfolding interfaceHeld
-held-pack i h =
+encodable-pack : (i : Interface) → interfaceEncodable i ≡ true → EncodablePack i
+unfolding interfaceEncodable
+encodable-pack i h =
     both-then _ _ h λ limits h.
     both-then _ _ h λ few-resources h.
     both-then _ _ h λ few-entries h.
@@ -83,7 +83,7 @@ pub record Two (kind high low w : ℕ) : Type 0 where
 two : (kind high low : ℕ) → high < 2 ^ 11 → low < 2 ^ 16 → Two kind high low (ofKind kind (2 ^ 16 * high + low))
 two kind high low h l = omega arith
 
-module _ (i : Interface) (h : HeldPack i) where
+module _ (i : Interface) (h : EncodablePack i) where
   written : length (encode i) ≡ length (recordWords i) + 2
   unfolding encode
   written = simp length-append (omega arith)
@@ -119,9 +119,9 @@ module _ (i : Interface) (h : HeldPack i) where
         limits-got (i .limits) (flat resourceWords (i .resources) ++ entries-on) (h .limits),
         limits-again (i .limits) (h .limits),
         totals .upper,
-        records-got readResource resourceWords resourceHeld words-read (i .resources) entries-on (h .resources),
+        records-got readResource resourceWords resourceEncodable words-read (i .resources) entries-on (h .resources),
         totals .lower,
-        records-got (readEntryPoint (i .resources)) entryPointWords (entryPointHeld (i .resources)) (entry-got (i .resources) (h .few-resources)) (i .entries) rest (h .entries),
+        records-got (readEntryPoint (i .resources)) entryPointWords (entryPointEncodable (i .resources)) (entry-got (i .resources) (h .few-resources)) (i .entries) rest (h .entries),
         h .distinct,
       )
 
@@ -152,8 +152,8 @@ module _ (i : Interface) (h : HeldPack i) where
   total : bits 15 0 (wordAt (encode i) 0) ≡ length (encode i)
   total = rw written first-lower
 
-  whole-pack : torn (encode i) ≡ false
-  unfolding torn
+  whole-pack : damaged (encode i) ≡ false
+  unfolding damaged
   whole-pack =
       let n : ℕ = length (encode i) in
       rw (le-ltb n 16 (omega (arith, written, long)), le-ltb mostWords n (h .short), total, eq-eqb n n refl, last-is, sum-is, eq-eqb sum sum refl)
@@ -163,5 +163,5 @@ module _ (i : Interface) (h : HeldPack i) where
   decoded = rw (whole-pack, body-is, ← append-nil (openWords i), records-read [])
 
 -- decoding what was encoded gives the meaning back
-pub decode-encode : (i : Interface) → interfaceHeld i ≡ true → decode (encode i) ≡ Pack i
-decode-encode i h = decoded i (held-pack i h)
+pub decode-encode : (i : Interface) → interfaceEncodable i ≡ true → decode (encode i) ≡ Pack i
+decode-encode i h = decoded i (encodable-pack i h)

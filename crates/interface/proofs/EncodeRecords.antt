@@ -16,14 +16,14 @@ unfolding several
 words-got test [] rest h = refl
 words-got test (w ∷ words) rest h = rw (every-first test w words h, words-got test words rest (every-others test w words h))
 
-pub records-got : {A : Type 0} (read : List ℕ → Parsed A) (words : A → List ℕ) (held : A → Bool)
-    → ((a : A) (rest : List ℕ) → held a ≡ true → read (words a ++ rest) ≡ got a rest)
-    → (all : List A) (rest : List ℕ) → every held all ≡ true → several (length all) read (flat words all ++ rest) ≡ got all rest
+pub records-got : {A : Type 0} (read : List ℕ → Parsed A) (words : A → List ℕ) (encodable : A → Bool)
+    → ((a : A) (rest : List ℕ) → encodable a ≡ true → read (words a ++ rest) ≡ got a rest)
+    → (all : List A) (rest : List ℕ) → every encodable all ≡ true → several (length all) read (flat words all ++ rest) ≡ got all rest
 unfolding several flat
-records-got read words held reads [] rest h = refl
-records-got read words held reads (a ∷ others) rest h =
+records-got read words encodable reads [] rest h = refl
+records-got read words encodable reads (a ∷ others) rest h =
     rw (
       append-assoc (words a) (flat words others) rest,
-      reads a (flat words others ++ rest) (every-first held a others h),
-      records-got read words held reads others rest (every-others held a others h),
+      reads a (flat words others ++ rest) (every-first encodable a others h),
+      records-got read words encodable reads others rest (every-others encodable a others h),
     )

@@ -8,15 +8,15 @@ use Rattle.word.specs.Choice.{yes}
 use Rattle.word.specs.Words.{sumOf, closingSum}
 use Rattle.word.specs.Parse.{several}
 use Rattle.word.specs.Lists.{among, flat, every}
-use Rattle.bindings.specs.Format.{readResource, resourceTypeFiled, resourceTypeOf, resourceWords, typeHeld}
+use Rattle.bindings.specs.Format.{readResource, resourceTypeWellFormed, resourceTypeOf, resourceWords, typeEncodable}
 use Rattle.bindings.specs.declared.types.AddressSpace.the-variants as Space
 use Rattle.bindings.specs.declared.types.ResourceType.the-variants as Res
-use Rattle.varying.specs.Format.{payloadFiled, payloadOf, payloadWord}
+use Rattle.varying.specs.Format.{payloadWellFormed, payloadOf, payloadWord}
 use Rattle.varying.specs.declared.Payload.the-variants as Pay
 use Rattle.interface.specs.Meaning.{Interface}
 use Rattle.interface.specs.Format.{Pack, readName, bytesOf, noZero, allZero, readWorkgroup, readMesh, readVarying, contents, pairsOf, clips, ofType, readEntryPoint}
-use Rattle.interface.specs.Format.{sameBytes, hasName, distinctNames, readPack, torn, decode, decodedNumber, packName, entryPointWords, recordWords, encode}
-use Rattle.interface.specs.Held.{entryPointHeld, interfaceHeld}
+use Rattle.interface.specs.Format.{sameBytes, hasName, distinctNames, readPack, damaged, decode, decodedNumber, packName, entryPointWords, recordWords, encode}
+use Rattle.interface.specs.Encodable.{entryPointEncodable, interfaceEncodable}
 use Rattle.interface.specs.declared.types.ShaderStage.the-variants as Stage
 use Rattle.interface.specs.declared.types.MeshRecord.the-variants as Mesh
 
@@ -65,20 +65,20 @@ listed =
     }
 
 -- the listing with another word at a place, summed anew
-abbrev refiled : ℕ → ℕ → List ℕ
-refiled place w = let ws = take 26 (set listing place w) in ws ++ (sumOf ws % 2 ^ 32 ∷ [])
+abbrev still-well-formed : ℕ → ℕ → List ℕ
+still-well-formed place w = let ws = take 26 (set listing place w) in ws ++ (sumOf ws % 2 ^ 32 ∷ [])
 
--- the listing is read whole, its meaning is held and written as it stood
-pub listing-read : (decode listing ≡ Pack listed) × (interfaceHeld listed ≡ true) × (encode listed ≡ listing)
+-- the listing is read whole, its meaning can be encoded and written as it stood
+pub listing-read : (decode listing ≡ Pack listed) × (interfaceEncodable listed ≡ true) × (encode listed ≡ listing)
 unfolding listing listed
-    sumOf closingSum several readResource resourceTypeFiled resourceTypeOf resourceWords payloadFiled payloadOf payloadWord yes
-    readName bytesOf noZero allZero readWorkgroup readMesh readVarying contents pairsOf clips among ofType readEntryPoint sameBytes hasName distinctNames readPack torn decode
-    flat packName entryPointWords recordWords encode every typeHeld entryPointHeld interfaceHeld
+    sumOf closingSum several readResource resourceTypeWellFormed resourceTypeOf resourceWords payloadWellFormed payloadOf payloadWord yes
+    readName bytesOf noZero allZero readWorkgroup readMesh readVarying contents pairsOf clips among ofType readEntryPoint sameBytes hasName distinctNames readPack damaged decode
+    flat packName entryPointWords recordWords encode every typeEncodable entryPointEncodable interfaceEncodable
 listing-read = (refl, refl, refl)
 
--- another total is torn; a second resource, where there is none, and a zero byte in the name are misfiled
-pub listing-changed : map (λ ws. decodedNumber (decode ws)) (refiled 0 0x801001c ∷ refiled 1 0x10020001 ∷ refiled 19 0x6e00616d ∷ []) ≡ 1 ∷ 2 ∷ 2 ∷ []
+-- another total is damaged; a second resource, where there is none, and a zero byte in the name are malformed
+pub listing-changed : map (λ ws. decodedNumber (decode ws)) (still-well-formed 0 0x801001c ∷ still-well-formed 1 0x10020001 ∷ still-well-formed 19 0x6e00616d ∷ []) ≡ 1 ∷ 2 ∷ 2 ∷ []
 unfolding listing
-    sumOf closingSum several readResource resourceTypeFiled resourceTypeOf payloadFiled yes
-    readName bytesOf noZero allZero readWorkgroup readMesh readVarying contents pairsOf clips among ofType readEntryPoint sameBytes hasName distinctNames readPack torn decode
+    sumOf closingSum several readResource resourceTypeWellFormed resourceTypeOf payloadWellFormed yes
+    readName bytesOf noZero allZero readWorkgroup readMesh readVarying contents pairsOf clips among ofType readEntryPoint sameBytes hasName distinctNames readPack damaged decode
 listing-changed = refl

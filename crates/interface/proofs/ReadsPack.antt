@@ -12,14 +12,14 @@ use Rattle.word.specs.Choice.{pick}
 use Rattle.word.specs.Words.{wordAt, contentOf}
 use Rattle.word.specs.Parse.{Parsed, fault, got, next, one}
 use Rattle.word.proofs.ParseReads.{Stands, next-then, next-reads, picked, one-stands, one-reads, several-words}
-use Rattle.bindings.specs.Format.{readResource, resource, resourceAt, isBuffer, placeFiled, resourceWordFiled, sizeFiled}
+use Rattle.bindings.specs.Format.{readResource, resource, resourceAt, isBufferWord, placeWellFormed, resourceWordWellFormed, sizeWellFormed}
 use Rattle.bindings.specs.declared.types.Resource.{Resource}
 use Rattle.bindings.proofs.ReadLaws.{type-sizeless}
 use Rattle.word.proofs.Truth.{first, second, neither}
 use Rattle.interface.specs.Meaning.{Interface}
-use Rattle.interface.specs.Format.{readPack, readEntryPoint, editionFiled, totalsFiled, ofWord, limitsOf, distinctNames, Decoded, Torn, Misfiled, Pack, torn, whole, body, decode, decodedNumber}
+use Rattle.interface.specs.Format.{readPack, readEntryPoint, editionWellFormed, totalsWellFormed, ofWord, limitsOf, distinctNames, Decoded, Damaged, Malformed, Pack, damaged, whole, body, decode, decodedNumber}
 use Rattle.interface.specs.Format.{interfaceOf}
-use Rattle.interface.specs.inner.Parts.{endFrom, resourceEnd, entryEnd, entryAt, resourceCount, entryCount, resourcesOf, entriesAt, entriesOf}
+use Rattle.interface.specs.inner.Parts.{endFrom, resourceEnd, entryEnd, entryPointAt, resourceCount, entryCount, resourcesOf, entriesAt, entriesOf}
 use Rattle.interface.proofs.ReadsRecords.{ReadsAt, several-records}
 use Rattle.interface.proofs.ReadsEntry.{entry-stands}
 
@@ -27,14 +27,14 @@ pub resource-stands : (P t : List ℕ) → ReadsAt P t readResource (resourceAt 
 unfolding readResource
 resource-stands P t = record { reads = λ at ws s r rest. behind at ws s r rest }
   where
-    by : (at : ℕ) (ws : List ℕ) → Stands P t (at + 1 + 1) ws → (r : Resource) (rest : List ℕ) (b : Bool) → isBuffer (wordAt P (at + 1)) ≡ b
-        → pick b (next (one sizeFiled ws) λ size rest. got (resource (wordAt P at) (wordAt P (at + 1)) (contentOf size)) rest)
+    by : (at : ℕ) (ws : List ℕ) → Stands P t (at + 1 + 1) ws → (r : Resource) (rest : List ℕ) (b : Bool) → isBufferWord (wordAt P (at + 1)) ≡ b
+        → pick b (next (one sizeWellFormed ws) λ size rest. got (resource (wordAt P at) (wordAt P (at + 1)) (contentOf size)) rest)
         (got (resource (wordAt P at) (wordAt P (at + 1)) 0) ws) ≡ got r rest
         → (r ≡ resourceAt P at) × Stands P t (at + pick b 3 2) rest
     by at ws s r rest true h e =
         let m : at + 1 + 1 ≡ at + 2 = omega arith in
         let n : at + 2 + 1 ≡ at + 3 = omega arith in
-        next-reads P t _ _ r rest _ _ e (one-reads P t (at + 2) sizeFiled ws (rw m at s)) λ r₁ s₁ g₁.
+        next-reads P t _ _ r rest _ _ e (one-reads P t (at + 2) sizeWellFormed ws (rw m at s)) λ r₁ s₁ g₁.
         let wr : r₁ ≡ rest = cc in
         (cc, rw (← wr, ← n) s₁)
     by at ws s r rest false h e =
@@ -45,9 +45,9 @@ resource-stands P t = record { reads = λ at ws s r rest. behind at ws s r rest 
     behind : (at : ℕ) (ws : List ℕ) → Stands P t at ws → (r : Resource) (rest : List ℕ) → readResource ws ≡ got r rest
         → (r ≡ resourceAt P at) × Stands P t (resourceEnd P at) rest
     behind at ws s r rest e =
-        next-reads P t _ _ r rest _ _ e (one-reads P t at placeFiled ws s) λ r₁ s₁ g₁.
-        next-reads P t _ _ r rest _ _ g₁ (one-reads P t _ resourceWordFiled r₁ s₁) λ r₂ s₂ g₂.
-        by at r₂ s₂ r rest (isBuffer (wordAt P (at + 1))) refl g₂
+        next-reads P t _ _ r rest _ _ e (one-reads P t at placeWellFormed ws s) λ r₁ s₁ g₁.
+        next-reads P t _ _ r rest _ _ g₁ (one-reads P t _ resourceWordWellFormed r₁ s₁) λ r₂ s₂ g₂.
+        by at r₂ s₂ r rest (isBufferWord (wordAt P (at + 1))) refl g₂
 
 abbrev readFrom : List ℕ → Interface
 readFrom P = record { limits = limitsOf (take 13 (drop 2 P)); resources = resourcesOf P; entries = entriesOf P }
@@ -55,15 +55,15 @@ readFrom P = record { limits = limitsOf (take 13 (drop 2 P)); resources = resour
 pack-stands : (P t ws : List ℕ) → Stands P t 0 ws → (i : Interface) (rest : List ℕ) → readPack ws ≡ got i rest
     → (i ≡ readFrom P)
     × Stands P t (endFrom (entryEnd P) (entryCount P) (entriesAt P)) rest
-    × (totalsFiled (wordAt P 1) ≡ true)
+    × (totalsWellFormed (wordAt P 1) ≡ true)
 unfolding readPack
 pack-stands P t ws s i rest e =
-    next-reads P t _ _ i rest _ _ e (one-reads P t 0 editionFiled ws s) λ r₁ s₁ g₁.
+    next-reads P t _ _ i rest _ _ e (one-reads P t 0 editionWellFormed ws s) λ r₁ s₁ g₁.
     next-then _ _ i rest g₁ λ w r₂ e₂ g₂.
-    let (f, q, s₂) = one-stands P t 1 totalsFiled w r₁ r₂ s₁ e₂ in
+    let (f, q, s₂) = one-stands P t 1 totalsWellFormed w r₁ r₂ s₁ e₂ in
     next-reads P t _ _ i rest _ _ (rw (← q) at g₂) (several-words P t 2 13 (ofWord 3) r₂ s₂) λ r₃ s₃ g₃.
     next-reads P t _ _ i rest _ _ g₃ (several-records P t readResource (resourceAt P) (resourceEnd P) (resource-stands P t) _ 15 r₃ s₃) λ r₄ s₄ g₄.
-    next-reads P t _ _ i rest _ _ g₄ (several-records P t (readEntryPoint _) (entryAt P) (entryEnd P) (entry-stands P t _) _ _ r₄ s₄) λ r₅ s₅ g₅.
+    next-reads P t _ _ i rest _ _ g₄ (several-records P t (readEntryPoint _) (entryPointAt P) (entryEnd P) (entry-stands P t _) _ _ r₄ s₄) λ r₅ s₅ g₅.
     let (d, h) = picked (distinctNames (entriesOf P)) (got (readFrom P) r₅) i rest g₅ in
     let wr : r₅ ≡ rest = cc in
     (cc, rw (← wr) s₅, rw (← q) at f)
@@ -113,10 +113,10 @@ whole-got (got j []) i e = cc
 whole-got (got j (w ∷ ws)) i e = cc
 
 module _ (ws : List ℕ) (i : Interface) where
-  by-torn : (b : Bool) → torn ws ≡ b → pick b Torn (whole (readPack (body ws))) ≡ Pack i → Accepted ws i
-  unfolding torn
-  by-torn true h e = absurd (let z : _≡_ {A = ℕ} 0 1 = cc in omega arith)
-  by-torn false h e =
+  by-damaged : (b : Bool) → damaged ws ≡ b → pick b Damaged (whole (readPack (body ws))) ≡ Pack i → Accepted ws i
+  unfolding damaged
+  by-damaged true h e = absurd (let z : _≡_ {A = ℕ} 0 1 = cc in omega arith)
+  by-damaged false h e =
       let (p, s, f) = pack-stands ws (drop (length ws - 1) ws) (body ws) (split ws) i [] (whole-got (readPack (body ws)) i e) in
       let (a, b) = neither (ltb (length ws) 16) _ h in
       let (c, d) = neither (ltb 4096 (length ws)) _ b in
@@ -136,6 +136,6 @@ pub accepted : (ws : List ℕ) → decodedNumber (decode ws) ≡ 0 → Accepted 
 accepted ws h = by (decode ws) refl h
   where
     by : (d : Decoded) → decode ws ≡ d → decodedNumber d ≡ 0 → Accepted ws (interfaceOf d)
-    by Torn e z = absurd (omega arith)
-    by Misfiled e z = absurd (omega arith)
-    by (Pack i) e z = unfold decode in by-torn ws i (torn ws) refl e
+    by Damaged e z = absurd (omega arith)
+    by Malformed e z = absurd (omega arith)
+    by (Pack i) e z = unfold decode in by-damaged ws i (damaged ws) refl e

@@ -9,10 +9,10 @@ use lib.ListN.{length, drop, List·getD-eq-default}
 use Rattle.word.specs.Choice.{pick}
 use Rattle.word.specs.Words.{wordAt, bits, bit}
 use Rattle.word.proofs.Truth.{by-test}
-use Rattle.interface.specs.Meaning.{EntryPoint, entryNth}
+use Rattle.interface.specs.Meaning.{EntryPoint, entryPointNth}
 use Rattle.interface.specs.Format.{nameWords, decode, decodedNumber, interfaceOf}
 use Rattle.interface.specs.inner.Reads.{varyingWidth, standing}
-use Rattle.interface.specs.inner.Parts.{recordsFrom, endFrom, varyingEnd, varyingsEnd, resourceEnd, countsAt, inputsAt, partsAt, entryEnd, entryAt, entriesAt, resourceCount, entryCount, headAt, Placed, Heads, workgroupAt}
+use Rattle.interface.specs.inner.Parts.{recordsFrom, endFrom, varyingEnd, varyingsEnd, resourceEnd, countsAt, inputsAt, partsAt, entryEnd, entryPointAt, entriesAt, resourceCount, entryCount, headAt, Placed, Heads, workgroupAt}
 use Rattle.interface.specs.declared.types.EntryParts.{EntryParts}
 use Rattle.interface.proofs.ReadsRecords.{end-left, end-none, records-length}
 use Rattle.interface.proofs.ReadsPack.{accepted}
@@ -77,8 +77,8 @@ within after rises zero (suc n) at h = past after rises n (after at)
 within after rises (suc p) zero at h = absurd (omega arith)
 within after rises (suc p) (suc n) at h = within after rises p n (after at) (omega arith)
 
-nth : (ws : List ℕ) (p n at : ℕ) → p < n → entryNth (recordsFrom (entryAt ws) (entryEnd ws) n at) p ≡ entryAt ws (endFrom (entryEnd ws) p at)
-unfolding recordsFrom endFrom entryNth
+nth : (ws : List ℕ) (p n at : ℕ) → p < n → entryPointNth (recordsFrom (entryPointAt ws) (entryEnd ws) n at) p ≡ entryPointAt ws (endFrom (entryEnd ws) p at)
+unfolding recordsFrom endFrom entryPointNth
 nth ws zero zero at h = absurd (omega arith)
 nth ws zero (suc n) at h = refl
 nth ws (suc p) zero at h = absurd (omega arith)
@@ -177,7 +177,7 @@ module _ (ws : List ℕ) (head : ℕ) (i : entryEnd ws head < length ws) (parts 
   outputs-placed w n hw hn = rw (hn, hw, hp) i
 
 counted : (ws : List ℕ) (p : ℕ) → decodedNumber (decode ws) ≡ 0 → p < length (interfaceOf (decode ws) .entries) → p < entryCount ws
-counted ws p h k = rw (accepted ws h .entries, records-length (entryAt ws) (entryEnd ws) (entryCount ws) (entriesAt ws)) at k
+counted ws p h k = rw (accepted ws h .entries, records-length (entryPointAt ws) (entryEnd ws) (entryCount ws) (entriesAt ws)) at k
 
 -- a table of heads has each of them, since no entry point begins with a pack's first word
 module _ (ws heads : List ℕ) (p : ℕ) (h : decodedNumber (decode ws) ≡ 0) (g : Heads ws heads) (k : p < length (interfaceOf (decode ws) .entries)) where
@@ -222,7 +222,7 @@ module _ (ws heads : List ℕ) (p head : ℕ) (h : decodedNumber (decode ws) ≡
       pub nth-placed : Placed ws parts
       nth-placed = rw d (placed (counted ws p h k))
 
-      pub nth-read : standing ws parts ≡ entryNth (interfaceOf (decode ws) .entries) p
+      pub nth-read : standing ws parts ≡ entryPointNth (interfaceOf (decode ws) .entries) p
       nth-read =
           let a : head ≡ headAt ws p = e ∙ g .entries h p (counted ws p h k) in
           rw (d, a, accepted ws h .entries) (sym (nth ws p (entryCount ws) (entriesAt ws) (counted ws p h k)))
@@ -230,7 +230,7 @@ module _ (ws heads : List ℕ) (p head : ℕ) (h : decodedNumber (decode ws) ≡
 -- ---- the entry points that are left
 
 abbrev pub left-of : List ℕ → ℕ → ℕ → List EntryPoint
-left-of ws left at = recordsFrom (entryAt ws) (entryEnd ws) left at
+left-of ws left at = recordsFrom (entryPointAt ws) (entryEnd ws) left at
 
 module _ (ws : List ℕ) (h : decodedNumber (decode ws) ≡ 0) (left at : ℕ) (hl : left ≡ entryCount ws) (ha : at ≡ entriesAt ws) where
   pub entries-begin : interfaceOf (decode ws) .entries ≡ left-of ws left at

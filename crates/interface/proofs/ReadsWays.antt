@@ -12,7 +12,7 @@ use Rattle.word.specs.Words.{wordAt, kindOf, contentOf}
 use Rattle.word.proofs.Parse.{first-of}
 use Rattle.interface.specs.Format.{decode, decodedNumber, limitsBy, limitsOf, interfaceOf}
 use Rattle.interface.specs.inner.Reads.{varyingWidth}
-use Rattle.interface.specs.inner.Parts.{resourceCount, entryCount, resourceEnd, entryEnd, entriesAt, entryAt}
+use Rattle.interface.specs.inner.Parts.{resourceCount, entryCount, resourceEnd, entryEnd, entriesAt, entryPointAt}
 use Rattle.bindings.specs.Format.{resourceAt}
 use Rattle.interface.specs.declared.types.Limits.{Limits}
 use Rattle.interface.proofs.ReadsRecords.{records-length}
@@ -52,7 +52,7 @@ module _ (ws : List ℕ) (h : decodedNumber (decode ws) ≡ 0) where
       rw (pa, pb, pc, pd, pe, pf, pg, pi, pj, pk, pl, pm, pn) (sym (accepted ws h .limits ∙ limits-drop ws))
 
   pub entries-counted : wordAt ws 1 % 65536 ≡ length (interfaceOf (decode ws) .entries)
-  entries-counted = sym (ap length (accepted ws h .entries) ∙ records-length (entryAt ws) (entryEnd ws) (entryCount ws) (entriesAt ws))
+  entries-counted = sym (ap length (accepted ws h .entries) ∙ records-length (entryPointAt ws) (entryEnd ws) (entryCount ws) (entriesAt ws))
 
   pub entries-few : wordAt ws 1 % 65536 ≤ 16
   entries-few = accepted ws h .few-entries

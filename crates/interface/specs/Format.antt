@@ -14,7 +14,7 @@ use Rattle.bindings.specs.declared.types.ResourceType.{ResourceType}
 use Rattle.bindings.specs.declared.types.ResourceType.the-variants as Res
 use Rattle.bindings.specs.declared.types.ImageClass.{ImageClass}
 use Rattle.bindings.specs.declared.types.ImageClass.the-variants as Class
-use Rattle.varying.specs.Format.{locationFiled, varFiled, varOf, varWord, payloadFiled, payloadOf, payloadWord}
+use Rattle.varying.specs.Format.{locationWellFormed, varWellFormed, varOf, varWord, payloadWellFormed, payloadOf, payloadWord}
 use Rattle.interface.specs.Meaning.{EntryPoint, Interface}
 use Rattle.interface.specs.declared.types.ShaderStage.{ShaderStage}
 use Rattle.interface.specs.declared.types.ShaderStage.the-variants as Stage
@@ -78,7 +78,7 @@ topologyCode Top.TriangleStrip = 4
 
 -- ---- varyings
 
--- '26–24: 0 other, 1 primitive index, 2 draw index, 3 fragment depth, 4 clip distances; 7–0 array size for 4, else inter-stage places'
+-- '26–24: 0 other, 1 primitive index, 2 draw index, 3 fragment depth, 4 clip distances; 7–0 array size for 4, else inter-stage slots'
 abbrev pub builtInOf : ℕ → BuiltIn
 builtInOf w =
     pick (eqb (bits 26 24 w) 0) (In.Other (bits 7 0 w))
@@ -87,8 +87,8 @@ builtInOf w =
     (pick (eqb (bits 26 24 w) 3) (In.FragDepth (bits 7 0 w)) (In.ClipDistances (bits 7 0 w)))))
 
 -- codes below a number: 4 among inputs and 5 among outputs, since 'code 4 stands only among outputs'
-abbrev pub builtInFiled : ℕ → ℕ → Bool
-builtInFiled codes w = eqb (kindOf w) 14 && (ltb (bits 26 24 w) codes && eqb (bits 23 8 w) 0)
+abbrev pub builtInWellFormed : ℕ → ℕ → Bool
+builtInWellFormed codes w = eqb (kindOf w) 14 && (ltb (bits 26 24 w) codes && eqb (bits 23 8 w) 0)
 
 abbrev pub local : ℕ → ℕ → Varying
 local location var = Var.Local (contentOf location) (varOf var)
@@ -96,8 +96,8 @@ local location var = Var.Local (contentOf location) (varOf var)
 -- 'Varying: kind 12 location, then kind 13 …. Or a built-in, kind 14'
 abbrev pub varyingBehind : ℕ → ℕ → List ℕ → Parsed Varying
 varyingBehind codes w rest =
-    pick (locationFiled w) (next (one varFiled rest) λ var rest. got (local w var) rest)
-    (pick (builtInFiled codes w) (got (Var.BuiltIn (builtInOf w)) rest) fault)
+    pick (locationWellFormed w) (next (one varWellFormed rest) λ var rest. got (local w var) rest)
+    (pick (builtInWellFormed codes w) (got (Var.BuiltIn (builtInOf w)) rest) fault)
 
 unfoldable pub readVarying : ℕ → List ℕ → Parsed Varying
 readVarying codes [] = fault
@@ -105,10 +105,10 @@ readVarying codes (w ∷ rest) = varyingBehind codes w rest
 
 abbrev pub isClip : Varying → ℕ
 isClip (Var.Local location iv) = 0
-isClip (Var.BuiltIn (In.Other places)) = 0
-isClip (Var.BuiltIn (In.PrimitiveIndex places)) = 0
-isClip (Var.BuiltIn (In.DrawIndex places)) = 0
-isClip (Var.BuiltIn (In.FragDepth places)) = 0
+isClip (Var.BuiltIn (In.Other slots)) = 0
+isClip (Var.BuiltIn (In.PrimitiveIndex slots)) = 0
+isClip (Var.BuiltIn (In.DrawIndex slots)) = 0
+isClip (Var.BuiltIn (In.FragDepth slots)) = 0
 isClip (Var.BuiltIn (In.ClipDistances size)) = 1
 
 -- how many clip distances stand among varyings
@@ -130,8 +130,8 @@ unfoldable pub allZero : List ℕ → Bool
 allZero [] = true
 allZero (b ∷ bs) = let rest = allZero bs in pick (eqb b 0) rest false
 
-abbrev pub nameFiled : ℕ → List ℕ → Bool
-nameFiled n bytes = noZero (take n bytes) && allZero (drop n bytes)
+abbrev pub nameWellFormed : ℕ → List ℕ → Bool
+nameWellFormed n bytes = noZero (take n bytes) && allZero (drop n bytes)
 
 abbrev pub nameWords : ℕ → ℕ
 nameWords n = (n + 3) / 4
@@ -139,13 +139,13 @@ nameWords n = (n + 3) / 4
 unfoldable pub readName : ℕ → List ℕ → Parsed (List ℕ)
 readName n ws =
     next (several (nameWords n) (one (λ w. true)) ws) λ words rest.
-    pick (nameFiled n (bytesOf words)) (got (take n (bytesOf words)) rest) fault
+    pick (nameWellFormed n (bytesOf words)) (got (take n (bytesOf words)) rest) fault
 
 -- ---- entry points
 
 -- 'kind 7 (stage 26–24; name bytes 22–16, 1–64; bit 1 mesh record, bit 0 dual source)'
-abbrev pub headFiled : ℕ → Bool
-headFiled w =
+abbrev pub headWellFormed : ℕ → Bool
+headWellFormed w =
     eqb (kindOf w) 7 && (ltb (bits 26 24 w) 5 && (eqb (bit 23 w) 0 && (leb 1 (bits 22 16 w) && (leb (bits 22 16 w) mostBytes && eqb (bits 15 2 w) 0))))
 
 abbrev pub ofWord : ℕ → ℕ → Bool
@@ -159,8 +159,8 @@ readWorkgroup ws =
     next (one (ofWord 8) rest) λ z rest.
     got (record { x = contentOf x; y = contentOf y; z = contentOf z }) rest
 
-abbrev pub topologyFiled : ℕ → Bool
-topologyFiled w = ofWord 10 w && ltb (contentOf w) 5
+abbrev pub topologyWellFormed : ℕ → Bool
+topologyWellFormed w = ofWord 10 w && ltb (contentOf w) 5
 
 abbrev pub meshInfo : ℕ → ℕ → ℕ → MeshRecord
 meshInfo vertices primitives topology =
@@ -172,16 +172,16 @@ readMesh false ws = got Mesh.Absent ws
 readMesh true ws =
     next (one (ofWord 10) ws) λ vertices rest.
     next (one (ofWord 10) rest) λ primitives rest.
-    next (one topologyFiled rest) λ topology rest.
+    next (one topologyWellFormed rest) λ topology rest.
     got (meshInfo vertices primitives topology) rest
 
 -- 'kind 15 with four 6-bit counts from bit 23 down'
-abbrev pub countsFiled : ℕ → Bool
-countsFiled w = ofWord 15 w && eqb (bits 26 24 w) 0
+abbrev pub countsWellFormed : ℕ → Bool
+countsWellFormed w = ofWord 15 w && eqb (bits 26 24 w) 0
 
 -- 'resource indexes, kind 5'
-abbrev pub indexFiled : ℕ → ℕ → Bool
-indexFiled count w = ofWord 5 w && ltb (contentOf w) count
+abbrev pub indexWellFormed : ℕ → ℕ → Bool
+indexWellFormed count w = ofWord 5 w && ltb (contentOf w) count
 
 unfoldable pub contents : List ℕ → List ℕ
 contents [] = []
@@ -222,8 +222,8 @@ pairGood resources listed p =
     && (among listed (p .sampler) && ofType isSampler resources (p .sampler)))
 
 -- 'pairs, kind 5 (texture 15–8, sampler 7–0)'
-abbrev pub pairFiled : List Resource → List ℕ → ℕ → Bool
-pairFiled resources listed w = ofWord 5 w && (eqb (bits 26 16 w) 0 && pairGood resources listed (pairOf w))
+abbrev pub pairWellFormed : List Resource → List ℕ → ℕ → Bool
+pairWellFormed resources listed w = ofWord 5 w && (eqb (bits 26 16 w) 0 && pairGood resources listed (pairOf w))
 
 unfoldable pub pairsOf : List ℕ → List SamplingPair
 pairsOf [] = []
@@ -233,14 +233,14 @@ pairsOf (w ∷ ws) = pairOf w ∷ pairsOf ws
 -- with clip distances 'at most once'
 unfoldable pub readEntryPoint : List Resource → List ℕ → Parsed EntryPoint
 readEntryPoint resources ws =
-    next (one headFiled ws) λ head rest.
+    next (one headWellFormed ws) λ head rest.
     next (readName (bits 22 16 head) rest) λ name rest.
     next (readWorkgroup rest) λ workgroup rest.
-    next (one payloadFiled rest) λ payload rest.
+    next (one payloadWellFormed rest) λ payload rest.
     next (readMesh (eqb (bit 1 head) 1) rest) λ mesh rest.
-    next (one countsFiled rest) λ counts rest.
-    next (several (bits 23 18 counts) (one (indexFiled (length resources))) rest) λ indexes rest.
-    next (several (bits 17 12 counts) (one (pairFiled resources (contents indexes))) rest) λ pairs rest.
+    next (one countsWellFormed rest) λ counts rest.
+    next (several (bits 23 18 counts) (one (indexWellFormed (length resources))) rest) λ indexes rest.
+    next (several (bits 17 12 counts) (one (pairWellFormed resources (contents indexes))) rest) λ pairs rest.
     next (several (bits 11 6 counts) (readVarying 4) rest) λ inputs rest.
     next (several (bits 5 0 counts) (readVarying 5) rest) λ outputs rest.
     pick (leb (clips outputs) 1)
@@ -263,12 +263,12 @@ readEntryPoint resources ws =
 -- ---- packs
 
 -- 'kind 1 (edition 1 in bits 26–16, total words 15–0)'
-abbrev pub editionFiled : ℕ → Bool
-editionFiled w = ofWord 1 w && eqb (bits 26 16 w) 1
+abbrev pub editionWellFormed : ℕ → Bool
+editionWellFormed w = ofWord 1 w && eqb (bits 26 16 w) 1
 
 -- 'kind 2 (resources 0–128 in bits 26–16, entry points 0–16 in 15–0)'
-abbrev pub totalsFiled : ℕ → Bool
-totalsFiled w = ofWord 2 w && (leb (bits 26 16 w) mostResources && leb (bits 15 0 w) mostEntries)
+abbrev pub totalsWellFormed : ℕ → Bool
+totalsWellFormed w = ofWord 2 w && (leb (bits 26 16 w) mostResources && leb (bits 15 0 w) mostEntries)
 
 -- '13 limits of kind 3: inter-stage variables, colour attachments, compute size in x, y, z, compute total, task dimension, task total,
 -- mesh dimension, mesh total, mesh vertices, mesh primitives, task payload'
@@ -320,49 +320,49 @@ distinctNames (e ∷ es) = let rest = distinctNames es in pick (hasName (e .stag
 -- the words before the closing one, in order
 unfoldable pub readPack : List ℕ → Parsed Interface
 readPack ws =
-    next (one editionFiled ws) λ edition rest.
-    next (one totalsFiled rest) λ totals rest.
+    next (one editionWellFormed ws) λ edition rest.
+    next (one totalsWellFormed rest) λ totals rest.
     next (several 13 (one (ofWord 3)) rest) λ limits rest.
     next (several (bits 26 16 totals) readResource rest) λ resources rest.
     next (several (bits 15 0 totals) (readEntryPoint resources) rest) λ entries rest.
     pick (distinctNames entries) (got (record { limits = limitsOf limits; resources = resources; entries = entries }) rest) fault
 
 -- 'under 16 or over 4,096 words, total unlike the length, or sum'
-unfoldable pub torn : List ℕ → Bool
-torn ws =
+unfoldable pub damaged : List ℕ → Bool
+damaged ws =
     ltb (length ws) 16 || (ltb mostWords (length ws) || (not (eqb (bits 15 0 (wordAt ws 0)) (length ws))
     || not (eqb (wordAt ws (length ws - 1)) (closingSum ws))))
 
 pub data Decoded : Type 0 where
-  Torn : Decoded
-  Misfiled : Decoded
+  Damaged : Decoded
+  Malformed : Decoded
   Pack : Interface → Decoded
 
 -- the records end exactly at the closing word
 abbrev pub whole : Parsed Interface → Decoded
-whole fault = Misfiled
+whole fault = Malformed
 whole (got i []) = Pack i
-whole (got i (w ∷ ws)) = Misfiled
+whole (got i (w ∷ ws)) = Malformed
 
 abbrev pub body : List ℕ → List ℕ
 body ws = take (length ws - 1) ws
 
 unfoldable pub decode : List ℕ → Decoded
-decode ws = pick (torn ws) Torn (whole (readPack (body ws)))
+decode ws = pick (damaged ws) Damaged (whole (readPack (body ws)))
 
--- 1 torn, 2 misfiled
+-- 1 damaged, 2 malformed
 abbrev pub decodedNumber : Decoded → ℕ
-decodedNumber Torn = 1
-decodedNumber Misfiled = 2
+decodedNumber Damaged = 1
+decodedNumber Malformed = 2
 decodedNumber (Pack i) = 0
 
 -- ---- the words of a pack
 
 abbrev pub builtInCode : BuiltIn → ℕ
-builtInCode (In.Other places) = places
-builtInCode (In.PrimitiveIndex places) = 2 ^ 24 * 1 + places
-builtInCode (In.DrawIndex places) = 2 ^ 24 * 2 + places
-builtInCode (In.FragDepth places) = 2 ^ 24 * 3 + places
+builtInCode (In.Other slots) = slots
+builtInCode (In.PrimitiveIndex slots) = 2 ^ 24 * 1 + slots
+builtInCode (In.DrawIndex slots) = 2 ^ 24 * 2 + slots
+builtInCode (In.FragDepth slots) = 2 ^ 24 * 3 + slots
 builtInCode (In.ClipDistances size) = 2 ^ 24 * 4 + size
 
 abbrev pub varyingWords : Varying → List ℕ
@@ -439,6 +439,6 @@ encode i = openWords i ++ ((sumOf (openWords i) % 2 ^ 32) ∷ [])
 
 -- the interface of an accepted pack
 abbrev pub interfaceOf : Decoded → Interface
-interfaceOf Torn = record { limits = limitsOf []; resources = []; entries = [] }
-interfaceOf Misfiled = record { limits = limitsOf []; resources = []; entries = [] }
+interfaceOf Damaged = record { limits = limitsOf []; resources = []; entries = [] }
+interfaceOf Malformed = record { limits = limitsOf []; resources = []; entries = [] }
 interfaceOf (Pack i) = i

@@ -49,7 +49,7 @@ emptyEntryPoint =
     }
 
 -- the entry point at a position; past the end an empty one
-unfoldable pub entryNth : List EntryPoint → ℕ → EntryPoint
-entryNth [] i = emptyEntryPoint
-entryNth (e ∷ es) zero = e
-entryNth (e ∷ es) (suc i) = entryNth es i
+unfoldable pub entryPointNth : List EntryPoint → ℕ → EntryPoint
+entryPointNth [] i = emptyEntryPoint
+entryPointNth (e ∷ es) zero = e
+entryPointNth (e ∷ es) (suc i) = entryPointNth es i

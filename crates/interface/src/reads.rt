@@ -6,7 +6,7 @@ ghost use lib.ListN.{length};
 ghost use Rattle.word.specs.Words.{wordAt, contentOf};
 ghost use Rattle.interface.specs.Format.{stageAt, stageCode, topologyAt, builtInOf, pairOf, decode, decodedNumber, interfaceOf};
 ghost use Rattle.interface.specs.inner.Reads.{varyingWidth, standing};
-ghost use Rattle.interface.specs.Meaning.{entryNth};
+ghost use Rattle.interface.specs.Meaning.{entryPointNth};
 ghost use Rattle.interface.specs.inner.Parts.{resourceCount, entryCount, Placed, Heads};
 use crate::parts::parts_at;
 use crate::types::BuiltIn;
@@ -173,7 +173,7 @@ pub fn position_at(table: &[u16], index: usize) -> u16
 pub fn entry_parts(pack: &[u32], heads: &[u16], position: usize) -> EntryParts
     requires { ⌜ (decodedNumber (decode (now pack)) ≡ 0) × Heads (now pack) (now heads) ⌝ }
     requires { ⌜ position < length (interfaceOf (decode (now pack)) .entries) ⌝ }
-    ensures { λ r. ⌜ standing (now (pack .entry)) r ≡ entryNth (interfaceOf (decode (now (pack .entry))) .entries) position ⌝ }
+    ensures { λ r. ⌜ standing (now (pack .entry)) r ≡ entryPointNth (interfaceOf (decode (now (pack .entry))) .entries) position ⌝ }
     ensures { λ r. ⌜ Placed (now (pack .entry)) r ⌝ }
 {
     parts_at(pack, position_at(heads, position) as usize)

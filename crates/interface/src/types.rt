@@ -29,7 +29,7 @@ pub enum MeshRecord {
     Info { info: EntryPointMeshInfo },
 }
 
-// A built-in variable: how many inter-stage places it takes, and of clip distances how many there are.
+// A built-in variable: how many inter-stage slots it takes, and of clip distances how many there are.
 pub enum BuiltIn {
     Other { places: u32 },
     PrimitiveIndex { places: u32 },

@@ -9,7 +9,7 @@ use lib.ListN.{length, getD, set, List·getD-append, length-append, length-drop,
 use lib.Seq.{map-set-same, getD-set-same, getD-set-other, getD-append-seam}
 use borrow.Author.Tests.{ltb-true, lt-ltb}
 use Rattle.word.specs.Choice.{pick}
-use Rattle.bindings.specs.Format.{placeHeld, formatHeld}
+use Rattle.bindings.specs.Format.{placeEncodable, formatEncodable}
 use Rattle.bindings.specs.declared.types.ResourceBinding.{ResourceBinding}
 use Rattle.bindings.specs.declared.types.BindGroupLayoutEntry.{BindGroupLayoutEntry}
 use Rattle.word.proofs.Truth.{first, second, never, allBelow, below-all}
@@ -98,8 +98,8 @@ nth-beside s es i k h =
 fits-joined : (g s : ℕ) (e : BindGroupLayoutEntry) → s ≤ 4 → entryFits g e ≡ true → entryFits g (seenBy s e) ≡ true
 fits-joined g s e hs h =
     let v : e .visibility < 32 = search (ltb-true, first, second) depth 6 in
-    let p : placeHeld (e .bind) ≡ true = search (first, second) depth 6 in
-    let f : formatHeld (e .ty) ≡ true = search (first, second) depth 6 in
+    let p : placeEncodable (e .bind) ≡ true = search (first, second) depth 6 in
+    let f : formatEncodable (e .ty) ≡ true = search (first, second) depth 6 in
     let b : ltb (e .bind .group) g ≡ true = search second in
     rw (p, f, b, lt-ltb (joinBit s (e .visibility)) 32 (join-short s (e .visibility) hs v))
 
@@ -114,7 +114,7 @@ module _ (L : Layout) (h : layoutGood L ≡ true) where
       (record {
         short = omega (arith, g .short, length-append (L .entries) (e ∷ []), length-drop 4 (L .room));
         groups = g .groups;
-        held = every-more (entryFits (L .groups)) (L .entries) e (g .held) f;
+        encodable = every-more (entryFits (L .groups)) (L .entries) e (g .encodable) f;
         distinct = distinct-last (λ e. e .bind) (L .entries) e (g .distinct) n;
       })
 
@@ -124,14 +124,14 @@ module _ (L : Layout) (h : layoutGood L ≡ true) where
   good-joined s i hs hi =
       let g : Good L = good L h in
       let t : entryFits (L .groups) (entryNth (L .entries) i) ≡ true
-      = rw (nth-getD (L .entries) i) (every-nth (entryFits (L .groups)) (L .entries) i emptyEntry (g .held) hi) in
+      = rw (nth-getD (L .entries) i) (every-nth (entryFits (L .groups)) (L .entries) i emptyEntry (g .encodable) hi) in
       is-good (joined s L i)
       (record {
         short = omega (arith, g .short, length-join s (L .entries) i);
         groups = g .groups;
-        held =
+        encodable =
             rw (joined-set s (L .entries) i)
-            (every-set (entryFits (L .groups)) (L .entries) i (seenBy s (entryNth (L .entries) i)) (g .held)
+            (every-set (entryFits (L .groups)) (L .entries) i (seenBy s (entryNth (L .entries) i)) (g .encodable)
             (fits-joined (L .groups) s (entryNth (L .entries) i) hs t));
         distinct = rw (places-join s (L .entries) i) (g .distinct);
       })

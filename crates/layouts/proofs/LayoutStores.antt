@@ -8,59 +8,59 @@ use lib.ListN.{length, drop, getD, set}
 use lib.Seq.{drop-drop}
 use borrow.Author.Tests.{leb-true}
 use Rattle.word.specs.Words.{wordAt, kindOf, contentOf, bits, ofKind}
-use Rattle.bindings.specs.Format.{entryFiled, entryWords, entryOf, entryFiledAt, entryAt}
+use Rattle.bindings.specs.Format.{entryWellFormed, entryWords, entryOf, entryWellFormedAt, entryAt}
 use Rattle.bindings.specs.declared.types.BindGroupLayoutEntry.{BindGroupLayoutEntry}
 use Rattle.bindings.proofs.EntryFormat.{entry-back}
 use Rattle.word.proofs.Truth.{first}
 use Rattle.layouts.specs.Meaning.{entryHas, entryNth, emptyEntry, pushed, joinBit, seenBy, joinAt, joined}
-use Rattle.places.specs.Records.{fits, put, past, each, countOf}
+use Rattle.places.specs.Records.{roomFor, put, past, each, countOf}
 use Rattle.word.specs.Lists.{flat}
-use Rattle.layouts.specs.Format.{groupsOf, readEntry, readEntries, entryGood, entryFits, layoutFiled, decodeLayout, encodeLayout, layoutGood}
+use Rattle.layouts.specs.Format.{groupsOf, readEntry, readEntries, entryGood, entryFits, layoutWellFormed, decodeLayout, encodeLayout, layoutGood}
 use Rattle.places.proofs.Words.{here, there}
 use Rattle.places.proofs.Records.{read-length, room-lacks, room-fits, each-nth, put-more, count-more, set-read}
-use Rattle.layouts.proofs.LayoutLists.{entry-form, Filed, filed, encode-decode, decode-encode, filed-encode, good-decode}
+use Rattle.layouts.proofs.LayoutLists.{entry-form, WellFormed, well-formed, encode-decode, decode-encode, well-formed-encode, good-decode}
 use Rattle.layouts.proofs.LayoutLaws.{nth-getD, joined-set, length-join, good-pushed, good-joined}
 use Rattle.layouts.proofs.LayoutWays.{entries-counted, nth-read, entry-read}
 
 -- ---- an entry stored
 
-pub entry-stored : (l m : List ℕ) (at p t s v : ℕ) → entryFiled p t s v ≡ true → m ≡ put l at (p ∷ t ∷ s ∷ v ∷ [])
+pub entry-stored : (l m : List ℕ) (at p t s v : ℕ) → entryWellFormed p t s v ≡ true → m ≡ put l at (p ∷ t ∷ s ∷ v ∷ [])
     → m ≡ put l at (entryWords (entryOf p t s v))
 entry-stored l m at p t s v f h = rw (entry-back p t s v f) h
 
 -- ---- a new entry
 
-pub words-kept : (ws : List ℕ) → layoutFiled ws ≡ true → ws ≡ encodeLayout (decodeLayout ws)
+pub words-kept : (ws : List ℕ) → layoutWellFormed ws ≡ true → ws ≡ encodeLayout (decodeLayout ws)
 words-kept ws f = sym (encode-decode ws f)
 
-module _ (ws : List ℕ) (n : ℕ) (f : layoutFiled ws ≡ true) (en : n ≡ countOf ws) where
-  pub room-lacking : length ws < 1 + 4 * n + 4 → false ≡ fits 4 (decodeLayout ws .room)
+module _ (ws : List ℕ) (n : ℕ) (f : layoutWellFormed ws ≡ true) (en : n ≡ countOf ws) where
+  pub room-lacking : length ws < 1 + 4 * n + 4 → false ≡ roomFor 4 (decodeLayout ws .room)
   unfolding decodeLayout
-  room-lacking h = sym (room-lacks 1 4 (countOf ws) ws (filed ws f .holds) (rw en at h))
+  room-lacking h = sym (room-lacks 1 4 (countOf ws) ws (well-formed ws f .holds) (rw en at h))
 
-  pub room-there : 1 + 4 * n + 4 ≤ length ws → true ≡ fits 4 (decodeLayout ws .room)
+  pub room-there : 1 + 4 * n + 4 ≤ length ws → true ≡ roomFor 4 (decodeLayout ws .room)
   unfolding decodeLayout
-  room-there h = sym (room-fits 1 4 (countOf ws) ws (filed ws f .holds) (rw en at h))
+  room-there h = sym (room-fits 1 4 (countOf ws) ws (well-formed ws f .holds) (rw en at h))
 
-pub head-there : (ws : List ℕ) → layoutFiled ws ≡ true → 1 ≤ length ws
-head-there ws f = omega (arith, filed ws f .holds)
+pub head-there : (ws : List ℕ) → layoutWellFormed ws ≡ true → 1 ≤ length ws
+head-there ws f = omega (arith, well-formed ws f .holds)
 
-pub entries-within : (ws : List ℕ) (n : ℕ) → layoutFiled ws ≡ true → n ≡ countOf ws → 1 + 4 * n ≤ length ws
-entries-within ws n f e = omega (arith, filed ws f .holds)
+pub entries-within : (ws : List ℕ) (n : ℕ) → layoutWellFormed ws ≡ true → n ≡ countOf ws → 1 + 4 * n ≤ length ws
+entries-within ws n f e = omega (arith, well-formed ws f .holds)
 
 -- a list of 1,024 words has at most 255 entries
-pub layout-few : (ws : List ℕ) → layoutFiled ws ≡ true → length (decodeLayout ws .entries) ≤ 255
-layout-few ws f = omega (arith, filed ws f .holds, filed ws f .short, entries-counted ws)
+pub layout-few : (ws : List ℕ) → layoutWellFormed ws ≡ true → length (decodeLayout ws .entries) ≤ 255
+layout-few ws f = omega (arith, well-formed ws f .holds, well-formed ws f .short, entries-counted ws)
 
-pub head-more : (ws : List ℕ) (w : ℕ) → layoutFiled ws ≡ true → w ≡ wordAt ws 0 → w + 1 < 2 ^ 32
-head-more ws w f e = let k : kindOf w ≡ 17 = rw e (filed ws f .kind) in omega arith
+pub head-more : (ws : List ℕ) (w : ℕ) → layoutWellFormed ws ≡ true → w ≡ wordAt ws 0 → w + 1 < 2 ^ 32
+head-more ws w f e = let k : kindOf w ≡ 17 = rw e (well-formed ws f .kind) in omega arith
 
-pushed-words : (ws : List ℕ) (e : BindGroupLayoutEntry) → layoutFiled ws ≡ true → 1 + 4 * countOf ws + 4 ≤ length ws
+pushed-words : (ws : List ℕ) (e : BindGroupLayoutEntry) → layoutWellFormed ws ≡ true → 1 + 4 * countOf ws + 4 ≤ length ws
     → set (put ws (1 + 4 * countOf ws) (entryWords e)) 0 (wordAt ws 0 + 1) ≡ encodeLayout (pushed (decodeLayout ws) e)
 unfolding encodeLayout decodeLayout pushed countOf groupsOf
 pushed-words [] e f h = absurd (omega arith)
 pushed-words (w ∷ ws) e f h =
-    let t : Filed (w ∷ ws) = filed (w ∷ ws) f in
+    let t : WellFormed (w ∷ ws) = well-formed (w ∷ ws) f in
     let k : kindOf w ≡ 17 = t .kind in
     let n = bits 15 0 w in
     let few : 1 + 4 * n ≤ 1024 = omega (arith, t .short) in
@@ -69,7 +69,7 @@ pushed-words (w ∷ ws) e f h =
     let form = entry-form (bits 26 16 w) in
     put-more form n ws fit (t .good) w (w + 1) e ∙ rw (count-more form n ws fit (t .good) e, head)
 
-module _ (ws ws′ : List ℕ) (e : BindGroupLayoutEntry) (n w : ℕ) (f : layoutFiled ws ≡ true) (en : n ≡ countOf ws) (ew : w ≡ wordAt ws 0)
+module _ (ws ws′ : List ℕ) (e : BindGroupLayoutEntry) (n w : ℕ) (f : layoutWellFormed ws ≡ true) (en : n ≡ countOf ws) (ew : w ≡ wordAt ws 0)
     (h : 1 + 4 * n + 4 ≤ length ws) (p : ws′ ≡ put ws (1 + 4 * n) (entryWords e)) where
   pub push-stored : set ws′ 0 (w + 1) ≡ encodeLayout (pushed (decodeLayout ws) e)
   push-stored = rw (p, ew, en) (pushed-words ws e f (rw en at h))
@@ -81,8 +81,8 @@ module _ (ws ws′ : List ℕ) (e : BindGroupLayoutEntry) (n w : ℕ) (f : layou
     pub push-decoded : decodeLayout (set ws′ 0 (w + 1)) ≡ pushed (decodeLayout ws) e
     push-decoded = rw push-stored (decode-encode (pushed (decodeLayout ws) e) push-good)
 
-    pub push-filed : layoutFiled (set ws′ 0 (w + 1)) ≡ true
-    push-filed = rw push-stored (filed-encode (pushed (decodeLayout ws) e) push-good)
+    pub push-well-formed : layoutWellFormed (set ws′ 0 (w + 1)) ≡ true
+    push-well-formed = rw push-stored (well-formed-encode (pushed (decodeLayout ws) e) push-good)
 
 -- ---- the words of an entry
 
@@ -90,30 +90,30 @@ module _ (l : List ℕ) (i : ℕ) (h : i < length (decodeLayout l .entries)) whe
   pub entry-there : entryNth (decodeLayout l .entries) i ≡ entryAt l (1 + 4 * i)
   entry-there = sym (entry-read l i (countOf l) refl (entryAt l (1 + 4 * i)) (rw entries-counted at h) refl)
 
-  pub entry-filed-there : layoutFiled l ≡ true → entryFiledAt l (1 + 4 * i) ≡ true
-  entry-filed-there f =
-      let t : entryGood (groupsOf l) (drop (4 * i) (drop 1 l)) ≡ true = each-nth 4 (entryGood (groupsOf l)) (countOf l) i (drop 1 l) (filed l f .good) (rw entries-counted at h) in
-      let q : entryFiledAt (drop (4 * i) (drop 1 l)) 0 ≡ true = search first in
+  pub entry-well-formed-there : layoutWellFormed l ≡ true → entryWellFormedAt l (1 + 4 * i) ≡ true
+  entry-well-formed-there f =
+      let t : entryGood (groupsOf l) (drop (4 * i) (drop 1 l)) ≡ true = each-nth 4 (entryGood (groupsOf l)) (countOf l) i (drop 1 l) (well-formed l f .good) (rw entries-counted at h) in
+      let q : entryWellFormedAt (drop (4 * i) (drop 1 l)) 0 ≡ true = search first in
       rw (drop-drop (4 * i) 1 l, here l (1 + 4 * i), there l (1 + 4 * i) 1, there l (1 + 4 * i) 2, there l (1 + 4 * i) 3) at q
 
 -- ---- positions of an entry's words
 
-module _ (l : List ℕ) (i : ℕ) (f : layoutFiled l ≡ true) (h : i < length (decodeLayout l .entries)) where
+module _ (l : List ℕ) (i : ℕ) (f : layoutWellFormed l ≡ true) (h : i < length (decodeLayout l .entries)) where
   entry-low : 4 * i + 4 < length l
-  entry-low = omega (arith, filed l f .holds, entries-counted l)
+  entry-low = omega (arith, well-formed l f .holds, entries-counted l)
 
   pub entry-scaled : 4 * i < 2 ^ 64
-  entry-scaled = omega (arith, entry-low, filed l f .short)
+  entry-scaled = omega (arith, entry-low, well-formed l f .short)
 
   pub entry-placed : 1 + 4 * i < 2 ^ 64
-  entry-placed = omega (arith, entry-low, filed l f .short)
+  entry-placed = omega (arith, entry-low, well-formed l f .short)
 
   module _ (k : ℕ) (n : k < 4) where
     pub word-placed : 1 + 4 * i + k < 2 ^ 64
-    word-placed = omega (arith, entry-low, filed l f .short)
+    word-placed = omega (arith, entry-low, well-formed l f .short)
 
     pub word-bytes : (1 + 4 * i + k) * 4 < 2 ^ 64
-    word-bytes = omega (arith, entry-low, filed l f .short)
+    word-bytes = omega (arith, entry-low, well-formed l f .short)
 
     pub word-inside : 1 + 4 * i + k < length l
     word-inside = omega (arith, entry-low)
@@ -137,12 +137,12 @@ joined-tail g n i s ws h t k =
     = rw (← nth-getD es i, ← seen-read n i ws k) (seen-words s (entryNth es i)) in
     set-read (entry-form g) n i 3 v ws (seenBy s (entryNth es i)) emptyEntry h t k (omega arith) c ∙ ap (λ p. flat entryWords p ++ past 4 n ws) (sym (joined-set s es i))
 
-joined-words : (l : List ℕ) (i s : ℕ) → layoutFiled l ≡ true → i < length (decodeLayout l .entries)
+joined-words : (l : List ℕ) (i s : ℕ) → layoutWellFormed l ≡ true → i < length (decodeLayout l .entries)
     → set l (1 + 4 * i + 3) (ofKind 19 (joinBit s (contentOf (wordAt l (1 + 4 * i + 3))))) ≡ encodeLayout (joined s (decodeLayout l) i)
 unfolding encodeLayout decodeLayout joined countOf groupsOf
-joined-words [] i s f h = absurd (omega (arith, filed [] f .kind))
+joined-words [] i s f h = absurd (omega (arith, well-formed [] f .kind))
 joined-words (w ∷ ws) i s f h =
-    let t : Filed (w ∷ ws) = filed (w ∷ ws) f in
+    let t : WellFormed (w ∷ ws) = well-formed (w ∷ ws) f in
     let n = bits 15 0 w in
     let q : kindOf w ≡ 17 = t .kind in
     let a : 1 + 4 * i + 3 ≡ suc (4 * i + 3) = omega arith in
@@ -156,7 +156,7 @@ joined-words (w ∷ ws) i s f h =
       joined-tail (bits 26 16 w) n i s ws (omega (arith, t .holds)) (t .good) k,
     )
 
-module _ (l : List ℕ) (i s c v : ℕ) (f : layoutFiled l ≡ true) (h : i < length (decodeLayout l .entries)) (x : ℕ) (ex : x ≡ wordAt l (1 + 4 * i + 3))
+module _ (l : List ℕ) (i s c v : ℕ) (f : layoutWellFormed l ≡ true) (h : i < length (decodeLayout l .entries)) (x : ℕ) (ex : x ≡ wordAt l (1 + 4 * i + 3))
     (ec : c ≡ contentOf x) (ev : v ≡ joinBit s c) where
   pub join-stored : set l (1 + 4 * i + 3) (0x98000000 + v) ≡ encodeLayout (joined s (decodeLayout l) i)
   join-stored = rw (ev, ec, ex) (joined-words l i s f h)
@@ -164,5 +164,5 @@ module _ (l : List ℕ) (i s c v : ℕ) (f : layoutFiled l ≡ true) (h : i < le
   pub join-decoded : s ≤ 4 → decodeLayout (set l (1 + 4 * i + 3) (0x98000000 + v)) ≡ joined s (decodeLayout l) i
   join-decoded hs = rw join-stored (decode-encode (joined s (decodeLayout l) i) (good-joined (decodeLayout l) (good-decode l f) s i hs h))
 
-  pub join-filed : s ≤ 4 → layoutFiled (set l (1 + 4 * i + 3) (0x98000000 + v)) ≡ true
-  join-filed hs = rw join-stored (filed-encode (joined s (decodeLayout l) i) (good-joined (decodeLayout l) (good-decode l f) s i hs h))
+  pub join-well-formed : s ≤ 4 → layoutWellFormed (set l (1 + 4 * i + 3) (0x98000000 + v)) ≡ true
+  join-well-formed hs = rw join-stored (well-formed-encode (joined s (decodeLayout l) i) (good-joined (decodeLayout l) (good-decode l f) s i hs h))

@@ -9,17 +9,17 @@ use lib.ListN.{length, drop}
 use lib.Seq.{drop-drop}
 use borrow.Author.Tests.{not-false, leb-true}
 use Rattle.word.specs.Words.{wordAt, kindOf, bits}
-use Rattle.bindings.specs.Format.{entryFiledAt, entryAt, entryOf}
+use Rattle.bindings.specs.Format.{entryWellFormedAt, entryAt, entryOf}
 use Rattle.bindings.specs.declared.types.ResourceBinding.{ResourceBinding}
 use Rattle.bindings.specs.declared.types.BindGroupLayoutEntry.{BindGroupLayoutEntry}
 use Rattle.word.proofs.Truth.{second}
 use Rattle.places.specs.Places.{placeFrom, distinctPlaces, foundBelow, places}
 use Rattle.layouts.specs.Meaning.{distinctEntries, entryPlaces, findEntry, entryNth, emptyEntry}
 use Rattle.places.specs.Records.{each, countOf}
-use Rattle.layouts.specs.Format.{groupsOf, readEntry, entryGood, readEntries, layoutHead, layoutFiled, decodeLayout}
+use Rattle.layouts.specs.Format.{groupsOf, readEntry, entryGood, readEntries, layoutHead, layoutWellFormed, decodeLayout}
 use Rattle.places.specs.declared.found.Found.{Found}
 use Rattle.places.proofs.Records.{read-length, read-mapped, nth-record}
-use Rattle.layouts.proofs.LayoutLists.{filed}
+use Rattle.layouts.proofs.LayoutLists.{well-formed}
 use Rattle.layouts.proofs.LayoutLaws.{nth-getD}
 use Rattle.places.proofs.Words.{here, there}
 
@@ -34,15 +34,15 @@ head-holds ws b e h = let t = sym e ∙ not-false b h in search (leb-true, secon
 
 -- ---- an entry
 
-module _ (l : List ℕ) (at groups : ℕ) (b : Bool) (e : b ≡ entryFiledAt l at) where
-  filed-there : entryFiledAt (drop at l) 0 ≡ b
-  filed-there = rw (here l at, there l at 1, there l at 2, there l at 3) (sym e)
+module _ (l : List ℕ) (at groups : ℕ) (b : Bool) (e : b ≡ entryWellFormedAt l at) where
+  well-formed-there : entryWellFormedAt (drop at l) 0 ≡ b
+  well-formed-there = rw (here l at, there l at 1, there l at 2, there l at 3) (sym e)
 
   pub entry-not : b ≡ false → false ≡ entryGood groups (drop at l)
-  entry-not h = rw (filed-there, h)
+  entry-not h = rw (well-formed-there, h)
 
   pub entry-is : b ≡ true → ltb (bits 26 23 (wordAt l at)) groups ≡ entryGood groups (drop at l)
-  entry-is h = rw (filed-there, h, here l at)
+  entry-is h = rw (well-formed-there, h, here l at)
 
 pub good-begins : (ws : List ℕ) (n : ℕ) (l : List ℕ) → n ≡ countOf ws
     → each 4 (entryGood (groupsOf ws)) (countOf ws) l ≡ each 4 (entryGood (bits 26 16 (wordAt ws 0))) n l
@@ -64,8 +64,8 @@ unfolding decodeLayout
 entry-found l n place r e h = rw (← e, entry-places n (drop 1 l)) h
 
 -- no two entries have one place
-pub entries-differ : (l : List ℕ) (n : ℕ) → layoutFiled l ≡ true → n ≡ countOf l → distinctPlaces (places 4 n (drop 1 l)) ≡ true
-entries-differ l n f e = rw e (rw (entry-places (countOf l) (drop 1 l)) at (filed l f .distinct))
+pub entries-differ : (l : List ℕ) (n : ℕ) → layoutWellFormed l ≡ true → n ≡ countOf l → distinctPlaces (places 4 n (drop 1 l)) ≡ true
+entries-differ l n f e = rw e (rw (entry-places (countOf l) (drop 1 l)) at (well-formed l f .distinct))
 
 pub entries-counted : (l : List ℕ) → length (decodeLayout l .entries) ≡ countOf l
 unfolding decodeLayout

@@ -6,7 +6,7 @@ use lib.Dec.{eqb, leb, ltb}
 use lib.ListN.{length, drop}
 use Rattle.bindings.specs.declared.types.BindGroupLayoutEntry.{BindGroupLayoutEntry}
 use Rattle.word.specs.Words.{wordAt, kindOf, bits, ofKind}
-use Rattle.bindings.specs.Format.{entryFiledAt, entryAt, entryWords, entryHeld, entryWidth}
+use Rattle.bindings.specs.Format.{entryWellFormedAt, entryAt, entryWords, entryEncodable, entryWidth}
 use Rattle.places.specs.Records.{shortEnough, countOf, past, records, each, mostListWords}
 use Rattle.word.specs.Lists.{every, flat}
 use Rattle.places.specs.Places.{readPlace}
@@ -22,7 +22,7 @@ readEntry ws = entryAt ws 0
 
 -- 'group is below the group count'
 abbrev pub entryGood : ℕ → List ℕ → Bool
-entryGood groups ws = entryFiledAt ws 0 && ltb (readPlace ws .group) groups
+entryGood groups ws = entryWellFormedAt ws 0 && ltb (readPlace ws .group) groups
 
 -- as many entries
 abbrev pub readEntries : ℕ → List ℕ → List BindGroupLayoutEntry
@@ -33,8 +33,8 @@ unfoldable pub layoutHead : List ℕ → Bool
 layoutHead ws = eqb (kindOf (wordAt ws 0)) 17 && (leb (groupsOf ws) 8 && leb (1 + entryWidth * countOf ws) (length ws))
 
 -- words are a layout list
-unfoldable pub layoutFiled : List ℕ → Bool
-layoutFiled ws =
+unfoldable pub layoutWellFormed : List ℕ → Bool
+layoutWellFormed ws =
     shortEnough ws && (layoutHead ws
     && (each entryWidth (entryGood (groupsOf ws)) (countOf ws) (drop 1 ws) && distinctEntries (readEntries (countOf ws) (drop 1 ws))))
 
@@ -49,7 +49,7 @@ encodeLayout L = ofKind 17 (2 ^ 16 * L .groups + length (L .entries)) ∷ (flat 
 
 -- what a layout list can hold of an entry: the same rules, over its meaning
 abbrev pub entryFits : ℕ → BindGroupLayoutEntry → Bool
-entryFits groups e = entryHeld e && ltb (e .bind .group) groups
+entryFits groups e = entryEncodable e && ltb (e .bind .group) groups
 
 -- and of the layout as a whole
 unfoldable pub layoutGood : Layout → Bool

@@ -9,7 +9,7 @@ use Rattle.bindings.specs.declared.types.ResourceBinding.{ResourceBinding}
 use Rattle.bindings.specs.declared.types.BindingType.the-variants as Bind
 use Rattle.bindings.specs.declared.types.BindGroupLayoutEntry.{BindGroupLayoutEntry}
 use Rattle.bindings.specs.Format.{entryWidth}
-use Rattle.places.specs.Records.{fits}
+use Rattle.places.specs.Records.{roomFor}
 use Rattle.places.specs.Places.{placeFrom, placeIn, distinctPlaces}
 use Rattle.places.specs.declared.found.Found.{Found}
 
@@ -47,7 +47,7 @@ entryNth (e ∷ es) (suc i) = entryNth es i
 
 -- a layout has room for one more entry
 abbrev pub roomForEntry : Layout → Bool
-roomForEntry L = fits entryWidth (L .room)
+roomForEntry L = roomFor entryWidth (L .room)
 
 -- 'New entries go last'; they take words of the free room
 unfoldable pub pushed : Layout → BindGroupLayoutEntry → Layout

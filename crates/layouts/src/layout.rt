@@ -5,13 +5,13 @@ ghost use Prim.Native.Nat.{_+_, _*_, _<_, _≤_};
 ghost use lib.ListN.{length, drop};
 ghost use Rattle.word.specs.Choice.{pick};
 ghost use Rattle.word.specs.Words.{wordAt};
-ghost use Rattle.bindings.specs.Format.{placeOf, entryFiled, entryOf};
+ghost use Rattle.bindings.specs.Format.{placeOf, entryWellFormed, entryOf};
 ghost use Rattle.layouts.specs.Meaning.{findEntry, entryHas, pushed, joined};
 ghost use Rattle.places.specs.Places.{foundBelow};
-ghost use Rattle.places.specs.Records.{fits, countOf, each};
-ghost use Rattle.layouts.specs.Format.{groupsOf, entryGood, entryFits, layoutHead, layoutFiled, decodeLayout, encodeLayout};
+ghost use Rattle.places.specs.Records.{roomFor, countOf, each};
+ghost use Rattle.layouts.specs.Format.{groupsOf, entryGood, entryFits, layoutHead, layoutWellFormed, decodeLayout, encodeLayout};
 use crate::visibility::join_bit;
-use bindings::entry_words::words_filed;
+use bindings::entry_words::words_well_formed;
 use places::found::Found;
 use places::heads::counted;
 use places::places::distinct_places;
@@ -41,7 +41,7 @@ fn entry_good(l: &[u32], at: usize, groups: u32) -> bool
     ensures { λ r. ⌜ r ≡ entryGood groups (drop at (now (l .entry))) ⌝ }
 {
     let place = l[at];
-    if words_filed(place, l[at + 1], l[at + 2], l[at + 3]) {
+    if words_well_formed(place, l[at + 1], l[at + 2], l[at + 3]) {
         return place / 0x80_0000 % 16 < groups;
     }
     false
@@ -65,8 +65,8 @@ fn entries_good(l: &[u32]) -> bool
 }
 
 // Whether words are a layout list.
-pub fn layout_filed(l: &[u32]) -> bool
-    ensures { λ r. ⌜ r ≡ layoutFiled (now (l .entry)) ⌝ }
+pub fn layout_well_formed(l: &[u32]) -> bool
+    ensures { λ r. ⌜ r ≡ layoutWellFormed (now (l .entry)) ⌝ }
 {
     if 1024 < l.len() {
         return false;
@@ -88,7 +88,7 @@ pub fn group_count(l: &[u32]) -> u32
 
 // The position of the entry at the place that a word tells.
 pub fn find_entry_word(l: &[u32], place: u32) -> Found
-    requires { ⌜ layoutFiled (now l) ≡ true ⌝ }
+    requires { ⌜ layoutWellFormed (now l) ≡ true ⌝ }
     ensures { λ r. ⌜ r ≡ findEntry (placeOf place) (decodeLayout (now (l .entry))) ⌝ }
     ensures { λ r. ⌜ foundBelow (length (decodeLayout (now (l .entry)) .entries)) r ≡ true ⌝ }
 {
@@ -97,7 +97,7 @@ pub fn find_entry_word(l: &[u32], place: u32) -> Found
 
 // The same where a position is likely to have the entry: that one is tried first.
 pub fn find_entry_near(l: &[u32], place: u32, near: usize) -> Found
-    requires { ⌜ layoutFiled (now l) ≡ true ⌝ }
+    requires { ⌜ layoutWellFormed (now l) ≡ true ⌝ }
     ensures { λ r. ⌜ r ≡ findEntry (placeOf place) (decodeLayout (now (l .entry))) ⌝ }
     ensures { λ r. ⌜ foundBelow (length (decodeLayout (now (l .entry)) .entries)) r ≡ true ⌝ }
 {
@@ -106,7 +106,7 @@ pub fn find_entry_near(l: &[u32], place: u32, near: usize) -> Found
 
 // One of the four words of the entry at a position.
 pub fn entry_word(l: &[u32], index: usize, k: usize) -> u32
-    requires { ⌜ layoutFiled (now l) ≡ true ⌝ }
+    requires { ⌜ layoutWellFormed (now l) ≡ true ⌝ }
     requires { ⌜ (index < length (decodeLayout (now l) .entries)) × (k < 4) ⌝ }
     ensures { λ r. ⌜ r ≡ wordAt (now (l .entry)) (1 + 4 * index + k) ⌝ }
 {
@@ -115,16 +115,16 @@ pub fn entry_word(l: &[u32], index: usize, k: usize) -> u32
 
 // A new entry of four words at the end, or nothing where the free room is too small.
 pub fn push_words(l: &mut [u32], place: u32, ty: u32, least: u32, visibility: u32) -> bool
-    requires { ⌜ layoutFiled (now l) ≡ true ⌝ }
-    requires { ⌜ entryFiled place ty least visibility ≡ true ⌝ }
+    requires { ⌜ layoutWellFormed (now l) ≡ true ⌝ }
+    requires { ⌜ entryWellFormed place ty least visibility ≡ true ⌝ }
     requires { ⌜ entryFits (decodeLayout (now l) .groups) (entryOf place ty least visibility) ≡ true ⌝ }
     requires { ⌜ entryHas (entryOf place ty least visibility .bind) (decodeLayout (now l) .entries) ≡ false ⌝ }
-    ensures { λ r. ⌜ r ≡ fits 4 (decodeLayout (now (l .entry)) .room) ⌝ }
+    ensures { λ r. ⌜ r ≡ roomFor 4 (decodeLayout (now (l .entry)) .room) ⌝ }
     ensures { λ r. ⌜ now (l .exit)
         ≡ encodeLayout (pick r (pushed (decodeLayout (now (l .entry))) (entryOf place ty least visibility)) (decodeLayout (now (l .entry)))) ⌝ }
     ensures { λ r. ⌜ decodeLayout (now (l .exit))
         ≡ pick r (pushed (decodeLayout (now (l .entry))) (entryOf place ty least visibility)) (decodeLayout (now (l .entry))) ⌝ }
-    ensures { λ r. ⌜ layoutFiled (now (l .exit)) ≡ true ⌝ }
+    ensures { λ r. ⌜ layoutWellFormed (now (l .exit)) ≡ true ⌝ }
 {
     let n = counted(l);
     let at = 1 + 4 * n;
@@ -139,11 +139,11 @@ pub fn push_words(l: &mut [u32], place: u32, ty: u32, least: u32, visibility: u3
 
 // A stage's bit joined to the visibility of the entry at a position.
 pub fn join_visibility(l: &mut [u32], index: usize, stage: u32)
-    requires { ⌜ layoutFiled (now l) ≡ true ⌝ }
+    requires { ⌜ layoutWellFormed (now l) ≡ true ⌝ }
     requires { ⌜ (index < length (decodeLayout (now l) .entries)) × (stage ≤ 4) ⌝ }
     ensures { λ _. ⌜ now (l .exit) ≡ encodeLayout (joined stage (decodeLayout (now (l .entry))) index) ⌝ }
     ensures { λ _. ⌜ decodeLayout (now (l .exit)) ≡ joined stage (decodeLayout (now (l .entry))) index ⌝ }
-    ensures { λ _. ⌜ layoutFiled (now (l .exit)) ≡ true ⌝ }
+    ensures { λ _. ⌜ layoutWellFormed (now (l .exit)) ≡ true ⌝ }
 {
     let at = 1 + 4 * index + 3;
     let visibility = join_bit(content(word(l, at)), stage);

@@ -9,7 +9,7 @@ use Rattle.word.specs.Choice.{pick}
 use Rattle.word.specs.Words.{kindOf, bits}
 use Rattle.word.proofs.Truth.{first, second, either, codes-back}
 use Rattle.numeric.specs.Types.{numeric, sizeCode, kindCode}
-use Rattle.numeric.specs.TypeWords.{kindAt, dimensionAt, widthKnown, typeFiled, typeOf, readType, shapeCode, typeWord}
+use Rattle.numeric.specs.TypeWords.{kindAt, shapeAt, widthKnown, typeWellFormed, typeOf, readType, shapeCode, typeWord}
 use Rattle.numeric.specs.declared.types.ScalarKind.{ScalarKind}
 use Rattle.numeric.specs.declared.types.ScalarKind.the-variants as K
 use Rattle.numeric.specs.declared.types.VectorSize.{VectorSize}
@@ -24,8 +24,8 @@ use Rattle.numeric.specs.declared.type_words.TypeRead.the-variants.{Nume
 pub kind-back : (code : ℕ) → code < 4 → kindCode (kindAt code) ≡ code
 kind-back = codes-back 4 (λ c. kindCode (kindAt c)) refl
 
-pub shape-back : (code : ℕ) → code < 13 → shapeCode (dimensionAt code) ≡ code
-shape-back = codes-back 13 (λ c. shapeCode (dimensionAt c)) refl
+pub shape-back : (code : ℕ) → code < 13 → shapeCode (shapeAt code) ≡ code
+shape-back = codes-back 13 (λ c. shapeCode (shapeAt c)) refl
 
 pub kind-again : (k : ScalarKind) → kindAt (kindCode k) ≡ k
 kind-again K.Sint = refl
@@ -33,7 +33,7 @@ kind-again K.Uint = refl
 kind-again K.Float = refl
 kind-again K.Bool = refl
 
-pub shape-again : (d : NumericDimension) → dimensionAt (shapeCode d) ≡ d
+pub shape-again : (d : NumericDimension) → shapeAt (shapeCode d) ≡ d
 shape-again D.Scalar = refl
 shape-again (D.Vector Bi) = refl
 shape-again (D.Vector Tri) = refl
@@ -76,8 +76,8 @@ width-below n =
 
 -- the fields of a word, and the type that it reads as
 reads-as : (w d k n : ℕ) → kindOf w ≡ 13 → bits 26 10 w ≡ 0 → bits 3 0 w ≡ d → bits 5 4 w ≡ k → bits 9 6 w ≡ n → d < 13 → widthKnown n ≡ true
-    → readType w ≡ Numeric (numeric (dimensionAt d) (kindAt k) n)
-unfolding readType typeFiled typeOf
+    → readType w ≡ Numeric (numeric (shapeAt d) (kindAt k) n)
+unfolding readType typeWellFormed typeOf
 reads-as w d k n e z p q r h g = rw (e, z, p, q, r, lt-ltb d 13 h, g)
 
 -- a type that is written is read back
@@ -100,19 +100,19 @@ word-of w e z h =
     let s : 2 ^ 27 * 13 + (bits 3 0 w + 16 * bits 5 4 w + 64 * bits 9 6 w) ≡ w = omega arith in
     rw (shape-back (bits 3 0 w) h, kind-back (bits 5 4 w) (omega arith)) s
 
-well-filed : (w : ℕ) → eqb (kindOf w) 13 && (eqb (bits 26 10 w) 0 && typeFiled w) ≡ true → typeWord (typeOf w) ≡ w
-unfolding typeFiled
-well-filed w h =
-    let more : eqb (bits 26 10 w) 0 && typeFiled w ≡ true = second (eqb (kindOf w) 13) _ h in
-    let filed : typeFiled w ≡ true = second (eqb (bits 26 10 w) 0) (typeFiled w) more in
-    word-of w (eqb-true (kindOf w) 13 (first (eqb (kindOf w) 13) _ h)) (eqb-true (bits 26 10 w) 0 (first (eqb (bits 26 10 w) 0) (typeFiled w) more))
-    (ltb-true (bits 3 0 w) 13 (first (ltb (bits 3 0 w) 13) (widthKnown (bits 9 6 w)) filed))
+well-formed : (w : ℕ) → eqb (kindOf w) 13 && (eqb (bits 26 10 w) 0 && typeWellFormed w) ≡ true → typeWord (typeOf w) ≡ w
+unfolding typeWellFormed
+well-formed w h =
+    let more : eqb (bits 26 10 w) 0 && typeWellFormed w ≡ true = second (eqb (kindOf w) 13) _ h in
+    let well-formed : typeWellFormed w ≡ true = second (eqb (bits 26 10 w) 0) (typeWellFormed w) more in
+    word-of w (eqb-true (kindOf w) 13 (first (eqb (kindOf w) 13) _ h)) (eqb-true (bits 26 10 w) 0 (first (eqb (bits 26 10 w) 0) (typeWellFormed w) more))
+    (ltb-true (bits 3 0 w) 13 (first (ltb (bits 3 0 w) 13) (widthKnown (bits 9 6 w)) well-formed))
 
 -- a word that is read as a type is the word written for it
 pub written-read : (w : ℕ) (t : NumericType) → readType w ≡ Numeric t → typeWord t ≡ w
 unfolding readType
-written-read w t e = go (eqb (kindOf w) 13 && (eqb (bits 26 10 w) 0 && typeFiled w)) refl e
+written-read w t e = go (eqb (kindOf w) 13 && (eqb (bits 26 10 w) 0 && typeWellFormed w)) refl e
   where
-    go : (b : Bool) → eqb (kindOf w) 13 && (eqb (bits 26 10 w) 0 && typeFiled w) ≡ b → pick b (Numeric (typeOf w)) Bad ≡ Numeric t → typeWord t ≡ w
-    go true q r = cc (well-filed w q)
+    go : (b : Bool) → eqb (kindOf w) 13 && (eqb (bits 26 10 w) 0 && typeWellFormed w) ≡ b → pick b (Numeric (typeOf w)) Bad ≡ Numeric t → typeWord t ≡ w
+    go true q r = cc (well-formed w q)
     go false q r = cc

@@ -5,7 +5,7 @@ use mathlib.Core.Bool.{Bool, true, false}
 use borrow.Author.Tests.{eq-eqb, ne-eqb}
 use Rattle.word.specs.Words.{kindOf, bits}
 use Rattle.numeric.specs.Types.{numeric, sizeCode, kindCode, subtypeOf}
-use Rattle.numeric.specs.TypeWords.{kindAt, dimensionAt, typeFiled, typeOf, readType, shapeCode, typeWord, compareTypes}
+use Rattle.numeric.specs.TypeWords.{kindAt, shapeAt, typeWellFormed, typeOf, readType, shapeCode, typeWord, compareTypes}
 use Rattle.numeric.specs.declared.types.ScalarKind.{ScalarKind}
 use Rattle.numeric.specs.declared.types.VectorSize.{VectorSize}
 use Rattle.numeric.specs.declared.types.NumericDimension.{NumericDimension}
@@ -17,7 +17,7 @@ use Rattle.numeric.specs.declared.type_words.TypeRead.the-variants.{Nume
 use Rattle.numeric.specs.declared.type_words.Compared.the-variants as C
 
 -- the code's ways through the reader and the writer
-pub type-parts : (w : ℕ) (d : NumericDimension) (k : ScalarKind) → d ≡ dimensionAt (bits 3 0 w) → k ≡ kindAt (bits 5 4 w)
+pub type-parts : (w : ℕ) (d : NumericDimension) (k : ScalarKind) → d ≡ shapeAt (bits 3 0 w) → k ≡ kindAt (bits 5 4 w)
     → numeric d k (bits 9 6 w) ≡ typeOf w
 unfolding typeOf
 type-parts w d k p q = rw (p, q)
@@ -44,14 +44,14 @@ module _ (w x : ℕ) (e : x ≡ kindOf w) where
     unfolding readType
     more-bits n = rw (← e, eq-eqb x 13 k, ne-eqb (bits 26 10 w) 0 n)
 
-    module _ (b : Bool) (z : bits 26 10 w ≡ 0) (f : b ≡ typeFiled w) where
-      pub filed-badly : b ≡ false → Bad ≡ readType w
+    module _ (b : Bool) (z : bits 26 10 w ≡ 0) (f : b ≡ typeWellFormed w) where
+      pub when-malformed : b ≡ false → Bad ≡ readType w
       unfolding readType
-      filed-badly h = rw (← e, eq-eqb x 13 k, eq-eqb (bits 26 10 w) 0 z, ← f, h)
+      when-malformed h = rw (← e, eq-eqb x 13 k, eq-eqb (bits 26 10 w) 0 z, ← f, h)
 
-      pub filed-well : (t : NumericType) → b ≡ true → t ≡ typeOf w → Numeric t ≡ readType w
+      pub when-well-formed : (t : NumericType) → b ≡ true → t ≡ typeOf w → Numeric t ≡ readType w
       unfolding readType
-      filed-well t h g = rw (← e, eq-eqb x 13 k, eq-eqb (bits 26 10 w) 0 z, ← f, h, g)
+      when-well-formed t h g = rw (← e, eq-eqb x 13 k, eq-eqb (bits 26 10 w) 0 z, ← f, h, g)
 
 -- two lone types compared
 pub first-bad : (x y p : TypeRead) → p ≡ x → p ≡ Bad → C.Unknown ≡ compareTypes x y

@@ -24,30 +24,30 @@ abbrev pub kindAt : ℕ → ScalarKind
 kindAt code = pick (eqb code 0) K.Sint (pick (eqb code 1) K.Uint (pick (eqb code 2) K.Float K.Bool))
 
 -- a vector's or a matrix's side of as many components
-abbrev pub sizeAt : ℕ → VectorSize
-sizeAt components = pick (eqb components 2) Bi (pick (eqb components 3) Tri Quad)
+abbrev pub vectorSizeAt : ℕ → VectorSize
+vectorSizeAt components = pick (eqb components 2) Bi (pick (eqb components 3) Tri Quad)
 
 -- 'shape 3–0: 0 scalar, 1–3 vector of 2–4, 4 + 3 × (columns − 2) + (rows − 2) matrix'
-abbrev pub dimensionAt : ℕ → NumericDimension
-dimensionAt code =
+abbrev pub shapeAt : ℕ → NumericDimension
+shapeAt code =
     pick (eqb code 0) D.Scalar
-    (pick (ltb code 4) (D.Vector (sizeAt (code + 1))) (D.Matrix (sizeAt ((code - 4) / 3 + 2)) (sizeAt ((code - 4) % 3 + 2))))
+    (pick (ltb code 4) (D.Vector (vectorSizeAt (code + 1))) (D.Matrix (vectorSizeAt ((code - 4) / 3 + 2)) (vectorSizeAt ((code - 4) % 3 + 2))))
 
 -- 'width 9–6: 1, 2, 4 or 8'
 abbrev pub widthKnown : ℕ → Bool
 widthKnown width = eqb width 1 || (eqb width 2 || (eqb width 4 || eqb width 8))
 
 -- the type's bits of a word of kind 13 hold known codes
-unfoldable pub typeFiled : ℕ → Bool
-typeFiled w = ltb (bits 3 0 w) 13 && widthKnown (bits 9 6 w)
+unfoldable pub typeWellFormed : ℕ → Bool
+typeWellFormed w = ltb (bits 3 0 w) 13 && widthKnown (bits 9 6 w)
 
 -- the type that a word of kind 13 holds
 unfoldable pub typeOf : ℕ → NumericType
-typeOf w = record { dim = dimensionAt (bits 3 0 w); scalar = record { kind = kindAt (bits 5 4 w); width = bits 9 6 w } }
+typeOf w = record { dim = shapeAt (bits 3 0 w); scalar = record { kind = kindAt (bits 5 4 w); width = bits 9 6 w } }
 
 -- 'A lone type is a kind 13 word, bits 18–12 zero'
 unfoldable pub readType : ℕ → TypeRead
-readType w = pick (eqb (kindOf w) 13 && (eqb (bits 26 10 w) 0 && typeFiled w)) (Numeric (typeOf w)) Bad
+readType w = pick (eqb (kindOf w) 13 && (eqb (bits 26 10 w) 0 && typeWellFormed w)) (Numeric (typeOf w)) Bad
 
 -- ---- from types to words
 

@@ -1,7 +1,7 @@
 // A numeric type in the bits of a word of kind 13.
 ghost use mathlib.Core.Path.{_≡_};
 ghost use Prim.Native.Nat.{_<_, _≤_};
-ghost use Rattle.numeric.specs.TypeWords.{kindAt, sizeAt, dimensionAt, widthKnown, typeFiled, typeOf, readType, shapeCode, typeWord, compareTypes, subtypeNumber};
+ghost use Rattle.numeric.specs.TypeWords.{kindAt, vectorSizeAt, shapeAt, widthKnown, typeWellFormed, typeOf, readType, shapeCode, typeWord, compareTypes, subtypeNumber};
 use crate::types::Fit;
 use crate::types::NumericDimension;
 use crate::types::NumericType;
@@ -39,7 +39,7 @@ fn kind_at(code: u32) -> ScalarKind
 }
 
 fn size_at(components: u32) -> VectorSize
-    ensures { λ r. ⌜ r ≡ sizeAt components ⌝ }
+    ensures { λ r. ⌜ r ≡ vectorSizeAt components ⌝ }
 {
     if components == 2 {
         return VectorSize::Bi;
@@ -52,7 +52,7 @@ fn size_at(components: u32) -> VectorSize
 
 fn dimension_at(code: u32) -> NumericDimension
     requires { ⌜ code < 16 ⌝ }
-    ensures { λ r. ⌜ r ≡ dimensionAt code ⌝ }
+    ensures { λ r. ⌜ r ≡ shapeAt code ⌝ }
 {
     if code == 0 {
         return NumericDimension::Scalar;
@@ -79,8 +79,8 @@ fn width_known(width: u32) -> bool
 }
 
 // Whether the type's bits of a word hold known codes.
-pub fn type_filed(w: u32) -> bool
-    ensures { λ r. ⌜ r ≡ typeFiled w ⌝ }
+pub fn type_well_formed(w: u32) -> bool
+    ensures { λ r. ⌜ r ≡ typeWellFormed w ⌝ }
 {
     if w % 16 < 13 {
         return width_known(w / 64 % 16);
@@ -112,7 +112,7 @@ pub fn read_type(w: u32) -> TypeRead
     if w / 1024 % 0x2_0000 != 0 {
         return TypeRead::Bad;
     }
-    if type_filed(w) {
+    if type_well_formed(w) {
         return TypeRead::Numeric(type_of(w));
     }
     TypeRead::Bad

@@ -12,12 +12,12 @@ use Rattle.word.proofs.Tests.{yes-true, yes-false}
 use Rattle.word.proofs.Lists.{first-passes, rest-passes}
 use Rattle.word.specs.Words.{wordAt, kindOf, contentOf, bits}
 use Rattle.word.specs.Lists.{every}
-use Rattle.varying.specs.Format.{varOf, locatedHeld, payloadOf, payloadHeld}
-use Rattle.varying.proofs.Joined.{payload-held}
+use Rattle.varying.specs.Format.{varOf, locatedEncodable, payloadOf, payloadEncodable}
+use Rattle.varying.proofs.Joined.{payload-encodable}
 use Rattle.varying.specs.declared.Located.{Located}
 use Rattle.varying.specs.declared.Payload.{Payload}
 use Rattle.stage_lists.specs.Meaning.{StageIo, rising, varyingAt, isProvided, insert, inserted}
-use Rattle.stage_lists.specs.Format.{outFiled, decodeStage, encodeStage}
+use Rattle.stage_lists.specs.Format.{outWellFormed, decodeStage, encodeStage}
 use Rattle.stage_lists.specs.declared.types.PrimitiveIndex.{PrimitiveIndex}
 use Rattle.stage_lists.specs.declared.types.PrimitiveIndex.the-variants as Index
 use Rattle.stage_lists.proofs.InsertLaws.{rising-insert, insert-length, longer}
@@ -33,7 +33,7 @@ use Rattle.output_steps.specs.Outputs.{isLocal, localCount}
 use Rattle.output_steps.specs.ListOut.{localsOf, primitiveOut, stageOut}
 use Rattle.output_steps.specs.inner.Summary.{summaryOf}
 use Rattle.output_steps.specs.inner.Given.{Summed}
-use Rattle.output_steps.specs.inner.ListOut.{outputHeld, handed}
+use Rattle.output_steps.specs.inner.ListOut.{outputEncodable, handed}
 use Rattle.input_steps.specs.declared.types.InputWalk.{InputWalk}
 use Rattle.output_steps.specs.declared.types.Summary.{Summary}
 use Rattle.interface.proofs.ReadsWays.{width-there}
@@ -62,8 +62,8 @@ module _ (x y k : ℕ) (ek : k ≡ kindOf x) where
     there-local : varying (x ∷ y ∷ []) ≡ Var.Local (contentOf x) (varOf y)
     there-local = rw (← ek, eq-eqb k 12 t)
 
-    pub local-held : outputHeld (varying (x ∷ y ∷ [])) ≡ true → locatedHeld (record { location = contentOf x; var = varOf y }) ≡ true
-    local-held h = ap outputHeld (sym there-local) ∙ h
+    pub local-encodable : outputEncodable (varying (x ∷ y ∷ [])) ≡ true → locatedEncodable (record { location = contentOf x; var = varOf y }) ≡ true
+    local-encodable h = ap outputEncodable (sym there-local) ∙ h
 
     pub local-handed : (S T : StageIo) → T ≡ inserted (record { location = contentOf x; var = varOf y }) S → T ≡ handed (varying (x ∷ y ∷ [])) S
     unfolding handed
@@ -108,7 +108,7 @@ handed-all p q (Var.BuiltIn b ∷ all) vs out h = handed-all p q all vs out h
 pub record Roomy (rest : List Varying) (S : StageIo) : Type 0 where
   pub few : length (S .varyings) + localCount rest ≤ 63
   pub room : 2 * localCount rest ≤ length (S .room)
-  pub held : every outputHeld rest ≡ true
+  pub encodable : every outputEncodable rest ≡ true
 
 locals-few : (n : ℕ) (ws : List ℕ) → localCount (varyings n ws) ≤ n
 unfolding localCount varyings
@@ -121,14 +121,14 @@ locals-few (suc n) ws = omega (arith, locals-few n (drop (varyingWidth ws) ws), 
 
 module _ (ws : List ℕ) (from n : ℕ) (p : PrimitiveIndex) (q : Payload) (out : List ℕ) (S : StageIo)
     (begun : S ≡ record { primitive = p; payload = q; varyings = []; room = drop 2 out }) where
-  pub begun-roomy : n ≤ 63 → every outputHeld (varyings n (drop from ws)) ≡ true → 2 + 2 * localCount (varyings n (drop from ws)) ≤ length out
+  pub begun-roomy : n ≤ 63 → every outputEncodable (varyings n (drop from ws)) ≡ true → 2 + 2 * localCount (varyings n (drop from ws)) ≤ length out
       → Roomy (varyings n (drop from ws)) S
-  begun-roomy few held room =
+  begun-roomy few encodable room =
       rw begun
       (record {
         few = omega (arith, few, locals-few n (drop from ws));
         room = omega (arith, room, length-drop 2 out);
-        held = held;
+        encodable = encodable;
       })
 
   begun-all : outOf p q (localsOf (varyings n (drop from ws)) []) out ≡ handedAll (varyings n (drop from ws)) S
@@ -162,7 +162,7 @@ roomy-more v vs S h r =
     record {
       few = omega (arith, r .few, handed-few v S h);
       room = omega (arith, r .room, handed-room v S);
-      held = rest-passes (outputHeld v) (every outputHeld vs) (r .held);
+      encodable = rest-passes (outputEncodable v) (every outputEncodable vs) (r .encodable);
     }
 
 module _ (ws : List ℕ) (k at x y : ℕ) (h : k ≡ 0 → ⊥) (ex : x ≡ wordAt ws at) (ey : y ≡ wordAt ws (at + 1)) where
@@ -170,9 +170,9 @@ module _ (ws : List ℕ) (k at x y : ℕ) (h : k ≡ 0 → ⊥) (ex : x ≡ word
   these = varyings-left ws k at h ∙ rw (varying-words ws at x y ex ey)
 
   module _ (S : StageIo) (r : Roomy (varyings k (drop at ws)) S) where
-    pub next-held : outputHeld (varying (x ∷ y ∷ [])) ≡ true
+    pub next-encodable : outputEncodable (varying (x ∷ y ∷ [])) ≡ true
     unfolding every
-    next-held = first-passes (outputHeld (varying (x ∷ y ∷ []))) (every outputHeld (varyings (k - 1) (drop (at + varyingWidth (drop at ws)) ws))) (rw these at r .held)
+    next-encodable = first-passes (outputEncodable (varying (x ∷ y ∷ []))) (every outputEncodable (varyings (k - 1) (drop (at + varyingWidth (drop at ws)) ws))) (rw these at r .encodable)
 
     pub next-few : length (S .varyings) + isLocal (varying (x ∷ y ∷ [])) ≤ 63
     unfolding localCount
@@ -187,7 +187,7 @@ module _ (ws : List ℕ) (k at x y width : ℕ) (out : List ℕ) (T : StageIo) (
   others : varyings k (drop at ws) ≡ varying (x ∷ y ∷ []) ∷ varyings (k - 1) (drop (at + width) ws)
   others = these ws k at x y h ex ey ∙ rw (d, width-there ws at x ex)
 
-  pub roomy-onward : outFiled out ≡ true → Roomy (varyings k (drop at ws)) (decodeStage out) → Roomy (varyings (k - 1) (drop (at + width) ws)) T
+  pub roomy-onward : outWellFormed out ≡ true → Roomy (varyings k (drop at ws)) (decodeStage out) → Roomy (varyings (k - 1) (drop (at + width) ws)) T
   roomy-onward f r =
       rw e
       (roomy-more (varying (x ∷ y ∷ [])) (varyings (k - 1) (drop (at + width) ws)) (decodeStage out) (good (decodeStage out) (good-decode out f) .rises)
@@ -201,7 +201,7 @@ pub as-long : (lent begun out : List ℕ) (head : ℕ) → length begun ≡ leng
 as-long lent begun out head e f = length-set out 0 head ∙ (f ∙ e)
 
 pub all-ended : (ws : List ℕ) (from n k at : ℕ) (p : PrimitiveIndex) (q : Payload) (lent out : List ℕ) (S : StageIo)
-    → S ≡ record { primitive = p; payload = q; varyings = []; room = drop 2 lent } → k ≡ 0 → outFiled out ≡ true
+    → S ≡ record { primitive = p; payload = q; varyings = []; room = drop 2 lent } → k ≡ 0 → outWellFormed out ≡ true
     → handedAll (varyings n (drop from ws)) S ≡ handedAll (varyings k (drop at ws)) (decodeStage out)
     → out ≡ encodeStage (outOf p q (localsOf (varyings n (drop from ws)) []) lent)
 unfolding handedAll
@@ -210,16 +210,16 @@ all-ended ws from n k at p q lent out S begun z f inv =
 
 -- ---- the list out of an entry point that stands at positions
 
-pub payload-read-held : (w : ℕ) (q : Payload) → q ≡ payloadOf w → payloadHeld q ≡ true
-payload-read-held w q e = rw e (payload-held w)
+pub payload-read-encodable : (w : ℕ) (q : Payload) → q ≡ payloadOf w → payloadEncodable q ≡ true
+payload-read-encodable w q e = rw e (payload-encodable w)
 
 module _ (ws : List ℕ) (p : EntryParts) (k n : ℕ) (ek : k ≡ wordAt ws (p .counts)) (en : n ≡ bits 5 0 k) where
   pub outputs-standing : varyings n (drop (p .outputs) ws) ≡ standing ws p .outputs
   unfolding standing
   outputs-standing = rw (en, ek)
 
-  pub outputs-held : every outputHeld (standing ws p .outputs) ≡ true → every outputHeld (varyings n (drop (p .outputs) ws)) ≡ true
-  outputs-held h = rw outputs-standing h
+  pub outputs-encodable : every outputEncodable (standing ws p .outputs) ≡ true → every outputEncodable (varyings n (drop (p .outputs) ws)) ≡ true
+  outputs-encodable h = rw outputs-standing h
 
   pub outputs-room : (l : ℕ) → 2 + 2 * localCount (standing ws p .outputs) ≤ l → 2 + 2 * localCount (varyings n (drop (p .outputs) ws)) ≤ l
   outputs-room l h = rw outputs-standing h

@@ -1,4 +1,4 @@
--- The ways through outputs and places.
+-- The ways through outputs and slots.
 use Prim.Native.Nat.{ℕ, zero, suc, _+_, _-_, _*_, _/_, _%_, _<_, _≤_, _^_, max}
 use native.Mathlib.Nat.{add-zero, zero-add, max-zero, zero-max}
 use native.Mathlib.Omega.{arith}
@@ -13,7 +13,7 @@ use Rattle.word.specs.Words.{wordAt, kindOf, contentOf, bits}
 use Rattle.word.proofs.Truth.{by-test}
 use Rattle.word.specs.Answers.{answer, accepted, refused, both}
 use Rattle.word.specs.declared.answer.Answer.{Answer}
-use Rattle.varying.specs.Format.{locationFiled}
+use Rattle.varying.specs.Format.{locationWellFormed}
 use Rattle.places.proofs.Words.{here}
 use Rattle.interface.specs.Meaning.{EntryPoint}
 use Rattle.interface.specs.Format.{local, builtInOf}
@@ -28,7 +28,7 @@ use Rattle.interface.specs.declared.types.Varying.{Varying}
 use Rattle.interface.specs.declared.types.Varying.the-variants as Var
 use Rattle.output_steps.specs.declared.types.Request.{Request}
 use Rattle.output_steps.specs.inner.Given.{Summed}
-use Rattle.output_steps.specs.Outputs.{isLocal, clipPart, builtInPart, isDepth, isPrimitive, localCount, clipPlaces, builtInPlaces, anyOf, locationUse, locationUses, countUse, pointPart, vertexOutputs, fragmentPlaces, attachmentUse, placesStep}
+use Rattle.output_steps.specs.Outputs.{isLocal, clipPart, builtInPart, isDepth, isPrimitive, localCount, clipSlots, builtInSlots, anyOf, locationUse, locationUses, countUse, pointPart, vertexOutputs, fragmentSlots, attachmentUse, slotsStep}
 use Rattle.output_steps.specs.inner.Summary.{reachPart, reachOf, summaryOf, plus}
 use Rattle.output_steps.specs.declared.types.Summary.{Summary}
 use Rattle.interface.proofs.ReadsWays.{width-there}
@@ -37,14 +37,14 @@ use Rattle.input_steps.proofs.VaryingLaws.{varyings-left, varyings-none, Ahead,
 -- ---- summaries
 
 abbrev pub nothing : Summary
-nothing = record { locals = 0; «clip_places» = 0; «built_in_places» = 0; reach = 0; depth = false; primitive = false }
+nothing = record { locals = 0; «clip_slots» = 0; «built_in_slots» = 0; reach = 0; depth = false; primitive = false }
 
 pub plus-parts : (a b : Summary) (r : ℕ) (d p : Bool) → r ≡ max (a .reach) (b .reach) → d ≡ (a .depth || b .depth) → p ≡ (a .primitive || b .primitive)
     → _≡_ {A = Summary}
     (record {
       locals = a .locals + b .locals;
-      «clip_places» = a .«clip_places» + b .«clip_places»;
-      «built_in_places» = a .«built_in_places» + b .«built_in_places»;
+      «clip_slots» = a .«clip_slots» + b .«clip_slots»;
+      «built_in_slots» = a .«built_in_slots» + b .«built_in_slots»;
       reach = r;
       depth = d;
       primitive = p;
@@ -64,19 +64,19 @@ reach-joined : (a x b : ℕ) → max a (max x b) ≡ max (max a (max x 0)) b
 reach-joined a x b = omega arith
 
 plus-more : (a : Summary) (v : Varying) (vs : List Varying) → plus a (summaryOf (v ∷ vs)) ≡ plus (plus a (summaryOf (v ∷ []))) (summaryOf vs)
-unfolding summaryOf localCount clipPlaces builtInPlaces reachOf anyOf
+unfolding summaryOf localCount clipSlots builtInSlots reachOf anyOf
 plus-more a v vs =
     rw (
       count-joined (a .locals) (isLocal v) (localCount vs),
-      count-joined (a .«clip_places») (clipPart v) (clipPlaces vs),
-      count-joined (a .«built_in_places») (builtInPart v) (builtInPlaces vs),
+      count-joined (a .«clip_slots») (clipPart v) (clipSlots vs),
+      count-joined (a .«built_in_slots») (builtInPart v) (builtInSlots vs),
       reach-joined (a .reach) (reachPart v) (reachOf vs),
       any-joined (a .depth) (isDepth v) (anyOf isDepth vs),
       any-joined (a .primitive) (isPrimitive v) (anyOf isPrimitive vs),
     )
 
 plus-end : (a : Summary) → plus a (summaryOf []) ≡ a
-unfolding summaryOf localCount clipPlaces builtInPlaces reachOf anyOf
+unfolding summaryOf localCount clipSlots builtInSlots reachOf anyOf
 plus-end a = simp (add-zero, max-zero, or-false)
 
 plus-start : (vs : List Varying) → summaryOf vs ≡ plus nothing (summaryOf vs)
@@ -86,41 +86,41 @@ plus-start vs = simp (zero-add, zero-max)
 -- a varying by itself
 abbrev pub partOf : Varying → Summary
 partOf v =
-    record { locals = isLocal v; «clip_places» = clipPart v; «built_in_places» = builtInPart v; reach = reachPart v; depth = isDepth v; primitive = isPrimitive v }
+    record { locals = isLocal v; «clip_slots» = clipPart v; «built_in_slots» = builtInPart v; reach = reachPart v; depth = isDepth v; primitive = isPrimitive v }
 
 pick-itself : (b : Bool) → pick b true false ≡ b
 pick-itself true = refl
 pick-itself false = refl
 
 one-varying : (v : Varying) → summaryOf (v ∷ []) ≡ partOf v
-unfolding summaryOf localCount clipPlaces builtInPlaces reachOf anyOf
+unfolding summaryOf localCount clipSlots builtInSlots reachOf anyOf
 one-varying v = simp (add-zero, max-zero, pick-itself)
 
--- a built-in by the code and the places of its word
+-- a built-in by the code and the slots of its word
 abbrev coded : ℕ → ℕ → BuiltIn
-coded code places =
-    pick (eqb code 0) (In.Other places) (pick (eqb code 1) (In.PrimitiveIndex places) (pick (eqb code 2) (In.DrawIndex places)
-    (pick (eqb code 3) (In.FragDepth places) (In.ClipDistances places))))
+coded code slots =
+    pick (eqb code 0) (In.Other slots) (pick (eqb code 1) (In.PrimitiveIndex slots) (pick (eqb code 2) (In.DrawIndex slots)
+    (pick (eqb code 3) (In.FragDepth slots) (In.ClipDistances slots))))
 
 pub built-in-taking : (w : ℕ) (r : Summary) → w / 2 ^ 24 % 8 < 4
-    → r ≡ record { locals = 0; «clip_places» = 0; «built_in_places» = w % 256; reach = 0; depth = eqb (w / 2 ^ 24 % 8) 3; primitive = eqb (w / 2 ^ 24 % 8) 1 }
+    → r ≡ record { locals = 0; «clip_slots» = 0; «built_in_slots» = w % 256; reach = 0; depth = eqb (w / 2 ^ 24 % 8) 3; primitive = eqb (w / 2 ^ 24 % 8) 1 }
     → r ≡ summaryOf (Var.BuiltIn (builtInOf w) ∷ [])
 built-in-taking w r h e = e ∙ go (w / 2 ^ 24 % 8) (w % 256) h ∙ sym (one-varying (Var.BuiltIn (builtInOf w)))
   where
-    go : (code places : ℕ) → code < 4
-        → _≡_ {A = Summary} (record { locals = 0; «clip_places» = 0; «built_in_places» = places; reach = 0; depth = eqb code 3; primitive = eqb code 1 })
-        (partOf (Var.BuiltIn (coded code places)))
-    go zero places h = refl
-    go (suc zero) places h = refl
-    go (suc (suc zero)) places h = refl
-    go (suc (suc (suc zero))) places h = refl
-    go (suc (suc (suc (suc code)))) places h = absurd (omega (arith, h))
+    go : (code slots : ℕ) → code < 4
+        → _≡_ {A = Summary} (record { locals = 0; «clip_slots» = 0; «built_in_slots» = slots; reach = 0; depth = eqb code 3; primitive = eqb code 1 })
+        (partOf (Var.BuiltIn (coded code slots)))
+    go zero slots h = refl
+    go (suc zero) slots h = refl
+    go (suc (suc zero)) slots h = refl
+    go (suc (suc (suc zero))) slots h = refl
+    go (suc (suc (suc (suc code)))) slots h = absurd (omega (arith, h))
 
 clip-coded : (code size : ℕ) → 4 ≤ code → coded code size ≡ In.ClipDistances size
 clip-coded code size h = rw (ne-eqb code 0 (omega (arith, h)), ne-eqb code 1 (omega (arith, h)), ne-eqb code 2 (omega (arith, h)), ne-eqb code 3 (omega (arith, h)))
 
 pub built-in-clip : (w q : ℕ) → 4 ≤ w / 2 ^ 24 % 8 → q ≡ (w % 256 + 3) / 4
-    → _≡_ {A = Summary} (record { locals = 0; «clip_places» = q; «built_in_places» = 0; reach = 0; depth = false; primitive = false })
+    → _≡_ {A = Summary} (record { locals = 0; «clip_slots» = q; «built_in_slots» = 0; reach = 0; depth = false; primitive = false })
     (summaryOf (Var.BuiltIn (builtInOf w) ∷ []))
 built-in-clip w q h e = rw (e, clip-coded (w / 2 ^ 24 % 8) (w % 256) h) (sym (one-varying (Var.BuiltIn (In.ClipDistances (w % 256)))))
 
@@ -131,8 +131,8 @@ module _ (w k : ℕ) (ek : k ≡ kindOf w) where
       → _≡_ {A = Summary}
       (record {
         locals = s .locals + 1;
-        «clip_places» = s .«clip_places»;
-        «built_in_places» = s .«built_in_places»;
+        «clip_slots» = s .«clip_slots»;
+        «built_in_slots» = s .«built_in_slots»;
         reach = r;
         depth = s .depth;
         primitive = s .primitive;
@@ -151,15 +151,15 @@ module _ (ws : List ℕ) (at w : ℕ) (ew : w ≡ wordAt ws at) where
 
   first-summary : summaryOf (varying (w ∷ []) ∷ []) ≡ summaryOf (varying (drop at ws) ∷ [])
   first-summary =
-      rw (here ws at, ← ew, one-varying (varying (w ∷ [])), one-varying (pick (locationFiled w) (local w (wordAt (drop at ws) 1)) (Var.BuiltIn (builtInOf w))))
-      (go (locationFiled w))
+      rw (here ws at, ← ew, one-varying (varying (w ∷ [])), one-varying (pick (locationWellFormed w) (local w (wordAt (drop at ws) 1)) (Var.BuiltIn (builtInOf w))))
+      (go (locationWellFormed w))
     where
       go : (t : Bool) → partOf (pick t (local w 0) (Var.BuiltIn (builtInOf w))) ≡ partOf (pick t (local w (wordAt (drop at ws) 1)) (Var.BuiltIn (builtInOf w)))
       go true = refl
       go false = refl
 
   first-location : (number past limit : ℕ) → locationUse number past limit (varying (w ∷ [])) ≡ locationUse number past limit (varying (drop at ws))
-  first-location number past limit = rw (here ws at, ← ew) (go (locationFiled w))
+  first-location number past limit = rw (here ws at, ← ew) (go (locationWellFormed w))
     where
       go : (t : Bool) → locationUse number past limit (pick t (local w 0) (Var.BuiltIn (builtInOf w)))
           ≡ locationUse number past limit (pick t (local w (wordAt (drop at ws) 1)) (Var.BuiltIn (builtInOf w)))
@@ -170,8 +170,8 @@ module _ (ws : List ℕ) (at w : ℕ) (ew : w ≡ wordAt ws at) where
 
 pub record Small (s : Summary) : Type 0 where
   pub locals : s .locals ≤ 1
-  pub clip : s .«clip_places» ≤ 64
-  pub built-in : s .«built_in_places» ≤ 255
+  pub clip : s .«clip_slots» ≤ 64
+  pub built-in : s .«built_in_slots» ≤ 255
 
 built-in-small : (b : BuiltIn) (w : ℕ) → b ≡ builtInOf w → Small (partOf (Var.BuiltIn b))
 built-in-small b w e = rw e (go (eqb (bits 26 24 w) 0) (eqb (bits 26 24 w) 1) (eqb (bits 26 24 w) 2) (eqb (bits 26 24 w) 3))
@@ -190,7 +190,7 @@ varying-small w true = record { locals = omega arith; clip = omega arith; built-
 varying-small w false = built-in-small (builtInOf w) w refl
 
 part-small : (w : ℕ) → Small (summaryOf (varying (w ∷ []) ∷ []))
-part-small w = rw (one-varying (varying (w ∷ []))) (varying-small w (locationFiled w))
+part-small w = rw (one-varying (varying (w ∷ []))) (varying-small w (locationWellFormed w))
 
 module _ (w : ℕ) (s : Summary) (e : s ≡ summaryOf (Var.BuiltIn (builtInOf w) ∷ [])) where
   built-in-part : Small s
@@ -199,17 +199,17 @@ module _ (w : ℕ) (s : Summary) (e : s ≡ summaryOf (Var.BuiltIn (builtInOf w)
   pub part-locals : s .locals < 2 ^ 31
   part-locals = omega (arith, built-in-part .locals)
 
-  pub part-clip : s .«clip_places» < 2 ^ 31
+  pub part-clip : s .«clip_slots» < 2 ^ 31
   part-clip = omega (arith, built-in-part .clip)
 
-  pub part-built-in : s .«built_in_places» < 2 ^ 31
+  pub part-built-in : s .«built_in_slots» < 2 ^ 31
   part-built-in = omega (arith, built-in-part .built-in)
 
 -- what the varyings that are left may still add
 pub record Within (s : Summary) (left : ℕ) : Type 0 where
   pub locals : s .locals + left ≤ 63
-  pub clip : s .«clip_places» + 64 * left ≤ 63 * 64
-  pub built-in : s .«built_in_places» + 255 * left ≤ 63 * 255
+  pub clip : s .«clip_slots» + 64 * left ≤ 63 * 64
+  pub built-in : s .«built_in_slots» + 255 * left ≤ 63 * 255
 
 pub within-start : (s : Summary) (n : ℕ) → s ≡ nothing → n ≤ 63 → Within s n
 within-start s n e h = rw e (record { locals = omega arith; clip = omega arith; built-in = omega arith })
@@ -280,10 +280,10 @@ reach-past number past limit (Var.Local location iv ∷ vs) n h =
     by-test (ltb location past) (λ t. rw t (reach-past number past limit vs n (omega (arith, ltb-true location past t)))) λ f. rw (f, ne-eqb number 0 n)
 reach-past number past limit (Var.BuiltIn b ∷ vs) n h = reach-past number past limit vs n (omega arith)
 
--- ---- places
+-- ---- slots
 
 module _ (vs : List Varying) (s : Summary) (hs : s ≡ summaryOf vs) where
-  clip-is : clipPlaces vs ≡ s .«clip_places»
+  clip-is : clipSlots vs ≡ s .«clip_slots»
   unfolding summaryOf
   clip-is = rw hs
 
@@ -291,7 +291,7 @@ module _ (vs : List Varying) (s : Summary) (hs : s ≡ summaryOf vs) where
   unfolding summaryOf
   locals-are = rw hs
 
-  built-in-is : builtInPlaces vs ≡ s .«built_in_places»
+  built-in-is : builtInSlots vs ≡ s .«built_in_slots»
   unfolding summaryOf
   built-in-is = rw hs
 
@@ -309,43 +309,43 @@ module _ (vs : List Varying) (s : Summary) (hs : s ≡ summaryOf vs) where
     past-reach n h x = rw (ne-eqb (locationUses number past limit vs .number) 0 (λ z. n (sym (reach-past number past limit vs n (rw hs at h)) ∙ z))) x
 
   module _ (topology limit point : ℕ) (r : Answer) (hp : point ≡ pointPart topology) where
-    pub vertex-taken : limit < point + s .«clip_places» → r ≡ refused 65 → r ≡ vertexOutputs topology limit vs
+    pub vertex-taken : limit < point + s .«clip_slots» → r ≡ refused 65 → r ≡ vertexOutputs topology limit vs
     unfolding vertexOutputs
-    vertex-taken h x = rw (clip-is, ← hp, lt-ltb limit (point + s .«clip_places») h) x
+    vertex-taken h x = rw (clip-is, ← hp, lt-ltb limit (point + s .«clip_slots») h) x
 
-    module _ (h : point + s .«clip_places» ≤ limit) where
-      pub vertex-clipped : limit < 1 + s .«clip_places» → r ≡ refused 65 → r ≡ vertexOutputs topology limit vs
+    module _ (h : point + s .«clip_slots» ≤ limit) where
+      pub vertex-clipped : limit < 1 + s .«clip_slots» → r ≡ refused 65 → r ≡ vertexOutputs topology limit vs
       unfolding vertexOutputs
-      vertex-clipped k x = rw (clip-is, ← hp, le-ltb limit (point + s .«clip_places») h, lt-ltb limit (1 + s .«clip_places») k) x
+      vertex-clipped k x = rw (clip-is, ← hp, le-ltb limit (point + s .«clip_slots») h, lt-ltb limit (1 + s .«clip_slots») k) x
 
-      module _ (k : 1 + s .«clip_places» ≤ limit) where
-        pub vertex-location : limit - s .«clip_places» < s .reach → r ≡ locationUses 60 (limit - s .«clip_places») limit vs → r ≡ vertexOutputs topology limit vs
+      module _ (k : 1 + s .«clip_slots» ≤ limit) where
+        pub vertex-location : limit - s .«clip_slots» < s .reach → r ≡ locationUses 60 (limit - s .«clip_slots») limit vs → r ≡ vertexOutputs topology limit vs
         unfolding vertexOutputs
         vertex-location m x =
-            rw (clip-is, ← hp, le-ltb limit (point + s .«clip_places») h, le-ltb limit (1 + s .«clip_places») k)
-            (past-reach 60 (limit - s .«clip_places») limit r _ (λ z. absurd (omega (arith, z))) m x)
+            rw (clip-is, ← hp, le-ltb limit (point + s .«clip_slots») h, le-ltb limit (1 + s .«clip_slots») k)
+            (past-reach 60 (limit - s .«clip_slots») limit r _ (λ z. absurd (omega (arith, z))) m x)
 
-        pub vertex-count : s .reach ≤ limit - s .«clip_places» → r ≡ countUse 61 (s .locals) (limit - (point + s .«clip_places»)) limit
+        pub vertex-count : s .reach ≤ limit - s .«clip_slots» → r ≡ countUse 61 (s .locals) (limit - (point + s .«clip_slots»)) limit
             → r ≡ vertexOutputs topology limit vs
         unfolding vertexOutputs
         vertex-count m x =
-            rw (clip-is, locals-are, ← hp, le-ltb limit (point + s .«clip_places») h, le-ltb limit (1 + s .«clip_places») k)
-            (within-reach 60 (limit - s .«clip_places») limit r _ m x)
+            rw (clip-is, locals-are, ← hp, le-ltb limit (point + s .«clip_slots») h, le-ltb limit (1 + s .«clip_slots») k)
+            (within-reach 60 (limit - s .«clip_slots») limit r _ m x)
 
   module _ (limit locals : ℕ) (r : Answer) where
-    pub fragment-taken : limit < s .«built_in_places» → r ≡ refused 65 → r ≡ fragmentPlaces limit locals vs
-    unfolding fragmentPlaces
-    fragment-taken h x = rw (built-in-is, lt-ltb limit (s .«built_in_places») h) x
+    pub fragment-taken : limit < s .«built_in_slots» → r ≡ refused 65 → r ≡ fragmentSlots limit locals vs
+    unfolding fragmentSlots
+    fragment-taken h x = rw (built-in-is, lt-ltb limit (s .«built_in_slots») h) x
 
-    module _ (h : s .«built_in_places» ≤ limit) where
-      pub fragment-location : limit < s .reach → r ≡ locationUses 62 limit limit vs → r ≡ fragmentPlaces limit locals vs
-      unfolding fragmentPlaces
+    module _ (h : s .«built_in_slots» ≤ limit) where
+      pub fragment-location : limit < s .reach → r ≡ locationUses 62 limit limit vs → r ≡ fragmentSlots limit locals vs
+      unfolding fragmentSlots
       fragment-location m x =
-          rw (built-in-is, le-ltb limit (s .«built_in_places») h) (past-reach 62 limit limit r _ (λ z. absurd (omega (arith, z))) m x)
+          rw (built-in-is, le-ltb limit (s .«built_in_slots») h) (past-reach 62 limit limit r _ (λ z. absurd (omega (arith, z))) m x)
 
-      pub fragment-count : s .reach ≤ limit → r ≡ countUse 63 locals (limit - s .«built_in_places») limit → r ≡ fragmentPlaces limit locals vs
-      unfolding fragmentPlaces
-      fragment-count m x = rw (built-in-is, le-ltb limit (s .«built_in_places») h) (within-reach 62 limit limit r _ m x)
+      pub fragment-count : s .reach ≤ limit → r ≡ countUse 63 locals (limit - s .«built_in_slots») limit → r ≡ fragmentSlots limit locals vs
+      unfolding fragmentSlots
+      fragment-count m x = rw (built-in-is, le-ltb limit (s .«built_in_slots») h) (within-reach 62 limit limit r _ m x)
 
 -- ---- attachments
 
@@ -378,8 +378,8 @@ module _ (ws : List ℕ) (p : EntryParts) (counts n : ℕ) (hc : counts ≡ word
   outputs-end hn = rw (hn, hc) (g .outputsEnd)
 
 module _ (ws : List ℕ) (p : EntryParts) (counts n : ℕ) (a : Answer) (hc : counts ≡ wordAt ws (p .counts)) where
-  pub inputs-stand : (limit locals : ℕ) → n ≡ bits 11 6 counts → a ≡ fragmentPlaces limit locals (varyings n (drop (p .inputs) ws))
-      → a ≡ fragmentPlaces limit locals (standing ws p .inputs)
+  pub inputs-stand : (limit locals : ℕ) → n ≡ bits 11 6 counts → a ≡ fragmentSlots limit locals (varyings n (drop (p .inputs) ws))
+      → a ≡ fragmentSlots limit locals (standing ws p .inputs)
   unfolding standing
   inputs-stand limit locals hn x = rw (← hc, ← hn) x
 
@@ -403,11 +403,11 @@ module _ (ws : List ℕ) (p : EntryParts) (counts n : ℕ) (s : Summary) (hc : c
   unfolding standing
   summed-read g = rw (hn, hc) (g .outputs)
 
-  pub summed-here : s ≡ summaryOf (varyings n (drop (p .outputs) ws)) → s .locals ≤ 63 → s .«clip_places» ≤ 63 * 64 → Summed ws p s
+  pub summed-here : s ≡ summaryOf (varyings n (drop (p .outputs) ws)) → s .locals ≤ 63 → s .«clip_slots» ≤ 63 * 64 → Summed ws p s
   unfolding standing
   summed-here e l c = record { outputs = rw (← hc, ← hn) e; locals = l; clip = c }
 
 -- the arms of a `match`
-pub places-at : (stage s : ShaderStage) (q : Request) (l : Limits) (e : EntryPoint) (locals : ℕ) (r : Answer) → stage ≡ s
-    → r ≡ placesStep s q l e locals → r ≡ placesStep stage q l e locals
-places-at stage s q l e locals r d h = rw d h
+pub slots-at : (stage s : ShaderStage) (q : Request) (l : Limits) (e : EntryPoint) (locals : ℕ) (r : Answer) → stage ≡ s
+    → r ≡ slotsStep s q l e locals → r ≡ slotsStep stage q l e locals
+slots-at stage s q l e locals r d h = rw d h

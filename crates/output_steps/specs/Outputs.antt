@@ -17,33 +17,33 @@ use Rattle.interface.specs.declared.types.Varying.the-variants as Var
 use Rattle.interface.specs.declared.types.Limits.{Limits}
 use Rattle.output_steps.specs.declared.types.Request.{Request}
 
--- ---- outputs and places
+-- ---- outputs and slots
 
 abbrev pub clipPart : Varying → ℕ
 clipPart (Var.Local location iv) = 0
-clipPart (Var.BuiltIn (In.Other places)) = 0
-clipPart (Var.BuiltIn (In.PrimitiveIndex places)) = 0
-clipPart (Var.BuiltIn (In.DrawIndex places)) = 0
-clipPart (Var.BuiltIn (In.FragDepth places)) = 0
+clipPart (Var.BuiltIn (In.Other slots)) = 0
+clipPart (Var.BuiltIn (In.PrimitiveIndex slots)) = 0
+clipPart (Var.BuiltIn (In.DrawIndex slots)) = 0
+clipPart (Var.BuiltIn (In.FragDepth slots)) = 0
 clipPart (Var.BuiltIn (In.ClipDistances size)) = (size + 3) / 4
 
 -- 'clip size over 4 rounded up'
-unfoldable pub clipPlaces : List Varying → ℕ
-clipPlaces [] = 0
-clipPlaces (v ∷ vs) = clipPart v + clipPlaces vs
+unfoldable pub clipSlots : List Varying → ℕ
+clipSlots [] = 0
+clipSlots (v ∷ vs) = clipPart v + clipSlots vs
 
 abbrev pub builtInPart : Varying → ℕ
 builtInPart (Var.Local location iv) = 0
-builtInPart (Var.BuiltIn (In.Other places)) = places
-builtInPart (Var.BuiltIn (In.PrimitiveIndex places)) = places
-builtInPart (Var.BuiltIn (In.DrawIndex places)) = places
-builtInPart (Var.BuiltIn (In.FragDepth places)) = places
+builtInPart (Var.BuiltIn (In.Other slots)) = slots
+builtInPart (Var.BuiltIn (In.PrimitiveIndex slots)) = slots
+builtInPart (Var.BuiltIn (In.DrawIndex slots)) = slots
+builtInPart (Var.BuiltIn (In.FragDepth slots)) = slots
 builtInPart (Var.BuiltIn (In.ClipDistances size)) = 0
 
--- 'each built-in input's places'
-unfoldable pub builtInPlaces : List Varying → ℕ
-builtInPlaces [] = 0
-builtInPlaces (v ∷ vs) = builtInPart v + builtInPlaces vs
+-- 'each built-in input's slots'
+unfoldable pub builtInSlots : List Varying → ℕ
+builtInSlots [] = 0
+builtInSlots (v ∷ vs) = builtInPart v + builtInSlots vs
 
 abbrev pub isLocal : Varying → ℕ
 isLocal (Var.Local location iv) = 1
@@ -63,7 +63,7 @@ locationUses number past limit [] = accepted
 locationUses number past limit (v ∷ vs) = let rest = locationUses number past limit vs in both (locationUse number past limit v) rest
 
 abbrev pub countUse : ℕ → ℕ → ℕ → ℕ → Answer
-countUse number count places limit = pick (ltb places count) (answer number count limit 0) accepted
+countUse number count slots limit = pick (ltb slots count) (answer number count limit 0) accepted
 
 -- 'less 1 for a point list'
 abbrev pub pointPart : ℕ → ℕ
@@ -73,24 +73,24 @@ pointPart topology = pick (eqb topology 0) 1 0
 -- less 1 less the clip part. Any of these below zero is 65, before outputs are looked at. Then 60, 61'
 unfoldable pub vertexOutputs : ℕ → ℕ → List Varying → Answer
 vertexOutputs topology limit outputs =
-    pick (ltb limit (pointPart topology + clipPlaces outputs) || ltb limit (1 + clipPlaces outputs)) (refused 65)
-    (both (locationUses 60 (limit - clipPlaces outputs) limit outputs)
-    (countUse 61 (localCount outputs) (limit - (pointPart topology + clipPlaces outputs)) limit))
+    pick (ltb limit (pointPart topology + clipSlots outputs) || ltb limit (1 + clipSlots outputs)) (refused 65)
+    (both (locationUses 60 (limit - clipSlots outputs) limit outputs)
+    (countUse 61 (localCount outputs) (limit - (pointPart topology + clipSlots outputs)) limit))
 
 abbrev pub isDepth : Varying → Bool
 isDepth (Var.Local location iv) = false
-isDepth (Var.BuiltIn (In.Other places)) = false
-isDepth (Var.BuiltIn (In.PrimitiveIndex places)) = false
-isDepth (Var.BuiltIn (In.DrawIndex places)) = false
-isDepth (Var.BuiltIn (In.FragDepth places)) = true
+isDepth (Var.BuiltIn (In.Other slots)) = false
+isDepth (Var.BuiltIn (In.PrimitiveIndex slots)) = false
+isDepth (Var.BuiltIn (In.DrawIndex slots)) = false
+isDepth (Var.BuiltIn (In.FragDepth slots)) = true
 isDepth (Var.BuiltIn (In.ClipDistances size)) = false
 
 abbrev pub isPrimitive : Varying → Bool
 isPrimitive (Var.Local location iv) = false
-isPrimitive (Var.BuiltIn (In.Other places)) = false
-isPrimitive (Var.BuiltIn (In.PrimitiveIndex places)) = true
-isPrimitive (Var.BuiltIn (In.DrawIndex places)) = false
-isPrimitive (Var.BuiltIn (In.FragDepth places)) = false
+isPrimitive (Var.BuiltIn (In.Other slots)) = false
+isPrimitive (Var.BuiltIn (In.PrimitiveIndex slots)) = true
+isPrimitive (Var.BuiltIn (In.DrawIndex slots)) = false
+isPrimitive (Var.BuiltIn (In.FragDepth slots)) = false
 isPrimitive (Var.BuiltIn (In.ClipDistances size)) = false
 
 unfoldable pub anyOf : (Varying → Bool) → List Varying → Bool
@@ -102,22 +102,22 @@ unfoldable pub attachmentUse : Bool → Bool → Bool → List Varying → Answe
 attachmentUse dual depth shader outputs =
     pick (yes dual && not shader) (refused 66) (pick (anyOf isDepth outputs && not depth) (refused 67) accepted)
 
--- 'Fragment: the limit less each built-in input's places … 65. Then 62, 63, 64, 66, 67'
-unfoldable pub fragmentPlaces : ℕ → ℕ → List Varying → Answer
-fragmentPlaces limit locals inputs =
-    pick (ltb limit (builtInPlaces inputs)) (refused 65)
-    (both (locationUses 62 limit limit inputs) (countUse 63 locals (limit - builtInPlaces inputs) limit))
+-- 'Fragment: the limit less each built-in input's slots … 65. Then 62, 63, 64, 66, 67'
+unfoldable pub fragmentSlots : ℕ → ℕ → List Varying → Answer
+fragmentSlots limit locals inputs =
+    pick (ltb limit (builtInSlots inputs)) (refused 65)
+    (both (locationUses 62 limit limit inputs) (countUse 63 locals (limit - builtInSlots inputs) limit))
 
 unfoldable pub fragmentOutputs : Request → Limits → EntryPoint → ℕ → Answer
 fragmentOutputs q l e locals =
-    both (fragmentPlaces (l .«max_inter_stage_shader_variables») locals (e .inputs))
+    both (fragmentSlots (l .«max_inter_stage_shader_variables») locals (e .inputs))
     (both (locationUses 64 (l .«max_color_attachments») (l .«max_color_attachments») (e .outputs))
     (attachmentUse (q .«dual_source») (q .depth) (e .dual) (e .outputs)))
 
--- what a stage puts out, or a fragment stage takes in, against the places that there are
-unfoldable pub placesStep : ShaderStage → Request → Limits → EntryPoint → ℕ → Answer
-placesStep Stage.Vertex q l e locals = vertexOutputs (q .topology) (l .«max_inter_stage_shader_variables») (e .outputs)
-placesStep Stage.Fragment q l e locals = fragmentOutputs q l e locals
-placesStep Stage.Compute q l e locals = accepted
-placesStep Stage.Task q l e locals = accepted
-placesStep Stage.Mesh q l e locals = accepted
+-- what a stage puts out, or a fragment stage takes in, against the slots that there are
+unfoldable pub slotsStep : ShaderStage → Request → Limits → EntryPoint → ℕ → Answer
+slotsStep Stage.Vertex q l e locals = vertexOutputs (q .topology) (l .«max_inter_stage_shader_variables») (e .outputs)
+slotsStep Stage.Fragment q l e locals = fragmentOutputs q l e locals
+slotsStep Stage.Compute q l e locals = accepted
+slotsStep Stage.Task q l e locals = accepted
+slotsStep Stage.Mesh q l e locals = accepted

@@ -5,14 +5,14 @@ ghost use mathlib.Core.List.{[], _∷_};
 ghost use Prim.Native.Nat.{_+_, _*_, _<_, _≤_};
 ghost use lib.ListN.{length, drop, set};
 ghost use Rattle.word.specs.Lists.{every};
-ghost use Rattle.varying.specs.Format.{payloadHeld};
-ghost use Rattle.stage_lists.specs.Format.{outFiled, decodeStage, encodeStage};
+ghost use Rattle.varying.specs.Format.{payloadEncodable};
+ghost use Rattle.stage_lists.specs.Format.{outWellFormed, decodeStage, encodeStage};
 ghost use Rattle.interface.specs.inner.Reads.{varying, varyings, standing};
 ghost use Rattle.interface.specs.inner.Parts.{Placed, varyingsEnd};
 ghost use Rattle.output_steps.specs.Outputs.{isLocal, localCount};
 ghost use Rattle.output_steps.specs.ListOut.{localsOf, primitiveOut, stageOut};
 ghost use Rattle.output_steps.specs.inner.Given.{Summed};
-ghost use Rattle.output_steps.specs.inner.ListOut.{outputHeld, handed};
+ghost use Rattle.output_steps.specs.inner.ListOut.{outputEncodable, handed};
 use crate::types::Summary;
 use input_steps::inputs::either;
 use input_steps::types::InputWalk;
@@ -46,11 +46,11 @@ fn primitive_out(stage: ShaderStage, written: bool) -> PrimitiveIndex
 
 // An output by its words: a local one is put into its place, a built-in one is passed over. The head is handed over, and the answer is the new one.
 fn hand_on(out: &mut [u32], head: u32, first: u32, second: u32) -> u32
-    requires { ⌜ (outFiled (set (now out) 0 head) ≡ true) × (outputHeld (varying (first ∷ second ∷ [])) ≡ true) ⌝ }
+    requires { ⌜ (outWellFormed (set (now out) 0 head) ≡ true) × (outputEncodable (varying (first ∷ second ∷ [])) ≡ true) ⌝ }
     requires { ⌜ length (decodeStage (set (now out) 0 head) .varyings) + isLocal (varying (first ∷ second ∷ [])) ≤ 63 ⌝ }
     requires { ⌜ 2 * isLocal (varying (first ∷ second ∷ [])) ≤ length (decodeStage (set (now out) 0 head) .room) ⌝ }
     ensures { λ r. ⌜ decodeStage (set (now (out .exit)) 0 r) ≡ handed (varying (first ∷ second ∷ [])) (decodeStage (set (now (out .entry)) 0 head)) ⌝ }
-    ensures { λ r. ⌜ outFiled (set (now (out .exit)) 0 r) ≡ true ⌝ }
+    ensures { λ r. ⌜ outWellFormed (set (now (out .exit)) 0 r) ≡ true ⌝ }
 {
     if kind(first) == 12 {
         return insert_words(out, head, first, second);
@@ -68,8 +68,8 @@ pub(crate) fn write_out(
     payload: Payload,
 )
     requires { ⌜ (varyingsEnd (now pack) n from < length (now pack)) × (length (now pack) ≤ 4096) × (n ≤ 63) ⌝ }
-    requires { ⌜ payloadHeld payload ≡ true ⌝ }
-    requires { ⌜ every outputHeld (varyings n (drop from (now pack))) ≡ true ⌝ }
+    requires { ⌜ payloadEncodable payload ≡ true ⌝ }
+    requires { ⌜ every outputEncodable (varyings n (drop from (now pack))) ≡ true ⌝ }
     requires { ⌜ 2 + 2 * localCount (varyings n (drop from (now pack))) ≤ length (now out) ⌝ }
     ensures { λ _. ⌜ now (out .exit) ≡ encodeStage (record {
       primitive = primitive;
@@ -101,7 +101,7 @@ pub fn list_out(
     out: &mut [u32],
 )
     requires { ⌜ Placed (now pack) parts × Summed (now pack) parts outputs ⌝ }
-    requires { ⌜ every outputHeld (standing (now pack) parts .outputs) ≡ true ⌝ }
+    requires { ⌜ every outputEncodable (standing (now pack) parts .outputs) ≡ true ⌝ }
     requires { ⌜ 2 + 2 * localCount (standing (now pack) parts .outputs) ≤ length (now out) ⌝ }
     ensures { λ _. ⌜ now (out .exit) ≡ encodeStage (stageOut stage (standing (now (pack .entry)) parts) walk (now (out .entry))) ⌝ }
 {

@@ -1,4 +1,4 @@
-// Outputs of vertex and fragment stages, and the inter-stage places that both take.
+// Outputs of vertex and fragment stages, and the inter-stage slots that both take.
 ghost use mathlib.Core.Path.{_≡_};
 ghost use mathlib.Core.Bool.{false, not, _&&_};
 ghost use mathlib.Core.List.{[], _∷_};
@@ -10,7 +10,7 @@ ghost use Rattle.interface.specs.declared.types.Varying.the-variants as Var;
 ghost use Rattle.interface.specs.inner.Parts.{Placed, varyingsEnd};
 ghost use Rattle.output_steps.specs.inner.Given.{Summed};
 ghost use Rattle.output_steps.specs.inner.Summary.{summaryOf, plus};
-ghost use Rattle.output_steps.specs.Outputs.{locationUse, locationUses, countUse, pointPart, vertexOutputs, fragmentPlaces, attachmentUse, fragmentOutputs, placesStep};
+ghost use Rattle.output_steps.specs.Outputs.{locationUse, locationUses, countUse, pointPart, vertexOutputs, fragmentSlots, attachmentUse, fragmentOutputs, slotsStep};
 use crate::types::Request;
 use crate::types::Summary;
 use input_steps::inputs::either;
@@ -34,14 +34,14 @@ fn quarters(size: u32) -> u32
     size / 4 + 1
 }
 
-// The summary of a built-in that takes inter-stage places.
+// The summary of a built-in that takes inter-stage slots.
 fn taking(places: u32, depth: bool, primitive: bool) -> Summary
-    ensures { λ r. ⌜ r ≡ record { locals = 0; «clip_places» = 0; «built_in_places» = places; reach = 0; depth = depth; primitive = primitive } ⌝ }
+    ensures { λ r. ⌜ r ≡ record { locals = 0; «clip_slots» = 0; «built_in_slots» = slots; reach = 0; depth = depth; primitive = primitive } ⌝ }
 {
     Summary {
         locals: 0,
-        clip_places: 0,
-        built_in_places: places,
+        clip_slots: 0,
+        built_in_slots: slots,
         reach: 0,
         depth,
         primitive,
@@ -58,8 +58,8 @@ fn built_in_summary(w: u32) -> Summary
     }
     Summary {
         locals: 0,
-        clip_places: quarters(w % 256),
-        built_in_places: 0,
+        clip_slots: quarters(w % 256),
+        built_in_slots: 0,
         reach: 0,
         depth: false,
         primitive: false,
@@ -77,14 +77,14 @@ fn larger(a: u32, b: u32) -> u32
 
 // Two summaries as one.
 fn joined(a: Summary, b: Summary) -> Summary
-    requires { ⌜ (a .locals < 2 ^ 31) × (a .«clip_places» < 2 ^ 31) × (a .«built_in_places» < 2 ^ 31) ⌝ }
-    requires { ⌜ (b .locals < 2 ^ 31) × (b .«clip_places» < 2 ^ 31) × (b .«built_in_places» < 2 ^ 31) ⌝ }
+    requires { ⌜ (a .locals < 2 ^ 31) × (a .«clip_slots» < 2 ^ 31) × (a .«built_in_slots» < 2 ^ 31) ⌝ }
+    requires { ⌜ (b .locals < 2 ^ 31) × (b .«clip_slots» < 2 ^ 31) × (b .«built_in_slots» < 2 ^ 31) ⌝ }
     ensures { λ r. ⌜ r ≡ plus a b ⌝ }
 {
     Summary {
         locals: a.locals + b.locals,
-        clip_places: a.clip_places + b.clip_places,
-        built_in_places: a.built_in_places + b.built_in_places,
+        clip_slots: a.clip_slots + b.clip_slots,
+        built_in_slots: a.built_in_slots + b.built_in_slots,
         reach: larger(a.reach, b.reach),
         depth: either(a.depth, b.depth),
         primitive: either(a.primitive, b.primitive),
@@ -93,14 +93,14 @@ fn joined(a: Summary, b: Summary) -> Summary
 
 // A summary with one varying more, by its first word.
 fn with_next(s: Summary, w: u32) -> Summary
-    requires { ⌜ (s .locals < 2 ^ 31) × (s .«clip_places» < 2 ^ 31) × (s .«built_in_places» < 2 ^ 31) ⌝ }
+    requires { ⌜ (s .locals < 2 ^ 31) × (s .«clip_slots» < 2 ^ 31) × (s .«built_in_slots» < 2 ^ 31) ⌝ }
     ensures { λ r. ⌜ r ≡ plus s (summaryOf (varying (w ∷ []) ∷ [])) ⌝ }
 {
     if kind(w) == 12 {
         return Summary {
             locals: s.locals + 1,
-            clip_places: s.clip_places,
-            built_in_places: s.built_in_places,
+            clip_slots: s.clip_slots,
+            built_in_slots: s.built_in_slots,
             reach: larger(s.reach, content(w) + 1),
             depth: s.depth,
             primitive: s.primitive,
@@ -113,7 +113,7 @@ fn with_next(s: Summary, w: u32) -> Summary
 pub(crate) fn summary(pack: &[u32], from: usize, n: usize) -> Summary
     requires { ⌜ (varyingsEnd (now pack) n from < length (now pack)) × (length (now pack) ≤ 4096) × (n ≤ 63) ⌝ }
     ensures { λ r. ⌜ r ≡ summaryOf (varyings n (drop from (now (pack .entry)))) ⌝ }
-    ensures { λ r. ⌜ (r .locals ≤ 63) × (r .«clip_places» ≤ 63 * 64) × (r .«built_in_places» ≤ 63 * 255) ⌝ }
+    ensures { λ r. ⌜ (r .locals ≤ 63) × (r .«clip_slots» ≤ 63 * 64) × (r .«built_in_slots» ≤ 63 * 255) ⌝ }
 {
     let mut s = taking(0, false, false);
     let mut at = from;
@@ -178,9 +178,9 @@ pub(crate) fn location_uses(
 }
 
 fn count_use(number: u32, count: u32, places: u32, limit: u32) -> Answer
-    ensures { λ r. ⌜ r ≡ countUse number count places limit ⌝ }
+    ensures { λ r. ⌜ r ≡ countUse number count slots limit ⌝ }
 {
-    if places < count {
+    if slots < count {
         return Answer::new(number, count, limit, 0);
     }
     Answer::accepted()
@@ -197,7 +197,7 @@ fn point_part(topology: u32) -> u32
     0
 }
 
-// The outputs of a vertex stage against the places that a point list and clip distances leave.
+// The outputs of a vertex stage against the slots that a point list and clip distances leave.
 pub(crate) fn vertex_outputs(
     pack: &[u32],
     from: usize,
@@ -207,10 +207,10 @@ pub(crate) fn vertex_outputs(
     limit: u32,
 ) -> Answer
     requires { ⌜ (varyingsEnd (now pack) n from < length (now pack)) × (length (now pack) ≤ 4096) × (n ≤ 63) ⌝ }
-    requires { ⌜ (outputs ≡ summaryOf (varyings n (drop from (now pack)))) × (outputs .«clip_places» ≤ 63 * 64) ⌝ }
+    requires { ⌜ (outputs ≡ summaryOf (varyings n (drop from (now pack)))) × (outputs .«clip_slots» ≤ 63 * 64) ⌝ }
     ensures { λ r. ⌜ r ≡ vertexOutputs topology limit (varyings n (drop from (now (pack .entry)))) ⌝ }
 {
-    let clip = outputs.clip_places;
+    let clip = outputs.clip_slots;
     let taken = point_part(topology) + clip;
     if limit < taken {
         return Answer::refused(65);
@@ -224,19 +224,13 @@ pub(crate) fn vertex_outputs(
     count_use(61, outputs.locals, limit - taken, limit)
 }
 
-// The inputs of a fragment stage against the places that its built-in inputs leave.
-pub(crate) fn fragment_places(
-    pack: &[u32],
-    from: usize,
-    n: usize,
-    limit: u32,
-    locals: u32,
-) -> Answer
+// The inputs of a fragment stage against the slots that its built-in inputs leave.
+pub(crate) fn fragment_slots(pack: &[u32], from: usize, n: usize, limit: u32, locals: u32) -> Answer
     requires { ⌜ (varyingsEnd (now pack) n from < length (now pack)) × (length (now pack) ≤ 4096) × (n ≤ 63) ⌝ }
-    ensures { λ r. ⌜ r ≡ fragmentPlaces limit locals (varyings n (drop from (now (pack .entry)))) ⌝ }
+    ensures { λ r. ⌜ r ≡ fragmentSlots limit locals (varyings n (drop from (now (pack .entry)))) ⌝ }
 {
     let s = summary(pack, from, n);
-    let taken = s.built_in_places;
+    let taken = s.built_in_slots;
     if limit < taken {
         return Answer::refused(65);
     }
@@ -293,9 +287,9 @@ pub(crate) fn fragment_outputs(
     let counts = pack[at];
     let inputs = inputs_counted(counts);
     let limit = limits.max_inter_stage_shader_variables;
-    let places = fragment_places(pack, parts.inputs, inputs, limit, locals);
-    if places.number != 0 {
-        return places;
+    let slots = fragment_slots(pack, parts.inputs, inputs, limit, locals);
+    if slots.number != 0 {
+        return slots;
     }
     let most = limits.max_color_attachments;
     if most < outputs.reach {
@@ -305,8 +299,8 @@ pub(crate) fn fragment_outputs(
     attachment_use(pack, parts, outputs, request)
 }
 
-// What a stage puts out, or a fragment stage takes in, against the places that there are.
-pub fn places_step(
+// What a stage puts out, or a fragment stage takes in, against the slots that there are.
+pub fn slots_step(
     pack: &[u32],
     parts: EntryParts,
     limits: Limits,
@@ -315,7 +309,7 @@ pub fn places_step(
     locals: u32,
 ) -> Answer
     requires { ⌜ Placed (now pack) parts × Summed (now pack) parts outputs ⌝ }
-    ensures { λ r. ⌜ r ≡ placesStep (request .stage) request limits (standing (now (pack .entry)) parts) locals ⌝ }
+    ensures { λ r. ⌜ r ≡ slotsStep (request .stage) request limits (standing (now (pack .entry)) parts) locals ⌝ }
 {
     let stage = request.stage;
     match stage {

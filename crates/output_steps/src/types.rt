@@ -9,11 +9,11 @@ pub struct Request {
     pub depth: bool,
 }
 
-// What stands among varyings: local ones, the places of clip distances and of other built-ins, the highest location plus 1, fragment depth, a primitive index.
+// What stands among varyings: local ones, the slots of clip distances and of other built-ins, the highest location plus 1, fragment depth, a primitive index.
 pub struct Summary {
     pub locals: u32,
-    pub clip_places: u32,
-    pub built_in_places: u32,
+    pub clip_slots: u32,
+    pub built_in_slots: u32,
     pub reach: u32,
     pub depth: bool,
     pub primitive: bool,

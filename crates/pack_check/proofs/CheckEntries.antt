@@ -14,10 +14,10 @@ use Rattle.word.specs.Words.{wordAt, kindOf, bits, bit}
 use Rattle.word.specs.Parse.{Parsed, fault, got, one, several, behind, restAt}
 use Rattle.word.proofs.Parse.{Yields, yields-next, yields-pick, first-of, others-of}
 use Rattle.word.proofs.Truth.{first, second, codes-back}
-use Rattle.varying.specs.Format.{payloadFiled}
+use Rattle.varying.specs.Format.{payloadWellFormed}
 use Rattle.bindings.specs.declared.types.Resource.{Resource}
 use Rattle.interface.specs.Meaning.{EntryPoint}
-use Rattle.interface.specs.Format.{headFiled, bytesOf, nameFiled, nameWords, readName, readWorkgroup, readMesh, countsFiled, indexFiled, contents, pairFiled, readVarying, clips, stageAt, stageCode, named, hasName, distinctNames, readEntryPoint}
+use Rattle.interface.specs.Format.{headWellFormed, bytesOf, nameWellFormed, nameWords, readName, readWorkgroup, readMesh, countsWellFormed, indexWellFormed, contents, pairWellFormed, readVarying, clips, stageAt, stageCode, named, hasName, distinctNames, readEntryPoint}
 use Rattle.pack_check.specs.inner.Walks.{listed, firstWords, nameOf, sameHead, hasHead, distinctHeads, HeadAt, Headed, none, more}
 use Rattle.pack_check.proofs.CheckRecords.{listed-more}
 use Rattle.interface.proofs.Passing.{yields-word, yields-known}
@@ -36,7 +36,7 @@ unfolding readName nameOf
 name-read n l =
     yields-known (λ xs. xs ≡ firstWords (nameWords n) l) (λ name. name ≡ take n (bytesOf (firstWords (nameWords n) l))) (several (nameWords n) (one (λ w. true)) l) _
     (words-first (nameWords n) l)
-    (λ words rest e. yields-pick (λ name. name ≡ take n (bytesOf (firstWords (nameWords n) l))) (nameFiled n (bytesOf words)) _ _ (rw e) tt)
+    (λ words rest e. yields-pick (λ name. name ≡ take n (bytesOf (firstWords (nameWords n) l))) (nameWellFormed n (bytesOf words)) _ _ (rw e) tt)
 
 -- ---- the stage and the name of an entry point that is read
 
@@ -45,21 +45,21 @@ record HeadOf (l : List ℕ) (e : EntryPoint) : Type 0 where
   stage : e .stage ≡ stageAt (bits 26 24 (getD l 0 0))
   name : e .name ≡ nameOf (bits 22 16 (getD l 0 0)) (drop 1 l)
 
-stage-known : (w : ℕ) → headFiled w ≡ true → bits 26 24 w < 5
+stage-known : (w : ℕ) → headWellFormed w ≡ true → bits 26 24 w < 5
 stage-known w f = ltb-true (bits 26 24 w) 5 (first (ltb (bits 26 24 w) 5) _ (second (eqb (kindOf w) 7) _ f))
 
 head-read : (rs : List Resource) (l : List ℕ) → Yields (HeadOf l) (readEntryPoint rs l)
 unfolding readEntryPoint
 head-read rs [] = tt
 head-read rs (w ∷ l) =
-    yields-word (HeadOf (w ∷ l)) headFiled w l _ λ f.
+    yields-word (HeadOf (w ∷ l)) headWellFormed w l _ λ f.
     yields-known (λ name. name ≡ nameOf (bits 22 16 w) l) (HeadOf (w ∷ l)) (readName (bits 22 16 w) l) _ (name-read (bits 22 16 w) l) λ name rest e.
     yields-next (HeadOf (w ∷ l)) (readWorkgroup rest) _ λ workgroup rest.
-    yields-next (HeadOf (w ∷ l)) (one payloadFiled rest) _ λ payload rest.
+    yields-next (HeadOf (w ∷ l)) (one payloadWellFormed rest) _ λ payload rest.
     yields-next (HeadOf (w ∷ l)) (readMesh (eqb (bit 1 w) 1) rest) _ λ mesh rest.
-    yields-next (HeadOf (w ∷ l)) (one countsFiled rest) _ λ counts rest.
-    yields-next (HeadOf (w ∷ l)) (several (bits 23 18 counts) (one (indexFiled (length rs))) rest) _ λ indexes rest.
-    yields-next (HeadOf (w ∷ l)) (several (bits 17 12 counts) (one (pairFiled rs (contents indexes))) rest) _ λ pairs rest.
+    yields-next (HeadOf (w ∷ l)) (one countsWellFormed rest) _ λ counts rest.
+    yields-next (HeadOf (w ∷ l)) (several (bits 23 18 counts) (one (indexWellFormed (length rs))) rest) _ λ indexes rest.
+    yields-next (HeadOf (w ∷ l)) (several (bits 17 12 counts) (one (pairWellFormed rs (contents indexes))) rest) _ λ pairs rest.
     yields-next (HeadOf (w ∷ l)) (several (bits 11 6 counts) (readVarying 4) rest) _ λ inputs rest.
     yields-next (HeadOf (w ∷ l)) (several (bits 5 0 counts) (readVarying 5) rest) _ λ outputs rest.
     yields-pick (HeadOf (w ∷ l)) (leb (clips outputs) 1) _ _ (record { known = stage-known w f; stage = refl; name = e }) tt

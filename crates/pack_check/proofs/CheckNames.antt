@@ -13,7 +13,7 @@ use Rattle.word.specs.Choice.{pick}
 use Rattle.word.specs.Words.{wordAt, sumOf}
 use Rattle.word.specs.Parse.{Parsed, fault, got, next, one, several, Rest, nowhere, behind, restAt}
 use Rattle.word.proofs.Parse.{rest-from, first-of, others-of}
-use Rattle.interface.specs.Format.{bytesOf, noZero, allZero, nameFiled, nameWords, readName}
+use Rattle.interface.specs.Format.{bytesOf, noZero, allZero, nameWellFormed, nameWords, readName}
 use Rattle.pack_check.proofs.CheckCases.{same-behind}
 
 -- ---- the bytes of one word
@@ -66,36 +66,36 @@ turned false = refl
 
 -- a word of what is left of a name: a zero byte in it, bytes behind its end, four bytes of it
 module _ (w left : ℕ) (h : 1 ≤ left) where
-  pub zero-first : w % 256 ≡ 0 → false ≡ nameFiled left (bytesOf (w ∷ []))
+  pub zero-first : w % 256 ≡ 0 → false ≡ nameWellFormed left (bytesOf (w ∷ []))
   unfolding bytesOf noZero
   zero-first e = let x : left ≡ suc (left - 1) = omega arith in rw (x, eq-eqb (w % 256) 0 e)
 
 module _ (w left : ℕ) (fits : w < 2 ^ 32) (h : 1 ≤ left) (a : w % 256 ≡ 0 → ⊥) where
-  pub name-1 : left ≡ 1 → eqb (w / 256) 0 ≡ nameFiled left (bytesOf (w ∷ []))
+  pub name-1 : left ≡ 1 → eqb (w / 256) 0 ≡ nameWellFormed left (bytesOf (w ∷ []))
   unfolding bytesOf noZero
   name-1 e = rw (e, ne-eqb (w % 256) 0 a) (above-1 w fits)
 
-  pub zero-second : (left ≡ 1 → ⊥) → w / 256 % 256 ≡ 0 → false ≡ nameFiled left (bytesOf (w ∷ []))
+  pub zero-second : (left ≡ 1 → ⊥) → w / 256 % 256 ≡ 0 → false ≡ nameWellFormed left (bytesOf (w ∷ []))
   unfolding bytesOf noZero
   zero-second n e = let x : left ≡ suc (suc (left - 2)) = omega arith in rw (x, ne-eqb (w % 256) 0 a, eq-eqb (w / 256 % 256) 0 e)
 
   module _ (b : w / 256 % 256 ≡ 0 → ⊥) where
-    pub name-2 : left ≡ 2 → eqb (w / 65536) 0 ≡ nameFiled left (bytesOf (w ∷ []))
+    pub name-2 : left ≡ 2 → eqb (w / 65536) 0 ≡ nameWellFormed left (bytesOf (w ∷ []))
     unfolding bytesOf noZero
     name-2 e = rw (e, ne-eqb (w % 256) 0 a, ne-eqb (w / 256 % 256) 0 b) (above-2 w fits)
 
-    pub zero-third : (left ≡ 1 → ⊥) → (left ≡ 2 → ⊥) → w / 65536 % 256 ≡ 0 → false ≡ nameFiled left (bytesOf (w ∷ []))
+    pub zero-third : (left ≡ 1 → ⊥) → (left ≡ 2 → ⊥) → w / 65536 % 256 ≡ 0 → false ≡ nameWellFormed left (bytesOf (w ∷ []))
     unfolding bytesOf noZero
     zero-third m n e =
         let x : left ≡ suc (suc (suc (left - 3))) = omega arith in
         rw (x, ne-eqb (w % 256) 0 a, ne-eqb (w / 256 % 256) 0 b, eq-eqb (w / 65536 % 256) 0 e)
 
     module _ (c : w / 65536 % 256 ≡ 0 → ⊥) where
-      pub name-3 : left ≡ 3 → eqb (w / 16777216) 0 ≡ nameFiled left (bytesOf (w ∷ []))
+      pub name-3 : left ≡ 3 → eqb (w / 16777216) 0 ≡ nameWellFormed left (bytesOf (w ∷ []))
       unfolding bytesOf noZero
       name-3 e = rw (e, ne-eqb (w % 256) 0 a, ne-eqb (w / 256 % 256) 0 b, ne-eqb (w / 65536 % 256) 0 c) (above-3 w fits)
 
-      pub name-4 : (left ≡ 1 → ⊥) → (left ≡ 2 → ⊥) → (left ≡ 3 → ⊥) → not (eqb (w / 16777216) 0) ≡ nameFiled left (bytesOf (w ∷ []))
+      pub name-4 : (left ≡ 1 → ⊥) → (left ≡ 2 → ⊥) → (left ≡ 3 → ⊥) → not (eqb (w / 16777216) 0) ≡ nameWellFormed left (bytesOf (w ∷ []))
       unfolding bytesOf noZero allZero
       name-4 k m n =
           let x : 4 ≤ left = omega arith in
@@ -119,50 +119,50 @@ zeros-append [] ys = refl
 zeros-append (zero ∷ xs) ys = zeros-append xs ys
 zeros-append (suc x ∷ xs) ys = rw (eqb·suc-zero x)
 
-filed-append : (k : ℕ) (xs ys : List ℕ) → nameFiled k (xs ++ ys) ≡ nameFiled k xs && nameFiled (k - length xs) ys
+well-formed-append : (k : ℕ) (xs ys : List ℕ) → nameWellFormed k (xs ++ ys) ≡ nameWellFormed k xs && nameWellFormed (k - length xs) ys
 unfolding noZero allZero
-filed-append zero [] ys = refl
-filed-append (suc k) [] ys = rw sub-zero
-filed-append zero (x ∷ xs) ys = rw zero-sub (zeros-append (x ∷ xs) ys)
-filed-append (suc k) (zero ∷ xs) ys = refl
-filed-append (suc k) (suc x ∷ xs) ys = rw (eqb·suc-zero x, suc-sub-suc) (filed-append k xs ys)
+well-formed-append zero [] ys = refl
+well-formed-append (suc k) [] ys = rw sub-zero
+well-formed-append zero (x ∷ xs) ys = rw zero-sub (zeros-append (x ∷ xs) ys)
+well-formed-append (suc k) (zero ∷ xs) ys = refl
+well-formed-append (suc k) (suc x ∷ xs) ys = rw (eqb·suc-zero x, suc-sub-suc) (well-formed-append k xs ys)
 
 pub words-left : (k : ℕ) → (k ≡ 0 → ⊥) → nameWords k ≡ suc (nameWords (k - 4))
 words-left k h = omega arith
 
 module _ (k w : ℕ) where
-  word-fits : (p : Parsed (List ℕ)) → nameFiled k (bytesOf (w ∷ [])) ≡ true
-      → behind (next (next p λ others rest. got (w ∷ others) rest) λ words rest. pick (nameFiled k (bytesOf words)) (got (take k (bytesOf words)) rest) fault)
-      ≡ behind (next p λ words rest. pick (nameFiled (k - 4) (bytesOf words)) (got (take (k - 4) (bytesOf words)) rest) fault)
+  word-fits : (p : Parsed (List ℕ)) → nameWellFormed k (bytesOf (w ∷ [])) ≡ true
+      → behind (next (next p λ others rest. got (w ∷ others) rest) λ words rest. pick (nameWellFormed k (bytesOf words)) (got (take k (bytesOf words)) rest) fault)
+      ≡ behind (next p λ words rest. pick (nameWellFormed (k - 4) (bytesOf words)) (got (take (k - 4) (bytesOf words)) rest) fault)
   unfolding bytesOf
   word-fits fault e = refl
   word-fits (got words rest) e =
-      rw (filed-append k (bytesOf (w ∷ [])) (bytesOf words), e)
-      (same-behind (nameFiled (k - 4) (bytesOf words)) (take k (bytesOf (w ∷ words))) (take (k - 4) (bytesOf words)) rest)
+      rw (well-formed-append k (bytesOf (w ∷ [])) (bytesOf words), e)
+      (same-behind (nameWellFormed (k - 4) (bytesOf words)) (take k (bytesOf (w ∷ words))) (take (k - 4) (bytesOf words)) rest)
 
-  word-lacks : (p : Parsed (List ℕ)) → nameFiled k (bytesOf (w ∷ [])) ≡ false
-      → nowhere ≡ behind (next (next p λ others rest. got (w ∷ others) rest) λ words rest. pick (nameFiled k (bytesOf words)) (got (take k (bytesOf words)) rest) fault)
+  word-lacks : (p : Parsed (List ℕ)) → nameWellFormed k (bytesOf (w ∷ [])) ≡ false
+      → nowhere ≡ behind (next (next p λ others rest. got (w ∷ others) rest) λ words rest. pick (nameWellFormed k (bytesOf words)) (got (take k (bytesOf words)) rest) fault)
   unfolding bytesOf
   word-lacks fault e = refl
-  word-lacks (got words rest) e = rw (filed-append k (bytesOf (w ∷ [])) (bytesOf words), e)
+  word-lacks (got words rest) e = rw (well-formed-append k (bytesOf (w ∷ [])) (bytesOf words), e)
 
 module _ (k : ℕ) (h : k ≡ 0 → ⊥) where
-  name-fits : (l : List ℕ) → nameFiled k (bytesOf (getD l 0 0 ∷ [])) ≡ true → behind (readName k l) ≡ behind (readName (k - 4) (drop 1 l))
+  name-fits : (l : List ℕ) → nameWellFormed k (bytesOf (getD l 0 0 ∷ [])) ≡ true → behind (readName k l) ≡ behind (readName (k - 4) (drop 1 l))
   unfolding readName several
   name-fits [] e = let x : false ≡ true = zero-first 0 k (omega arith) refl ∙ e in cc
   name-fits (w ∷ l) e = rw (words-left k h) (word-fits k w (several (nameWords (k - 4)) (one (λ w. true)) l) e)
 
-  name-lacks : (l : List ℕ) → nameFiled k (bytesOf (getD l 0 0 ∷ [])) ≡ false → nowhere ≡ behind (readName k l)
+  name-lacks : (l : List ℕ) → nameWellFormed k (bytesOf (getD l 0 0 ∷ [])) ≡ false → nowhere ≡ behind (readName k l)
   unfolding readName several
   name-lacks [] e = rw (words-left k h)
   name-lacks (w ∷ l) e = rw (words-left k h) (word-lacks k w (several (nameWords (k - 4)) (one (λ w. true)) l) e)
 
-  name-holds : (l : List ℕ) → nameFiled k (bytesOf (getD l 0 0 ∷ [])) ≡ true → 1 ≤ length l
+  name-holds : (l : List ℕ) → nameWellFormed k (bytesOf (getD l 0 0 ∷ [])) ≡ true → 1 ≤ length l
   name-holds [] e = let x : false ≡ true = zero-first 0 k (omega arith) refl ∙ e in let y : _≡_ {A = ℕ} 0 1 = cc in omega arith
   name-holds (w ∷ l) e = omega arith
 
--- the walk over a name: a word that is not filed, one that is, the end
-module _ (ws : List ℕ) (k at w : ℕ) (b : Bool) (h : k ≡ 0 → ⊥) (e : w ≡ wordAt ws at) (t : b ≡ nameFiled k (bytesOf (w ∷ []))) where
+-- the walk over a name: a word that is not well formed, one that is, the end
+module _ (ws : List ℕ) (k at w : ℕ) (b : Bool) (h : k ≡ 0 → ⊥) (e : w ≡ wordAt ws at) (t : b ≡ nameWellFormed k (bytesOf (w ∷ []))) where
   pub name-stops : (goal : Rest) → not b ≡ true → goal ≡ behind (readName k (drop at ws)) → restAt ws 0 ≡ goal
   name-stops goal f inv = name-lacks k h (drop at ws) (rw (first-of ws at, ← e, ← t) (not-true b f)) ∙ sym inv
 

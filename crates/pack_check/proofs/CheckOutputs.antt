@@ -12,8 +12,8 @@ use Rattle.word.specs.Choice.{pick}
 use Rattle.word.specs.Words.{kindOf, bits}
 use Rattle.word.specs.Parse.{Parsed, fault, got, next, one, several, nowhere, behind}
 use Rattle.word.proofs.Parse.{Yields}
-use Rattle.varying.specs.Format.{locationFiled, varFiled}
-use Rattle.interface.specs.Format.{builtInFiled, builtInOf, readVarying, local, isClip, clips}
+use Rattle.varying.specs.Format.{locationWellFormed, varWellFormed}
+use Rattle.interface.specs.Format.{builtInWellFormed, builtInOf, readVarying, local, isClip, clips}
 use Rattle.pack_check.specs.inner.Walks.{thence, varyingsBehind}
 use Rattle.pack_check.proofs.CheckVaryings.{Below, below, other-code, code-clip}
 use Rattle.interface.specs.declared.types.BuiltIn.{BuiltIn}
@@ -40,10 +40,10 @@ inputs-walk (suc n) l = input-step n (readVarying 4 l) (below 4 l (omega arith))
 
 clip-either : (P : ℕ → Type 0) (v : Varying) → P 0 → P 1 → P (isClip v)
 clip-either P (Var.Local location iv) z o = z
-clip-either P (Var.BuiltIn (In.Other places)) z o = z
-clip-either P (Var.BuiltIn (In.PrimitiveIndex places)) z o = z
-clip-either P (Var.BuiltIn (In.DrawIndex places)) z o = z
-clip-either P (Var.BuiltIn (In.FragDepth places)) z o = z
+clip-either P (Var.BuiltIn (In.Other slots)) z o = z
+clip-either P (Var.BuiltIn (In.PrimitiveIndex slots)) z o = z
+clip-either P (Var.BuiltIn (In.DrawIndex slots)) z o = z
+clip-either P (Var.BuiltIn (In.FragDepth slots)) z o = z
 clip-either P (Var.BuiltIn (In.ClipDistances size)) z o = o
 
 abbrev unclipped : Parsed Varying → Parsed Varying
@@ -54,15 +54,15 @@ below-4 : (l : List ℕ) → readVarying 4 l ≡ unclipped (readVarying 5 l)
 unfolding readVarying
 below-4 [] = refl
 below-4 (w ∷ l) =
-    by-test (locationFiled w)
-    (λ t. pick t (next (one varFiled l) λ var rest. got (local w var) rest) (pick (builtInFiled 4 w) (got (Var.BuiltIn (builtInOf w)) l) fault)
-    ≡ unclipped (pick t (next (one varFiled l) λ var rest. got (local w var) rest) (pick (builtInFiled 5 w) (got (Var.BuiltIn (builtInOf w)) l) fault)))
-    (λ e. locals (one varFiled l))
-    (λ e. by-test (ltb (bits 26 24 w) 4) (λ t. pick (builtInFiled 4 w) (got (Var.BuiltIn (builtInOf w)) l) fault ≡ unclipped (pick (builtInFiled 5 w) (got (Var.BuiltIn (builtInOf w)) l) fault))
+    by-test (locationWellFormed w)
+    (λ t. pick t (next (one varWellFormed l) λ var rest. got (local w var) rest) (pick (builtInWellFormed 4 w) (got (Var.BuiltIn (builtInOf w)) l) fault)
+    ≡ unclipped (pick t (next (one varWellFormed l) λ var rest. got (local w var) rest) (pick (builtInWellFormed 5 w) (got (Var.BuiltIn (builtInOf w)) l) fault)))
+    (λ e. locals (one varWellFormed l))
+    (λ e. by-test (ltb (bits 26 24 w) 4) (λ t. pick (builtInWellFormed 4 w) (got (Var.BuiltIn (builtInOf w)) l) fault ≡ unclipped (pick (builtInWellFormed 5 w) (got (Var.BuiltIn (builtInOf w)) l) fault))
     (λ f. let h : bits 26 24 w < 4 = ltb-true (bits 26 24 w) 4 f in
     rw (lt-ltb (bits 26 24 w) 4 h, lt-ltb (bits 26 24 w) 5 (omega arith)) (small (eqb (kindOf w) 14 && eqb (bits 23 8 w) 0) h))
     (λ f. let h : 4 ≤ bits 26 24 w = ltb-false (bits 26 24 w) 4 f in
-    rw (le-ltb (bits 26 24 w) 4 h, and-false (eqb (kindOf w) 14)) (large (builtInFiled 5 w) h)))
+    rw (le-ltb (bits 26 24 w) 4 h, and-false (eqb (kindOf w) 14)) (large (builtInWellFormed 5 w) h)))
   where
     locals : (p : Parsed ℕ) → next p (λ var rest. got (local w var) rest) ≡ unclipped (next p λ var rest. got (local w var) rest)
     locals fault = refl

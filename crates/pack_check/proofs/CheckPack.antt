@@ -15,7 +15,7 @@ use Rattle.word.proofs.Parse.{rest-past, stopped, went}
 use Rattle.bindings.specs.declared.types.Resource.{Resource}
 use Rattle.bindings.specs.Format.{readResource}
 use Rattle.interface.specs.Meaning.{Interface}
-use Rattle.interface.specs.Format.{ofWord, editionFiled, totalsFiled, distinctNames, readEntryPoint, readPack, torn, decode, decodedNumber, whole, body}
+use Rattle.interface.specs.Format.{ofWord, editionWellFormed, totalsWellFormed, distinctNames, readEntryPoint, readPack, damaged, decode, decodedNumber, whole, body}
 use Rattle.pack_check.specs.inner.Walks.{onward, word, thence, listed, packResources, pairRoles, roleTable, distinctHeads, Headed, entriesBehind, recordsBehind}
 use Rattle.pack_check.proofs.CheckRecords.{listed-long}
 use Rattle.word.proofs.Truth.{first, second, neither}
@@ -82,31 +82,31 @@ on-thence fault k h f = refl
 on-thence (got a rest) k h f = f a rest
 
 pack-walk : (ws : List ℕ) → behind (readPack ws)
-    ≡ word editionFiled ws λ edition rest. word totalsFiled rest λ totals rest. onward (behind (several 13 (one (ofWord 3)) rest)) λ rest. recordsBehind totals rest
+    ≡ word editionWellFormed ws λ edition rest. word totalsWellFormed rest λ totals rest. onward (behind (several 13 (one (ofWord 3)) rest)) λ rest. recordsBehind totals rest
 unfolding readPack recordsBehind entriesBehind
 pack-walk ws =
-    on-word editionFiled ws _ _ λ edition rest.
-    on-word totalsFiled rest _ _ λ totals rest.
+    on-word editionWellFormed ws _ _ λ edition rest.
+    on-word totalsWellFormed rest _ _ λ totals rest.
     on-step (several 13 (one (ofWord 3)) rest) _ _ λ limits rest.
     on-thence (several (bits 26 16 totals) readResource rest) _ _ λ resources rest.
     on-thence (several (bits 15 0 totals) (readEntryPoint resources) rest) _ _ λ entries rest.
     test-behind (distinctNames entries) _ rest
 
-module _ (ws : List ℕ) (w : ℕ) (b : Bool) (e : w ≡ wordAt ws 0) (f : b ≡ editionFiled w) where
+module _ (ws : List ℕ) (w : ℕ) (b : Bool) (e : w ≡ wordAt ws 0) (f : b ≡ editionWellFormed w) where
   pub edition-stop : not b ≡ true → restAt ws 0 ≡ behind (readPack ws)
-  edition-stop t = word-stop editionFiled ws 0 w b _ e f t ∙ sym (pack-walk ws)
+  edition-stop t = word-stop editionWellFormed ws 0 w b _ e f t ∙ sym (pack-walk ws)
 
-  module _ (totals : ℕ) (c : Bool) (t : not b ≡ false) (g : totals ≡ wordAt ws 1) (h : c ≡ totalsFiled totals) where
-    edition-go : (x : Rest) → x ≡ word totalsFiled (drop 1 ws) (λ totals rest. onward (behind (several 13 (one (ofWord 3)) rest)) λ rest. recordsBehind totals rest)
+  module _ (totals : ℕ) (c : Bool) (t : not b ≡ false) (g : totals ≡ wordAt ws 1) (h : c ≡ totalsWellFormed totals) where
+    edition-go : (x : Rest) → x ≡ word totalsWellFormed (drop 1 ws) (λ totals rest. onward (behind (several 13 (one (ofWord 3)) rest)) λ rest. recordsBehind totals rest)
         → x ≡ behind (readPack ws)
-    edition-go x y = word-go editionFiled ws 0 w b _ e f x t refl y ∙ sym (pack-walk ws)
+    edition-go x y = word-go editionWellFormed ws 0 w b _ e f x t refl y ∙ sym (pack-walk ws)
 
     pub totals-stop : not c ≡ true → restAt ws 0 ≡ behind (readPack ws)
-    totals-stop u = edition-go (restAt ws 0) (word-stop totalsFiled ws 1 totals c _ g h u)
+    totals-stop u = edition-go (restAt ws 0) (word-stop totalsWellFormed ws 1 totals c _ g h u)
 
     module _ (r : ℕ) (u : not c ≡ false) (k : restAt ws r ≡ behind (several 13 (one (ofWord 3)) (drop 2 ws))) where
       totals-go : (x : Rest) → x ≡ onward (behind (several 13 (one (ofWord 3)) (drop 2 ws))) (λ rest. recordsBehind totals rest) → x ≡ behind (readPack ws)
-      totals-go x y = edition-go x (word-go totalsFiled ws 1 totals c _ g h x u refl y)
+      totals-go x y = edition-go x (word-go totalsWellFormed ws 1 totals c _ g h x u refl y)
 
       pub limits-stop : r ≡ 0 → restAt ws 0 ≡ behind (readPack ws)
       limits-stop z = totals-go (restAt ws 0) (step-stop ws r _ _ k z)
@@ -116,7 +116,7 @@ module _ (ws : List ℕ) (w : ℕ) (b : Bool) (e : w ≡ wordAt ws 0) (f : b ≡
 
 -- what the head words bound
 
-module _ (totals : ℕ) (c : Bool) (h : c ≡ totalsFiled totals) (u : not c ≡ false) where
+module _ (totals : ℕ) (c : Bool) (h : c ≡ totalsWellFormed totals) (u : not c ≡ false) where
   bounds : (leb (bits 26 16 totals) 128 && leb (bits 15 0 totals) 16) ≡ true
   bounds = second (ofWord 2 totals) _ (sym h ∙ not-false c u)
 
@@ -129,43 +129,43 @@ module _ (totals : ℕ) (c : Bool) (h : c ≡ totalsFiled totals) (u : not c ≡
 pub limits-in : (ws : List ℕ) (r : ℕ) → (r ≡ 0 → ⊥) → ((r ≡ 0 → ⊥) → r ≡ 15) → r ≤ length ws → 15 ≤ length ws
 limits-in ws r z m h = let x : r ≡ 15 = m z in omega arith
 
--- ---- torn or not
+-- ---- damaged or not
 
-pub torn-short : (ws : List ℕ) → length ws < 16 → true ≡ torn ws
-unfolding torn
-torn-short ws h = rw (lt-ltb (length ws) 16 h)
+pub damaged-short : (ws : List ℕ) → length ws < 16 → true ≡ damaged ws
+unfolding damaged
+damaged-short ws h = rw (lt-ltb (length ws) 16 h)
 
 module _ (ws : List ℕ) (s : 16 ≤ length ws) where
-  pub torn-long : 4096 < length ws → true ≡ torn ws
-  unfolding torn
-  torn-long h = rw (le-ltb (length ws) 16 s, lt-ltb 4096 (length ws) h)
+  pub damaged-long : 4096 < length ws → true ≡ damaged ws
+  unfolding damaged
+  damaged-long h = rw (le-ltb (length ws) 16 s, lt-ltb 4096 (length ws) h)
 
   module _ (w : ℕ) (l : length ws ≤ 4096) (e : w ≡ wordAt ws 0) where
-    pub torn-total : (w % 65536 ≡ length ws → ⊥) → true ≡ torn ws
-    unfolding torn
-    torn-total n = rw (le-ltb (length ws) 16 s, le-ltb 4096 (length ws) l, ← e, ne-eqb (w % 65536) (length ws) n)
+    pub damaged-total : (w % 65536 ≡ length ws → ⊥) → true ≡ damaged ws
+    unfolding damaged
+    damaged-total n = rw (le-ltb (length ws) 16 s, le-ltb 4096 (length ws) l, ← e, ne-eqb (w % 65536) (length ws) n)
 
-    pub torn-sum : (v x : ℕ) → w % 65536 ≡ length ws → v ≡ wordAt ws (length ws - 1) → x ≡ closingSum ws → not (eqb v x) ≡ torn ws
-    unfolding torn
-    torn-sum v x t f g = rw (le-ltb (length ws) 16 s, le-ltb 4096 (length ws) l, ← e, eq-eqb (w % 65536) (length ws) t, ← f, ← g)
+    pub damaged-sum : (v x : ℕ) → w % 65536 ≡ length ws → v ≡ wordAt ws (length ws - 1) → x ≡ closingSum ws → not (eqb v x) ≡ damaged ws
+    unfolding damaged
+    damaged-sum v x t f g = rw (le-ltb (length ws) 16 s, le-ltb 4096 (length ws) l, ← e, eq-eqb (w % 65536) (length ws) t, ← f, ← g)
 
-pub ruleset torn-ways = (torn-short, torn-long, torn-total, torn-sum)
+pub ruleset damaged-ways = (damaged-short, damaged-long, damaged-total, damaged-sum)
 
 pub body-long : (ws : List ℕ) → length ws - 1 ≡ length (body ws)
 body-long ws = sym (length-take-le (length ws - 1) ws (omega arith))
 
-module _ (ws : List ℕ) (b : Bool) (e : b ≡ torn ws) where
-  pub pack-torn : b ≡ true → 1 ≡ decodedNumber (decode ws)
+module _ (ws : List ℕ) (b : Bool) (e : b ≡ damaged ws) where
+  pub pack-damaged : b ≡ true → 1 ≡ decodedNumber (decode ws)
   unfolding decode
-  pack-torn t = rw (← e, t)
+  pack-damaged t = rw (← e, t)
 
   module _ (t : b ≡ false) where
     pub low : 16 ≤ length ws
-    unfolding torn
+    unfolding damaged
     low = ltb-false (length ws) 16 (neither (ltb (length ws) 16) _ (sym e ∙ t) .0)
 
     high : length ws ≤ 4096
-    unfolding torn
+    unfolding damaged
     high = ltb-false 4096 (length ws) (neither (ltb 4096 (length ws)) _ (neither (ltb (length ws) 16) _ (sym e ∙ t) .1) .0)
 
     pub pack-some : 1 ≤ length ws
@@ -183,12 +183,12 @@ module _ (ws : List ℕ) (b : Bool) (e : b ≡ torn ws) where
       unfolding decode
       nothing-at z = rw (← e, t, stopped (readPack (body ws)) (body ws) r f z)
 
-      pub pack-filed : r ≡ length ws - 1 → 0 ≡ decodedNumber (decode ws)
-      pack-filed g =
+      pub pack-well-formed : r ≡ length ws - 1 → 0 ≡ decodedNumber (decode ws)
+      pack-well-formed g =
           let x : length (body ws) ≤ r = omega (arith, body-long ws) in
           sym (whole-at 0 (λ i. rw (drop-of-length-le (body ws) x)) (λ z. omega (arith, low)))
 
-      pub pack-misfiled : (r ≡ length ws - 1 → ⊥) → r ≤ length (body ws) → 2 ≡ decodedNumber (decode ws)
-      pack-misfiled g h =
+      pub pack-malformed : (r ≡ length ws - 1 → ⊥) → r ≤ length (body ws) → 2 ≡ decodedNumber (decode ws)
+      pack-malformed g h =
           sym (decided r 0 (λ t. decodedNumber (decode ws) ≡ 2) nothing-at
           (λ z. whole-at 2 (λ i. rw (drop-cons (body ws) r 0 (omega (arith, body-long ws)))) z))

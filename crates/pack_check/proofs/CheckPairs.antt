@@ -13,9 +13,9 @@ use Rattle.word.specs.Choice.{pick}
 use Rattle.word.specs.Words.{wordAt, kindOf, contentOf, bits, ofKind}
 use Rattle.word.specs.Parse.{one, several, behind, restAt, Rest}
 use Rattle.word.specs.Lists.{among}
-use Rattle.interface.specs.Format.{ofWord, indexFiled, contents, isTexture, isSampler, ofType, pairFiled}
+use Rattle.interface.specs.Format.{ofWord, indexWellFormed, contents, isTexture, isSampler, ofType, pairWellFormed}
 use Rattle.pack_check.proofs.CheckSteps.{step-stop, steps}
-use Rattle.pack_check.specs.inner.Walks.{marked, pairRole, pairRoles, roleTable, pairMarked, varyingListsBehind, listsBehind}
+use Rattle.pack_check.specs.inner.Walks.{rolesOf, pairRole, pairRoles, roleTable, pairByRoles, varyingListsBehind, listsBehind}
 use Rattle.bindings.specs.declared.types.Resource.{Resource}
 use Rattle.bindings.specs.declared.types.ResourceType.{ResourceType}
 use Rattle.bindings.specs.declared.types.ResourceType.the-variants as Res
@@ -27,40 +27,40 @@ unfolding contents
 contents-append [] w = refl
 contents-append (x ∷ xs) w = rw (contents-append xs w)
 
-marked-append : (roles is : List ℕ) (j : ℕ) (table : List ℕ) → marked roles (is ++ (j ∷ [])) table ≡ set (marked roles is table) j (getD roles j 0)
-unfolding marked
+marked-append : (roles is : List ℕ) (j : ℕ) (table : List ℕ) → rolesOf roles (is ++ (j ∷ [])) table ≡ set (rolesOf roles is table) j (getD roles j 0)
+unfolding rolesOf
 marked-append roles [] j table = refl
 marked-append roles (i ∷ is) j table = marked-append roles is j (set table i (getD roles i 0))
 
-pub marks-begin : (roles l table : List ℕ) → table ≡ marked roles (contents (take 0 l)) table
-unfolding marked contents
+pub marks-begin : (roles l table : List ℕ) → table ≡ rolesOf roles (contents (take 0 l)) table
+unfolding rolesOf contents
 marks-begin roles l table = refl
 
 -- a word less its kind, as an index
 module _ (count w v : ℕ) (e : (v + ofKind 5 0) % 2 ^ 64 ≡ w) (c : count ≤ 128) where
-  pub index-past : v < 2 ^ 64 → count ≤ v → indexFiled count w ≡ false
+  pub index-past : v < 2 ^ 64 → count ≤ v → indexWellFormed count w ≡ false
   index-past h k = decided (kindOf w) 5 (λ t. t && ltb (contentOf w) count ≡ false) (λ x. le-ltb (contentOf w) count (omega arith)) (λ n. refl)
 
   module _ (h : v < count) where
-    pub index-told : indexFiled count w ≡ true
+    pub index-told : indexWellFormed count w ≡ true
     index-told = rw (eq-eqb (kindOf w) 5 (omega arith), lt-ltb (contentOf w) count (omega arith))
 
-    pub marks-go : (ws roles table start : List ℕ) (from at i n : ℕ) → table ≡ marked roles (contents (take i (drop from ws))) start → at ≡ from + i → i < n
-        → n ≤ length ws - from → w ≡ wordAt ws at → set table v (getD roles v 0) ≡ marked roles (contents (take (i + 1) (drop from ws))) start
+    pub marks-go : (ws roles table start : List ℕ) (from at i n : ℕ) → table ≡ rolesOf roles (contents (take i (drop from ws))) start → at ≡ from + i → i < n
+        → n ≤ length ws - from → w ≡ wordAt ws at → set table v (getD roles v 0) ≡ rolesOf roles (contents (take (i + 1) (drop from ws))) start
     marks-go ws roles table start from at i n m a k q g =
         let y : i < length (drop from ws) = omega (arith, length-drop from ws) in
         let x : getD (drop from ws) i 0 ≡ w = getD-drop from ws i 0 ∙ rw (← a) (sym g) in
         let z : contentOf w ≡ v = omega arith in
         sym (rw (add-one i, take-suc (drop from ws) i 0 y, x, contents-append, marked-append, z, ← m))
 
-pub marks-end : (ws roles table start : List ℕ) (from i n : ℕ) → table ≡ marked roles (contents (take i (drop from ws))) start → i ≤ n → n ≤ i
-    → table ≡ marked roles (contents (take n (drop from ws))) start
+pub marks-end : (ws roles table start : List ℕ) (from i n : ℕ) → table ≡ rolesOf roles (contents (take i (drop from ws))) start → i ≤ n → n ≤ i
+    → table ≡ rolesOf roles (contents (take n (drop from ws))) start
 marks-end ws roles table start from i n m h k = let x : n ≡ i = omega arith in rw x m
 
 -- ---- what the table tells of a pair
 
-marked-long : (roles is table : List ℕ) → length (marked roles is table) ≡ length table
-unfolding marked
+marked-long : (roles is table : List ℕ) → length (rolesOf roles is table) ≡ length table
+unfolding rolesOf
 marked-long roles [] table = refl
 marked-long roles (i ∷ is) table = marked-long roles is (set table i (getD roles i 0)) ∙ simp length-set
 
@@ -68,8 +68,8 @@ picked-same : {A : Type 0} (t : Bool) (a : A) → pick t a a ≡ a
 picked-same true a = refl
 picked-same false a = refl
 
-marked-at : (roles is table : List ℕ) (j : ℕ) → j < length table → getD (marked roles is table) j 0 ≡ pick (among is j) (getD roles j 0) (getD table j 0)
-unfolding marked among
+marked-at : (roles is table : List ℕ) (j : ℕ) → j < length table → getD (rolesOf roles is table) j 0 ≡ pick (among is j) (getD roles j 0) (getD table j 0)
+unfolding rolesOf among
 marked-at roles [] table j h = refl
 marked-at roles (i ∷ is) table j h =
     marked-at roles is (set table i (getD roles i 0)) j (simp length-set h)
@@ -131,7 +131,7 @@ table-at rs i =
 
 module _ (rs : List Resource) (listed : List ℕ) (h : length rs ≤ 128) where
   abbrev table : List ℕ
-  table = marked (roleTable rs) listed (replicate 128 0)
+  table = rolesOf (roleTable rs) listed (replicate 128 0)
 
   told-at : (i : ℕ) → getD table i 0 ≡ pick (among listed i) (getD (pairRoles rs) i 0) 0
   told-at i =
@@ -149,7 +149,7 @@ module _ (rs : List Resource) (listed : List ℕ) (h : length rs ≤ 128) where
       picked true = refl
       picked false = z
 
-  pair-told : (w : ℕ) → pairMarked table w ≡ pairFiled rs listed w
+  pair-told : (w : ℕ) → pairByRoles table w ≡ pairWellFormed rs listed w
   pair-told w =
       rw (told isTexture 2 (bits 15 8 w) refl role-texture, told isSampler 1 (bits 7 0 w) refl role-sampler)
       (ap (λ t. ofWord 5 w && (eqb (bits 26 16 w) 0 && t))
@@ -159,20 +159,20 @@ module _ (rs : List Resource) (listed : List ℕ) (h : length rs ≤ 128) where
       joined true b c = refl
       joined false b c = refl
 
-  pub pairs-told : (n : ℕ) (l : List ℕ) → several n (one (pairMarked table)) l ≡ several n (one (pairFiled rs listed)) l
+  pub pairs-told : (n : ℕ) (l : List ℕ) → several n (one (pairByRoles table)) l ≡ several n (one (pairWellFormed rs listed)) l
   pairs-told n l = ap (λ test. several n (one test) l) (fun-ext pair-told)
 
 -- the code's ways through the lists of an entry point
 module _ (ws : List ℕ) (rs : List Resource) (counts count at p : ℕ) (k : length rs ≡ count)
-    (e : restAt ws p ≡ behind (several (bits 23 18 counts) (one (indexFiled count)) (drop at ws))) where
+    (e : restAt ws p ≡ behind (several (bits 23 18 counts) (one (indexWellFormed count)) (drop at ws))) where
   pub lists-stop : p ≡ 0 → restAt ws 0 ≡ listsBehind rs counts (drop at ws)
   unfolding listsBehind
   lists-stop z = rw k (search (step-stop, e, z))
 
   module _ (roles marks : List ℕ) (n : p ≡ 0 → ⊥) (h : count ≤ 128) (r : roles ≡ roleTable rs)
-      (m : (p ≡ 0 → ⊥) → marks ≡ marked roles (contents (take (bits 23 18 counts) (drop at ws))) (replicate 128 0)) (q : ℕ)
-      (f : restAt ws q ≡ behind (several (bits 17 12 counts) (one (pairMarked marks)) (drop p ws))) where
-    pairs-here : restAt ws q ≡ behind (several (bits 17 12 counts) (one (pairFiled rs (contents (take (bits 23 18 counts) (drop at ws))))) (drop p ws))
+      (m : (p ≡ 0 → ⊥) → marks ≡ rolesOf roles (contents (take (bits 23 18 counts) (drop at ws))) (replicate 128 0)) (q : ℕ)
+      (f : restAt ws q ≡ behind (several (bits 17 12 counts) (one (pairByRoles marks)) (drop p ws))) where
+    pairs-here : restAt ws q ≡ behind (several (bits 17 12 counts) (one (pairWellFormed rs (contents (take (bits 23 18 counts) (drop at ws))))) (drop p ws))
     pairs-here =
         f ∙ rw (m n, r)
         (ap behind (pairs-told rs (contents (take (bits 23 18 counts) (drop at ws))) (omega arith) (bits 17 12 counts) (drop p ws)))

@@ -13,11 +13,11 @@ use Rattle.word.specs.Words.{wordAt, bits}
 use Rattle.word.specs.Parse.{Parsed, several, behind, restAt}
 use Rattle.word.proofs.Parse.{went}
 use Rattle.word.proofs.ParseReads.{Stands}
-use Rattle.bindings.specs.Format.{readResource, resourceAt, isBuffer}
-use Rattle.interface.specs.Format.{readEntryPoint, torn, decode, decodedNumber, body}
+use Rattle.bindings.specs.Format.{readResource, resourceAt, isBufferWord}
+use Rattle.interface.specs.Format.{readEntryPoint, damaged, decode, decodedNumber, body}
 use Rattle.interface.specs.inner.Reads.{resourcesAt}
 use Rattle.pack_check.specs.inner.Walks.{packResources, entriesBehind, recordsBehind, Stop, Stops, EntryStops}
-use Rattle.interface.specs.inner.Parts.{recordsFrom, endFrom, resourceEnd, entryEnd, entryAt, resourceCount, entryCount, entriesAt, Offsets, Heads}
+use Rattle.interface.specs.inner.Parts.{recordsFrom, endFrom, resourceEnd, entryEnd, entryPointAt, resourceCount, entryCount, entriesAt, Offsets, Heads}
 use Rattle.interface.proofs.ReadsRecords.{ReadsAt, several-records}
 use Rattle.interface.proofs.ReadsEntry.{entry-stands}
 use Rattle.interface.proofs.ReadsPack.{resource-stands, accepted}
@@ -109,7 +109,7 @@ module _ (ws table : List ℕ) (n : ℕ) (e : suc n ≡ decodedNumber (decode ws
   pub no-heads : Heads ws table
   no-heads = record { entries = λ z. absurd (omega arith) }
 
-module _ (ws table : List ℕ) (r : ℕ) (b : Bool) (e : b ≡ torn ws) (t : b ≡ false) (g : r ≡ length ws - 1) where
+module _ (ws table : List ℕ) (r : ℕ) (b : Bool) (e : b ≡ damaged ws) (t : b ≡ false) (g : r ≡ length ws - 1) where
   abbrev closing : List ℕ
   closing = drop (length ws - 1) ws
 
@@ -138,7 +138,7 @@ module _ (ws table : List ℕ) (r : ℕ) (b : Bool) (e : b ≡ torn ws) (t : b �
         omega (
           arith,
           offset-at k j,
-          two-words (isBuffer (wordAt ws (at + 1))),
+          two-words (isBufferWord (wordAt ws (at + 1))),
           within (resourceEnd ws) (λ at. omega arith) k (resourceCount ws) 15 j,
           past (entryEnd ws) (head-past ws) (entryCount ws) (entriesAt ws),
           accepted ws z .ends,
@@ -161,7 +161,7 @@ module _ (ws table : List ℕ) (r : ℕ) (b : Bool) (e : b ≡ torn ws) (t : b �
     head-at : (k : ℕ) → k < entryCount ws → wordAt table k ≡ endFrom (entryEnd ws) k (stops-at .start)
     head-at k j =
         let rs = packResources (resourceCount ws) (body ws) in
-        several-stop ws closing (body ws) split (readEntryPoint rs) (entryAt ws) (entryEnd ws) (entry-stands ws closing rs) k (stops-at .start) (wordAt table k)
+        several-stop ws closing (body ws) split (readEntryPoint rs) (entryPointAt ws) (entryEnd ws) (entry-stands ws closing rs) k (stops-at .start) (wordAt table k)
         (stops-at .begin .within) (stops-at .stops .each k j)
 
     pub heads-found : Heads ws table

@@ -13,7 +13,7 @@ use Rattle.word.specs.Choice.{pick}
 use Rattle.word.specs.Words.{wordAt, contentOf, bits}
 use Rattle.word.specs.Parse.{Parsed, got, next, one, several, behind, restAt}
 use Rattle.word.proofs.Parse.{several-add, went, Yields, yields-next, yields-pick, first-of, others-of}
-use Rattle.bindings.specs.Format.{placeFiled, resourceWordFiled, sizeFiled, isBuffer, resourceTypeOf, readResource, typeCode, texture, bitSet, spaceAt, sampleKindAt}
+use Rattle.bindings.specs.Format.{placeWellFormed, resourceWordWellFormed, sizeWellFormed, isBufferWord, resourceTypeOf, readResource, typeCode, texture, bitSet, spaceAt, sampleKindAt}
 use Rattle.bindings.specs.declared.types.Resource.{Resource}
 use Rattle.bindings.specs.declared.types.ResourceType.the-variants as Res
 use Rattle.bindings.specs.declared.types.ImageClass.the-variants as Class
@@ -75,12 +75,12 @@ RoleOf l r = pairRole (r .ty) ≡ roleOf (getD (drop 1 l) 0 0)
 role-read : (l : List ℕ) → Yields (RoleOf l) (readResource l)
 unfolding readResource
 role-read [] = tt
-role-read (p ∷ []) = yields-word (RoleOf (p ∷ [])) placeFiled p [] _ (λ e. tt)
+role-read (p ∷ []) = yields-word (RoleOf (p ∷ [])) placeWellFormed p [] _ (λ e. tt)
 role-read (p ∷ t ∷ l) =
-    yields-word (RoleOf (p ∷ t ∷ l)) placeFiled p (t ∷ l) _ λ e.
-    yields-word (RoleOf (p ∷ t ∷ l)) resourceWordFiled t l _ λ f.
-    yields-pick (RoleOf (p ∷ t ∷ l)) (isBuffer t) _ _
-    (yields-next (RoleOf (p ∷ t ∷ l)) (one sizeFiled l) _ (λ size rest. role-type t (contentOf size)))
+    yields-word (RoleOf (p ∷ t ∷ l)) placeWellFormed p (t ∷ l) _ λ e.
+    yields-word (RoleOf (p ∷ t ∷ l)) resourceWordWellFormed t l _ λ f.
+    yields-pick (RoleOf (p ∷ t ∷ l)) (isBufferWord t) _ _
+    (yields-next (RoleOf (p ∷ t ∷ l)) (one sizeWellFormed l) _ (λ size rest. role-type t (contentOf size)))
     (role-type t 0)
 
 roles-append : (rs : List Resource) (r : Resource) → pairRoles (rs ++ (r ∷ [])) ≡ pairRoles rs ++ (pairRole (r .ty) ∷ [])

@@ -12,8 +12,8 @@ use Rattle.word.specs.Words.{bits, bit}
 use Rattle.word.specs.Parse.{Parsed, fault, got, next, one, several, Rest, nowhere, from, behind, restAt}
 use Rattle.word.proofs.Parse.{rest-from, Yields}
 use Rattle.bindings.specs.declared.types.Resource.{Resource}
-use Rattle.varying.specs.Format.{payloadFiled}
-use Rattle.interface.specs.Format.{ofWord, topologyFiled, readVarying, clips, readName, headFiled, readWorkgroup, readMesh, countsFiled, indexFiled, contents, pairFiled, readEntryPoint}
+use Rattle.varying.specs.Format.{payloadWellFormed}
+use Rattle.interface.specs.Format.{ofWord, topologyWellFormed, readVarying, clips, readName, headWellFormed, readWorkgroup, readMesh, countsWellFormed, indexWellFormed, contents, pairWellFormed, readEntryPoint}
 use Rattle.pack_check.specs.inner.Walks.{onward, word, listsBehind, partsBehind, entryBehind}
 use Rattle.pack_check.proofs.CheckOutputs.{inputs-walk, outputs-walk}
 use Rattle.interface.specs.declared.types.Varying.{Varying}
@@ -59,10 +59,10 @@ workgroup-walk l =
 pub workgroup-is : (x : Rest) (l : List ℕ) → x ≡ behind (several 3 (one (ofWord 8)) l) → x ≡ behind (readWorkgroup l)
 workgroup-is x l e = e ∙ workgroup-walk l
 
-mesh-walk : (l : List ℕ) → behind (readMesh true l) ≡ onward (behind (several 2 (one (ofWord 10)) l)) λ rest. word topologyFiled rest λ topology rest. from rest
+mesh-walk : (l : List ℕ) → behind (readMesh true l) ≡ onward (behind (several 2 (one (ofWord 10)) l)) λ rest. word topologyWellFormed rest λ topology rest. from rest
 unfolding readMesh several
 mesh-walk l =
-    (on-step (one (ofWord 10) l) _ _ λ vertices rest. on-step (one (ofWord 10) rest) _ _ λ primitives rest. on-word topologyFiled rest _ _ λ topology rest. refl)
+    (on-step (one (ofWord 10) l) _ _ λ vertices rest. on-step (one (ofWord 10) rest) _ _ λ primitives rest. on-word topologyWellFormed rest _ _ λ topology rest. refl)
     ∙ sym (simp (several-onward 1 (one (ofWord 10)), several-onward 0 (one (ofWord 10))))
 
 -- the code's ways: no record is marked, one is
@@ -71,7 +71,7 @@ module _ (ws : List ℕ) (at : ℕ) (m : Bool) where
   unfolding readMesh
   mesh-absent h t = rw (not-true m t) (rest-from ws at h)
 
-  pub mesh-present : (x : Rest) → not m ≡ false → x ≡ onward (behind (several 2 (one (ofWord 10)) (drop at ws))) (λ rest. word topologyFiled rest λ topology rest. from rest)
+  pub mesh-present : (x : Rest) → not m ≡ false → x ≡ onward (behind (several 2 (one (ofWord 10)) (drop at ws))) (λ rest. word topologyWellFormed rest λ topology rest. from rest)
       → x ≡ behind (readMesh m (drop at ws))
   mesh-present x t e = rw (not-false m t) (e ∙ sym (mesh-walk (drop at ws)))
 
@@ -96,16 +96,16 @@ outputs-end (got o rest) make = same-behind (leb (clips o) 1) (make o) o rest
 entry-walk : (rs : List Resource) (ws : List ℕ) → behind (readEntryPoint rs ws) ≡ entryBehind rs ws
 unfolding readEntryPoint entryBehind partsBehind listsBehind
 entry-walk rs ws =
-    on-word headFiled ws _ _ λ head rest.
+    on-word headWellFormed ws _ _ λ head rest.
     on-step (readName (bits 22 16 head) rest) _ _ λ name rest.
     on-step (readWorkgroup rest) _ _ λ workgroup rest.
-    on-word payloadFiled rest _ _ λ payload rest.
+    on-word payloadWellFormed rest _ _ λ payload rest.
     on-step (readMesh (eqb (bit 1 head) 1) rest) _ _ λ mesh rest.
-    on-word countsFiled rest _ _ λ counts rest.
-    on-known (λ xs. xs ≡ take (bits 23 18 counts) rest) (several (bits 23 18 counts) (one (indexFiled (length rs))) rest) _ _
-    (words-taken (indexFiled (length rs)) (bits 23 18 counts) rest) λ indexes rest e.
+    on-word countsWellFormed rest _ _ λ counts rest.
+    on-known (λ xs. xs ≡ take (bits 23 18 counts) rest) (several (bits 23 18 counts) (one (indexWellFormed (length rs))) rest) _ _
+    (words-taken (indexWellFormed (length rs)) (bits 23 18 counts) rest) λ indexes rest e.
     rw e
-    (on-step (several (bits 17 12 counts) (one (pairFiled rs (contents _))) rest) _ _ λ pairs rest.
+    (on-step (several (bits 17 12 counts) (one (pairWellFormed rs (contents _))) rest) _ _ λ pairs rest.
     rw (inputs-walk (bits 11 6 counts) rest)
     (on-step (several (bits 11 6 counts) (readVarying 4) rest) _ _ λ inputs rest.
     rw (outputs-walk (bits 5 0 counts) rest)
@@ -113,17 +113,17 @@ entry-walk rs ws =
 
 -- the code's ways on, into an entry point and into its parts
 pub entry-is : (x : Rest) (rs : List Resource) (l : List ℕ)
-    → x ≡ word headFiled l (λ head rest. onward (behind (readName (bits 22 16 head) rest)) λ rest. onward (behind (readWorkgroup rest)) λ rest. partsBehind rs head rest)
+    → x ≡ word headWellFormed l (λ head rest. onward (behind (readName (bits 22 16 head) rest)) λ rest. onward (behind (readWorkgroup rest)) λ rest. partsBehind rs head rest)
     → x ≡ behind (readEntryPoint rs l)
 unfolding entryBehind
 entry-is x rs l e = e ∙ sym (entry-walk rs l)
 
 pub parts-are : (x : Rest) (rs : List Resource) (head : ℕ) (l : List ℕ)
-    → x ≡ word payloadFiled l (λ payload rest. onward (behind (readMesh (eqb (bit 1 head) 1) rest)) λ rest. word countsFiled rest λ counts rest. listsBehind rs counts rest)
+    → x ≡ word payloadWellFormed l (λ payload rest. onward (behind (readMesh (eqb (bit 1 head) 1) rest)) λ rest. word countsWellFormed rest λ counts rest. listsBehind rs counts rest)
     → x ≡ partsBehind rs head l
 unfolding partsBehind
 parts-are x rs head l e = e
 
-pub payload-zero : payloadFiled 0 ≡ false
-unfolding payloadFiled
+pub payload-zero : payloadWellFormed 0 ≡ false
+unfolding payloadWellFormed
 payload-zero = refl

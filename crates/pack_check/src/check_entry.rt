@@ -4,8 +4,8 @@ ghost use Prim.Native.Nat.{_+_, _%_, _^_, _<_, _≤_};
 ghost use lib.ListN.{length, take, drop, getD};
 ghost use Rattle.word.specs.Words.{ofKind};
 ghost use Rattle.word.specs.Parse.{one, several, behind, restAt};
-ghost use Rattle.interface.specs.Format.{ofWord, headFiled, topologyFiled, countsFiled, indexFiled, readWorkgroup, readMesh, contents, readEntryPoint};
-ghost use Rattle.pack_check.specs.inner.Walks.{marked, pairMarked, roleTable, packResources, varyingListsBehind, listsBehind, partsBehind};
+ghost use Rattle.interface.specs.Format.{ofWord, headWellFormed, topologyWellFormed, countsWellFormed, indexWellFormed, readWorkgroup, readMesh, contents, readEntryPoint};
+ghost use Rattle.pack_check.specs.inner.Walks.{rolesOf, pairByRoles, roleTable, packResources, varyingListsBehind, listsBehind, partsBehind};
 use crate::check_names::name_next;
 use crate::check_varyings::varyings_next;
 
@@ -16,8 +16,8 @@ fn of_kind(w: u32, kind: u32) -> bool
 }
 
 // Whether a word is the first of an entry point: a stage, 1 to 64 bytes of name, and two marks.
-fn head_filed(w: u32) -> bool
-    ensures { λ r. ⌜ r ≡ headFiled w ⌝ }
+fn head_well_formed(w: u32) -> bool
+    ensures { λ r. ⌜ r ≡ headWellFormed w ⌝ }
 {
     if word::kind(w) != 7 {
         return false;
@@ -37,8 +37,8 @@ fn head_filed(w: u32) -> bool
     w / 4 % 0x4000 == 0
 }
 
-fn topology_filed(w: u32) -> bool
-    ensures { λ r. ⌜ r ≡ topologyFiled w ⌝ }
+fn topology_well_formed(w: u32) -> bool
+    ensures { λ r. ⌜ r ≡ topologyWellFormed w ⌝ }
 {
     if word::kind(w) != 10 {
         return false;
@@ -47,8 +47,8 @@ fn topology_filed(w: u32) -> bool
 }
 
 // Whether a word holds the four counts of an entry point.
-fn counts_filed(w: u32) -> bool
-    ensures { λ r. ⌜ r ≡ countsFiled w ⌝ }
+fn counts_well_formed(w: u32) -> bool
+    ensures { λ r. ⌜ r ≡ countsWellFormed w ⌝ }
 {
     if word::kind(w) != 15 {
         return false;
@@ -86,20 +86,20 @@ fn workgroup_next(body: &[u32], at: usize) -> usize
     kinds_next(body, at, 3, 8)
 }
 
-// The position behind a mesh record, if one is marked.
-fn mesh_next(body: &[u32], at: usize, marked: bool) -> usize
+// The position behind a mesh record, if one is rolesOf.
+fn mesh_next(body: &[u32], at: usize, rolesOf: bool) -> usize
     requires { ⌜ (1 ≤ at) × (at ≤ length (now body)) ⌝ }
-    ensures { λ r. ⌜ restAt (now (body .entry)) r ≡ behind (readMesh marked (drop at (now (body .entry)))) ⌝ }
+    ensures { λ r. ⌜ restAt (now (body .entry)) r ≡ behind (readMesh rolesOf (drop at (now (body .entry)))) ⌝ }
     ensures { λ r. ⌜ r ≤ length (now (body .entry)) ⌝ }
 {
-    if !marked {
+    if !rolesOf {
         return at;
     }
     let topology = kinds_next(body, at, 2, 10);
     if topology == 0 {
         return 0;
     }
-    if !topology_filed(word::word(body, topology)) {
+    if !topology_well_formed(word::word(body, topology)) {
         return 0;
     }
     topology + 1
@@ -113,8 +113,8 @@ fn role_at(table: &[u8], index: usize) -> u8
 }
 
 // Whether a word is a pair of a listed texture and a listed sampler.
-fn pair_filed(w: u32, table: &[u8; 128]) -> bool
-    ensures { λ r. ⌜ r ≡ pairMarked (now (table .entry)) w ⌝ }
+fn pair_well_formed(w: u32, table: &[u8; 128]) -> bool
+    ensures { λ r. ⌜ r ≡ pairByRoles (now (table .entry)) w ⌝ }
 {
     if word::kind(w) != 5 {
         return false;
@@ -131,7 +131,7 @@ fn pair_filed(w: u32, table: &[u8; 128]) -> bool
 // The position behind so many pairs, or 0.
 fn pairs_next(body: &[u32], from: usize, n: u32, table: &[u8; 128]) -> usize
     requires { ⌜ (1 ≤ from) × (from ≤ length (now body)) ⌝ }
-    ensures { λ r. ⌜ restAt (now (body .entry)) r ≡ behind (several n (one (pairMarked (now (table .entry)))) (drop from (now (body .entry)))) ⌝ }
+    ensures { λ r. ⌜ restAt (now (body .entry)) r ≡ behind (several n (one (pairByRoles (now (table .entry)))) (drop from (now (body .entry)))) ⌝ }
     ensures { λ r. ⌜ r ≤ length (now (body .entry)) ⌝ }
 {
     if body.len() - from < n as usize {
@@ -140,7 +140,7 @@ fn pairs_next(body: &[u32], from: usize, n: u32, table: &[u8; 128]) -> usize
     let mut at = from;
     let mut i: u32 = 0;
     while i < n {
-        if !pair_filed(body[at], table) {
+        if !pair_well_formed(body[at], table) {
             return 0;
         }
         at += 1;
@@ -166,9 +166,9 @@ fn indexes_next(
     table: &mut [u8; 128],
 ) -> usize
     requires { ⌜ (1 ≤ from) × (from ≤ length (now body)) × (count ≤ 128) ⌝ }
-    ensures { λ r. ⌜ restAt (now (body .entry)) r ≡ behind (several n (one (indexFiled count)) (drop from (now (body .entry)))) ⌝ }
+    ensures { λ r. ⌜ restAt (now (body .entry)) r ≡ behind (several n (one (indexWellFormed count)) (drop from (now (body .entry)))) ⌝ }
     ensures { λ r. ⌜ r ≤ length (now (body .entry)) ⌝ }
-    ensures { λ r. ⌜ ((r ≡ 0 → ⊥) → now (table .exit) ≡ marked (now (roles .entry)) (contents (take n (drop from (now (body .entry))))) (now (table .entry))) ⌝ }
+    ensures { λ r. ⌜ ((r ≡ 0 → ⊥) → now (table .exit) ≡ rolesOf (now (roles .entry)) (contents (take n (drop from (now (body .entry))))) (now (table .entry))) ⌝ }
 {
     if body.len() - from < n as usize {
         return 0;
@@ -226,7 +226,7 @@ fn parts_next(body: &[u32], at: usize, head: u32, count: u32, roles: &[u8; 128])
     ensures { λ r. ⌜ restAt (now (body .entry)) r ≡ partsBehind (packResources count (now (body .entry))) head (drop at (now (body .entry))) ⌝ }
     ensures { λ r. ⌜ r ≤ length (now (body .entry)) ⌝ }
 {
-    if !varying::payload_filed(word::word(body, at)) {
+    if !varying::payload_well_formed(word::word(body, at)) {
         return 0;
     }
     let counts = mesh_next(body, at + 1, head / 2 % 2 == 1);
@@ -234,13 +234,13 @@ fn parts_next(body: &[u32], at: usize, head: u32, count: u32, roles: &[u8; 128])
         return 0;
     }
     let w = word::word(body, counts);
-    if !counts_filed(w) {
+    if !counts_well_formed(w) {
         return 0;
     }
     lists_next(body, counts + 1, w, count, roles)
 }
 
-// The position behind an entry point, or 0 where it is not well filed.
+// The position behind an entry point, or 0 where it is malformed.
 pub(crate) fn entry_point_next(body: &[u32], at: usize, count: u32, roles: &[u8; 128]) -> usize
     requires { ⌜ (1 ≤ at) × (at ≤ length (now body)) × (count ≤ 128) ⌝ }
     requires { ⌜ (length (packResources count (now body)) ≡ count) × (now roles ≡ roleTable (packResources count (now body))) ⌝ }
@@ -248,7 +248,7 @@ pub(crate) fn entry_point_next(body: &[u32], at: usize, count: u32, roles: &[u8;
     ensures { λ r. ⌜ r ≤ length (now (body .entry)) ⌝ }
 {
     let head = word::word(body, at);
-    if !head_filed(head) {
+    if !head_well_formed(head) {
         return 0;
     }
     let workgroup = name_next(body, at + 1, head / 0x1_0000 % 0x80);

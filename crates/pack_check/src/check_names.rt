@@ -5,7 +5,7 @@ ghost use Prim.Native.Nat.{_+_, _-_, _<_, _≤_, _^_};
 ghost use lib.ListN.{length, drop};
 ghost use Rattle.word.specs.Words.{wordAt};
 ghost use Rattle.word.specs.Parse.{behind, restAt};
-ghost use Rattle.interface.specs.Format.{bytesOf, nameFiled, readName};
+ghost use Rattle.interface.specs.Format.{bytesOf, nameWellFormed, readName};
 ghost use Rattle.pack_check.specs.inner.Walks.{sameFirst, sameName, sameHead, hasHead, distinctHeads};
 
 // How many bytes are left behind a word.
@@ -16,9 +16,9 @@ fn behind_word(left: u32) -> u32
 }
 
 // Whether a word holds the first bytes of what is left of a name.
-fn name_word_filed(w: u32, left: u32) -> bool
+fn name_word_well_formed(w: u32, left: u32) -> bool
     requires { ⌜ 1 ≤ left ⌝ }
-    ensures { λ r. ⌜ r ≡ nameFiled left (bytesOf (w ∷ [])) ⌝ }
+    ensures { λ r. ⌜ r ≡ nameWellFormed left (bytesOf (w ∷ [])) ⌝ }
 {
     if w % 0x100 == 0 {
         return false;
@@ -41,7 +41,7 @@ fn name_word_filed(w: u32, left: u32) -> bool
     w / 0x100_0000 != 0
 }
 
-// The position behind a name of so many bytes, or 0 where it is not well filed.
+// The position behind a name of so many bytes, or 0 where it is malformed.
 pub(crate) fn name_next(body: &[u32], from: usize, bytes: u32) -> usize
     requires { ⌜ (1 ≤ from) × (from ≤ length (now body)) ⌝ }
     ensures { λ r. ⌜ restAt (now (body .entry)) r ≡ behind (readName bytes (drop from (now (body .entry)))) ⌝ }
@@ -51,7 +51,7 @@ pub(crate) fn name_next(body: &[u32], from: usize, bytes: u32) -> usize
     let mut left = bytes;
     while left != 0 {
         let w = word::word(body, at);
-        if !name_word_filed(w, left) {
+        if !name_word_well_formed(w, left) {
             return 0;
         }
         at += 1;

@@ -1,4 +1,4 @@
-// The check of a module pack: torn is 1, misfiled is 2.
+// The check of a module pack: damaged is 1, malformed is 2.
 ghost use mathlib.Core.Path.{_≡_};
 ghost use mathlib.Core.Bool.{_&&_};
 ghost use mathlib.Core.List.{_++_};
@@ -7,7 +7,7 @@ ghost use lib.ListN.{length, take, drop};
 ghost use Rattle.word.specs.Words.{wordAt, bits};
 ghost use Rattle.word.specs.Parse.{one, several, behind, restAt};
 ghost use Rattle.bindings.specs.Format.{readResource};
-ghost use Rattle.interface.specs.Format.{ofWord, editionFiled, totalsFiled, readEntryPoint, readPack, torn, decode, decodedNumber};
+ghost use Rattle.interface.specs.Format.{ofWord, editionWellFormed, totalsWellFormed, readEntryPoint, readPack, damaged, decode, decodedNumber};
 ghost use Rattle.interface.specs.inner.Parts.{resourceCount, Offsets, Heads};
 ghost use Rattle.pack_check.specs.inner.Walks.{listed, roleOf, pairRoles, roleTable, packResources, Headed, entriesBehind, recordsBehind, Stops, EntryStops};
 use crate::check_entry::entry_point_next;
@@ -119,8 +119,8 @@ fn entries_next(
     end
 }
 
-fn edition_filed(w: u32) -> bool
-    ensures { λ r. ⌜ r ≡ editionFiled w ⌝ }
+fn edition_well_formed(w: u32) -> bool
+    ensures { λ r. ⌜ r ≡ editionWellFormed w ⌝ }
 {
     if word::kind(w) != 1 {
         return false;
@@ -129,8 +129,8 @@ fn edition_filed(w: u32) -> bool
 }
 
 // Whether a word holds the numbers of resources, at most 128, and of entry points, at most 16.
-fn totals_filed(w: u32) -> bool
-    ensures { λ r. ⌜ r ≡ totalsFiled w ⌝ }
+fn totals_well_formed(w: u32) -> bool
+    ensures { λ r. ⌜ r ≡ totalsWellFormed w ⌝ }
 {
     if word::kind(w) != 2 {
         return false;
@@ -194,7 +194,7 @@ fn limits_next(body: &[u32]) -> usize
     if good { 15 } else { 0 }
 }
 
-// The position behind a pack, or 0 where it is not well filed. The tables get the position of each record.
+// The position behind a pack, or 0 where it is malformed. The tables get the position of each record.
 fn pack_next(body: &[u32], offsets: &mut [u16], heads: &mut [u16]) -> usize
     requires { ⌜ (length (now body) ≤ 4096) × (128 ≤ length (now offsets)) × (16 ≤ length (now heads)) ⌝ }
     ensures { λ r. ⌜ restAt (now (body .entry)) r ≡ behind (readPack (now (body .entry))) ⌝ }
@@ -202,11 +202,11 @@ fn pack_next(body: &[u32], offsets: &mut [u16], heads: &mut [u16]) -> usize
     ensures { λ r. ⌜ ((r ≡ 0 → ⊥) → Stops readResource (now (body .entry)) 15 (resourceCount (now (body .entry))) (now (offsets .exit))) ⌝ }
     ensures { λ r. ⌜ ((r ≡ 0 → ⊥) → EntryStops (now (body .entry)) (wordAt (now (body .entry)) 1) (now (heads .exit))) ⌝ }
 {
-    if !edition_filed(word::word(body, 0)) {
+    if !edition_well_formed(word::word(body, 0)) {
         return 0;
     }
     let totals = word::word(body, 1);
-    if !totals_filed(totals) {
+    if !totals_well_formed(totals) {
         return 0;
     }
     if limits_next(body) == 0 {
@@ -216,8 +216,8 @@ fn pack_next(body: &[u32], offsets: &mut [u16], heads: &mut [u16]) -> usize
 }
 
 // Whether a pack has under 16 or over 4,096 words, a total unlike its length, or another sum than its closing word.
-fn is_torn(pack: &[u32]) -> bool
-    ensures { λ r. ⌜ r ≡ torn (now (pack .entry)) ⌝ }
+fn is_damaged(pack: &[u32]) -> bool
+    ensures { λ r. ⌜ r ≡ damaged (now (pack .entry)) ⌝ }
 {
     let n = pack.len();
     if n < 16 {
@@ -232,14 +232,14 @@ fn is_torn(pack: &[u32]) -> bool
     word::word(pack, n - 1) != word::closing_sum(pack)
 }
 
-// The check of a module pack: 0, or 1 for a torn one, or 2 for a misfiled one. The tables get the positions of an accepted pack's records.
+// The check of a module pack: 0, or 1 for a damaged one, or 2 for a malformed one. The tables get the positions of an accepted pack's records.
 pub fn index_pack(pack: &[u32], offsets: &mut [u16], heads: &mut [u16]) -> u32
     requires { ⌜ (128 ≤ length (now offsets)) × (16 ≤ length (now heads)) ⌝ }
     ensures { λ r. ⌜ r ≡ decodedNumber (decode (now (pack .entry))) ⌝ }
     ensures { λ _. ⌜ Offsets (now (pack .entry)) (now (offsets .exit)) ⌝ }
     ensures { λ _. ⌜ Heads (now (pack .entry)) (now (heads .exit)) ⌝ }
 {
-    if is_torn(pack) {
+    if is_damaged(pack) {
         return 1;
     }
     let last = pack.len() - 1;

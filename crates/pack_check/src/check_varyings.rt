@@ -3,12 +3,12 @@ ghost use mathlib.Core.Path.{_≡_};
 ghost use Prim.Native.Nat.{_≤_};
 ghost use lib.ListN.{length, drop};
 ghost use Rattle.word.specs.Parse.{restAt};
-ghost use Rattle.interface.specs.Format.{builtInFiled};
+ghost use Rattle.interface.specs.Format.{builtInWellFormed};
 ghost use Rattle.pack_check.specs.inner.Walks.{varyingsBehind};
 
 // Whether a word is a built-in with a code below a number.
-fn built_in_filed(w: u32, codes: u32) -> bool
-    ensures { λ r. ⌜ r ≡ builtInFiled codes w ⌝ }
+fn built_in_well_formed(w: u32, codes: u32) -> bool
+    ensures { λ r. ⌜ r ≡ builtInWellFormed codes w ⌝ }
 {
     if w / 0x100 % 0x1_0000 != 0 {
         return false;
@@ -32,7 +32,7 @@ pub(crate) fn varyings_next(body: &[u32], from: usize, n: u32, codes: u32) -> us
     let mut good: u32 = 0x6800_0123;
     while left != 0 {
         let w = word::word(body, at);
-        if varying::location_filed(w) {
+        if varying::location_well_formed(w) {
             let second = word::word(body, at + 1);
             if !varying::var_good(second, good) {
                 return 0;
@@ -41,7 +41,7 @@ pub(crate) fn varyings_next(body: &[u32], from: usize, n: u32, codes: u32) -> us
             at += 2;
             left -= 1;
         } else {
-            if !built_in_filed(w, below) {
+            if !built_in_well_formed(w, below) {
                 return 0;
             }
             // Bit 26 is set in code 4 alone.

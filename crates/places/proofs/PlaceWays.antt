@@ -51,19 +51,19 @@ module _ (w content : ℕ) (h : content < 2 ^ 27) where
       (λ f. f)
 
 module _ (width : ℕ) (l : List ℕ) (n i at content : ℕ) (goal : Found) (inv : goal ≡ placeFrom (placeOf content) (places width (n - i) (drop at l)) i) where
-  module _ (h : i < n) (held : content < 2 ^ 27) where
+  module _ (h : i < n) (encodable : content < 2 ^ 27) where
     some-left : n - i ≡ 0 → ⊥
     some-left e = omega arith
 
     pub content-found : wordAt l at % 0x800_0000 ≡ content → At i ≡ goal
     unfolding placeFrom
-    content-found e = sym (inv ∙ rw (left-cons width readPlace l (n - i) at some-left, here l at, content-same (wordAt l at) content held e))
+    content-found e = sym (inv ∙ rw (left-cons width readPlace l (n - i) at some-left, here l at, content-same (wordAt l at) content encodable e))
 
     pub content-onward : (wordAt l at % 0x800_0000 ≡ content → ⊥) → goal ≡ placeFrom (placeOf content) (places width (n - (i + 1)) (drop (at + width) l)) (i + 1)
     unfolding placeFrom
     content-onward e =
         let k : n - i - 1 ≡ n - (i + 1) = omega arith in
-        inv ∙ rw (left-cons width readPlace l (n - i) at some-left, here l at, content-other (wordAt l at) content held e, k)
+        inv ∙ rw (left-cons width readPlace l (n - i) at some-left, here l at, content-other (wordAt l at) content encodable e, k)
 
   pub content-nowhere : n ≤ i → Nothing ≡ goal
   unfolding placeFrom

@@ -10,7 +10,7 @@ use lib.ListN.{length, take, drop, getD, set, length-drop, length-append}
 use lib.Seq.{drop-drop, take-at, drop-at, set-append-left}
 use borrow.Author.Tests.{le-leb, lt-leb}
 use Rattle.word.specs.Choice.{pick}
-use Rattle.places.specs.Records.{fits, past, each, put, records}
+use Rattle.places.specs.Records.{roomFor, past, each, put, records}
 use Rattle.word.specs.Lists.{every, flat}
 use Rattle.places.proofs.Words.{put-next, set-behind}
 use Rattle.word.proofs.Lists.{first-passes, rest-passes}
@@ -67,10 +67,10 @@ module _ (first width n : ℕ) (ws : List ℕ) (h : first + width * n ≤ length
   pub room-left : first + width * n + length (past width n (drop first ws)) ≡ length ws
   room-left = omega (arith, room-length width n (drop first ws), length-drop first ws)
 
-  pub room-lacks : length ws < first + width * n + width → fits width (past width n (drop first ws)) ≡ false
+  pub room-lacks : length ws < first + width * n + width → roomFor width (past width n (drop first ws)) ≡ false
   room-lacks k = lt-leb width (length (past width n (drop first ws))) (omega (arith, room-left))
 
-  pub room-fits : first + width * n + width ≤ length ws → fits width (past width n (drop first ws)) ≡ true
+  pub room-fits : first + width * n + width ≤ length ws → roomFor width (past width n (drop first ws)) ≡ true
   room-fits k = le-leb width (length (past width n (drop first ws))) (omega (arith, room-left))
 
 module _ (width : ℕ) (test : List ℕ → Bool) where
@@ -114,12 +114,12 @@ module _ {A : Type 0} (test : A → Bool) where
 
 -- ---- a reader and a writer that belong together
 
-pub record Joined {A : Type 0} (width : ℕ) (read : List ℕ → A) (words : A → List ℕ) (test : List ℕ → Bool) (held : A → Bool) : Type 0 where
+pub record Joined {A : Type 0} (width : ℕ) (read : List ℕ → A) (words : A → List ℕ) (test : List ℕ → Bool) (encodable : A → Bool) : Type 0 where
   pub wide : (a : A) → length (words a) ≡ width
   pub written : (ws : List ℕ) → width ≤ length ws → test ws ≡ true → words (read ws) ++ drop width ws ≡ ws
-  pub kept : (ws : List ℕ) → test ws ≡ true → held (read ws) ≡ true
-  pub again : (a : A) (ws : List ℕ) → held a ≡ true → read (words a ++ ws) ≡ a
-  pub passed : (a : A) (ws : List ℕ) → held a ≡ true → test (words a ++ ws) ≡ true
+  pub kept : (ws : List ℕ) → test ws ≡ true → encodable (read ws) ≡ true
+  pub again : (a : A) (ws : List ℕ) → encodable a ≡ true → read (words a ++ ws) ≡ a
+  pub passed : (a : A) (ws : List ℕ) → encodable a ≡ true → test (words a ++ ws) ≡ true
 
 -- words that carry records, with free room behind them
 pub record Carried {A : Type 0} (width : ℕ) (read : List ℕ → A) (test : List ℕ → Bool) (p : List A) (r ws : List ℕ) : Type 0 where
@@ -133,7 +133,7 @@ unfolding flat
 flat-append words [] q = refl
 flat-append words (a ∷ p) q = rw (flat-append words p q) (sym (append-assoc (words a) (flat words p) (flat words q)))
 
-module _ {A : Type 0} {width : ℕ} {read : List ℕ → A} {words : A → List ℕ} {test : List ℕ → Bool} {held : A → Bool} (J : Joined width read words test held) where
+module _ {A : Type 0} {width : ℕ} {read : List ℕ → A} {words : A → List ℕ} {test : List ℕ → Bool} {encodable : A → Bool} (J : Joined width read words test encodable) where
   pub flat-length : (p : List A) → length (flat words p) ≡ width * length p
   unfolding flat
   flat-length [] = sym (mul-zero width)
@@ -150,7 +150,7 @@ module _ {A : Type 0} {width : ℕ} {read : List ℕ → A} {words : A → List 
       append-assoc (words (read ws)) (flat words (records width read n (drop width ws))) (past width n (drop width ws))
       ∙ rw e (J .written ws (omega arith) (first-passes (test ws) (each width test n (drop width ws)) t))
 
-  pub every-read : (n : ℕ) (ws : List ℕ) → each width test n ws ≡ true → every held (records width read n ws) ≡ true
+  pub every-read : (n : ℕ) (ws : List ℕ) → each width test n ws ≡ true → every encodable (records width read n ws) ≡ true
   unfolding records each every
   every-read zero ws t = refl
   every-read (suc n) ws t =
@@ -163,16 +163,16 @@ module _ {A : Type 0} {width : ℕ} {read : List ℕ → A} {words : A → List 
   behind-words a ws = drop-at (words a) ws width (J .wide a)
 
   -- what was written is read again, and the rest lies behind it
-  read-flat : (p : List A) (r : List ℕ) → every held p ≡ true → records width read (length p) (flat words p ++ r) ≡ p
+  read-flat : (p : List A) (r : List ℕ) → every encodable p ≡ true → records width read (length p) (flat words p ++ r) ≡ p
   unfolding flat records every
   read-flat [] r t = refl
   read-flat (a ∷ p) r t =
       let e = append-assoc (words a) (flat words p) r in
       rw (
         e,
-        J .again a (flat words p ++ r) (first-passes (held a) (every held p) t),
+        J .again a (flat words p ++ r) (first-passes (encodable a) (every encodable p) t),
         behind-words a (flat words p ++ r),
-        read-flat p r (rest-passes (held a) (every held p) t),
+        read-flat p r (rest-passes (encodable a) (every encodable p) t),
       )
 
   past-flat : (p : List A) (r : List ℕ) → past width (length p) (flat words p ++ r) ≡ r
@@ -182,18 +182,18 @@ module _ {A : Type 0} {width : ℕ} {read : List ℕ → A} {words : A → List 
       ap (λ l. past width (length p) (drop width l)) (append-assoc (words a) (flat words p) r)
       ∙ (ap (past width (length p)) (behind-words a (flat words p ++ r)) ∙ past-flat p r)
 
-  each-flat : (p : List A) (r : List ℕ) → every held p ≡ true → each width test (length p) (flat words p ++ r) ≡ true
+  each-flat : (p : List A) (r : List ℕ) → every encodable p ≡ true → each width test (length p) (flat words p ++ r) ≡ true
   unfolding flat each every
   each-flat [] r t = refl
   each-flat (a ∷ p) r t =
       rw (
         append-assoc (words a) (flat words p) r,
-        J .passed a (flat words p ++ r) (first-passes (held a) (every held p) t),
+        J .passed a (flat words p ++ r) (first-passes (encodable a) (every encodable p) t),
         behind-words a (flat words p ++ r),
       )
-      (each-flat p r (rest-passes (held a) (every held p) t))
+      (each-flat p r (rest-passes (encodable a) (every encodable p) t))
 
-  pub carried : (p : List A) (r : List ℕ) → every held p ≡ true → Carried width read test p r (flat words p ++ r)
+  pub carried : (p : List A) (r : List ℕ) → every encodable p ≡ true → Carried width read test p r (flat words p ++ r)
   carried p r t =
       record {
         again = read-flat p r t;

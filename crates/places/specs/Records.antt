@@ -38,6 +38,6 @@ each width test (suc n) ws = let rest = each width test n (drop width ws) in pic
 unfoldable pub put : List ℕ → ℕ → List ℕ → List ℕ
 put l at ws = take at l ++ (ws ++ drop (at + length ws) l)
 
--- a new record of some words fits into the free room
-abbrev pub fits : ℕ → List ℕ → Bool
-fits words room = leb words (length room)
+-- a new record of some words roomFor into the free room
+abbrev pub roomFor : ℕ → List ℕ → Bool
+roomFor words room = leb words (length room)

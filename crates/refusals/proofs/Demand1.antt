@@ -12,8 +12,8 @@ use Rattle.layouts.specs.Format.{decodeLayout, encodeLayout}
 use Rattle.sizes.specs.Format.{decodeSizes, encodeSizes}
 use Rattle.stage_lists.specs.Format.{decodeStage}
 use Rattle.word.specs.Lists.{among}
-use Rattle.interface.specs.Meaning.{EntryPoint, Interface, entryNth}
-use Rattle.interface.specs.Format.{Decoded, Torn, Misfiled, Pack, decode}
+use Rattle.interface.specs.Meaning.{EntryPoint, Interface, entryPointNth}
+use Rattle.interface.specs.Format.{Decoded, Damaged, Malformed, Pack, decode}
 use Rattle.entry_points.specs.Rules.{findEntryPoint}
 use Rattle.entry_points.specs.declared.choose.Chosen.{Chosen}
 use Rattle.entry_points.specs.declared.choose.Chosen.the-variants as Ch
@@ -72,7 +72,7 @@ cases c = on-decoded (decode (c .pack))
     on-entry i e false = ran i e
 
     on-chosen : (i : Interface) (f : Chosen) → CaseOf c (onChosen (derivedOf (c .codes)) (requestOf (c .codes)) (c .lent) i f)
-    on-chosen i (Ch.At k) = on-entry i (entryNth (i .entries) k) (ltb (length (c .lent .out)) (outWords (entryNth (i .entries) k)))
+    on-chosen i (Ch.At k) = on-entry i (entryPointNth (i .entries) k) (ltb (length (c .lent .out)) (outWords (entryPointNth (i .entries) k)))
     on-chosen i Ch.Absent = stopped 10 refl
     on-chosen i Ch.Several = stopped 10 refl
 
@@ -81,8 +81,8 @@ cases c = on-decoded (decode (c .pack))
     on-good i false = stopped 3 refl
 
     on-decoded : (d : Decoded) → CaseOf c (onDecoded c d)
-    on-decoded Torn = stopped 1 refl
-    on-decoded Misfiled = stopped 2 refl
+    on-decoded Damaged = stopped 1 refl
+    on-decoded Malformed = stopped 2 refl
     on-decoded (Pack i) = on-good i (callGood (c .lent) (c .codes))
 
 -- ---- the theorems

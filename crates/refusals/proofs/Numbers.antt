@@ -52,7 +52,7 @@ use Rattle.interface.specs.declared.types.Limits.{Limits}
 use Rattle.output_steps.specs.declared.types.Request.{Request}
 use Rattle.input_steps.specs.Workgroup.{workgroupUse, workgroupStep}
 use Rattle.input_steps.specs.Inputs.{vertexInput, fragmentInput, inputNumber, localStep, inputStep, inputSteps, walked, metLocal, metBuiltIn}
-use Rattle.output_steps.specs.Outputs.{locationUse, locationUses, countUse, clipPlaces, pointPart, localCount, builtInPlaces, anyOf, isDepth, vertexOutputs, attachmentUse, fragmentPlaces, fragmentOutputs, placesStep}
+use Rattle.output_steps.specs.Outputs.{locationUse, locationUses, countUse, clipSlots, pointPart, localCount, builtInSlots, anyOf, isDepth, vertexOutputs, attachmentUse, fragmentSlots, fragmentOutputs, slotsStep}
 use Rattle.output_steps.specs.Last.{valueUse, meshUse, payloadUse, payloadMatch, primitiveUse, drawUse, perVertexUse, lastStep}
 use Rattle.input_steps.specs.declared.types.InputWalk.{InputWalk}
 use Rattle.input_steps.specs.declared.types.Walked.{Walked}
@@ -269,7 +269,7 @@ walk-known stage ps (Var.Local location iv ∷ vs) w =
     either Walks (eqb (x .answer .number) 0) (inputSteps stage ps vs (x .walk)) x (walk-known stage ps vs (x .walk)) (either Walks (eqb n 0) (walked (metLocal iv w) accepted) (walked w (answer n location 0 0)) none (ans n location 0 0 k))
 walk-known stage ps (Var.BuiltIn b ∷ vs) w = walk-known stage ps vs (metBuiltIn b w)
 
--- ---- places and what is judged last
+-- ---- slots and what is judged last
 
 locations-known : (n past limit : ℕ) (vs : List Varying) → Known n → Step (locationUses n past limit vs)
 unfolding locationUses
@@ -279,14 +279,14 @@ locations-known n past limit (Var.Local location iv ∷ vs) k =
     (locations-known n past limit vs k)
 locations-known n past limit (Var.BuiltIn b ∷ vs) k = locations-known n past limit vs k
 
-count-known : (n count places limit : ℕ) → Known n → Step (countUse n count places limit)
-count-known n count places limit k = either Step (ltb places count) (answer n count limit 0) accepted (ans n count limit 0 k) none
+count-known : (n count slots limit : ℕ) → Known n → Step (countUse n count slots limit)
+count-known n count slots limit k = either Step (ltb slots count) (answer n count limit 0) accepted (ans n count limit 0 k) none
 
-places-known : (stage : ShaderStage) (q : Request) (l : Limits) (e : EntryPoint) (n : ℕ) → Step (placesStep stage q l e n)
-unfolding placesStep vertexOutputs fragmentOutputs fragmentPlaces attachmentUse among
+slots-known : (stage : ShaderStage) (q : Request) (l : Limits) (e : EntryPoint) (n : ℕ) → Step (slotsStep stage q l e n)
+unfolding slotsStep vertexOutputs fragmentOutputs fragmentSlots attachmentUse among
 places-known Stage.Vertex q l e n =
     let limit = l .«max_inter_stage_shader_variables» in
-    let clip = clipPlaces (e .outputs) in
+    let clip = clipSlots (e .outputs) in
     let point = pointPart (q .topology) in
     either Step (ltb limit (point + clip) || ltb limit (1 + clip)) (refused 65) _ (ans 65 0 0 0 (lit 65 refl))
     (step-both (locationUses 60 (limit - clip) limit (e .outputs)) (countUse 61 (localCount (e .outputs)) (limit - (point + clip)) limit)
@@ -295,8 +295,8 @@ places-known Stage.Vertex q l e n =
 places-known Stage.Fragment q l e n =
     let limit = l .«max_inter_stage_shader_variables» in
     let most = l .«max_color_attachments» in
-    let built = builtInPlaces (e .inputs) in
-    step-both (fragmentPlaces limit n (e .inputs)) _
+    let built = builtInSlots (e .inputs) in
+    step-both (fragmentSlots limit n (e .inputs)) _
     (either Step (ltb limit built) (refused 65) _ (ans 65 0 0 0 (lit 65 refl))
     (step-both (locationUses 62 limit limit (e .inputs)) (countUse 63 n (limit - built) limit) (locations-known 62 limit limit (e .inputs) (lit 62 refl))
     (count-known 63 n (limit - built) limit (lit 63 refl))))
@@ -372,7 +372,7 @@ judgement-known derived q i e inputs L =
     step-both (pairStep derived (i .resources) e L) _ (either Step (yes derived) _ _ none (pairs-known L (i .resources) (e .pairs)))
     (step-both (workgroupStep (q .stage) (e .workgroup) (i .limits)) _ (workgroup-known (q .stage) (e .workgroup) (i .limits))
     (step-both (w .answer) _ (walk-known (q .stage) (inputs .varyings) (e .inputs) _)
-    (step-both (placesStep (q .stage) q (i .limits) e (w .walk .locals)) _ (places-known (q .stage) q (i .limits) e (w .walk .locals))
+    (step-both (slotsStep (q .stage) q (i .limits) e (w .walk .locals)) _ (slots-known (q .stage) q (i .limits) e (w .walk .locals))
     (last-known q (i .limits) e inputs (w .walk)))))
 
 -- every number that the steps of a stage check answer is one of theirs

@@ -14,7 +14,7 @@ use Rattle.varying.specs.Format.{payloadWord}
 use Rattle.layouts.specs.Format.{encodeLayout}
 use Rattle.stage_lists.specs.Format.{encodeStage}
 use Rattle.places.specs.Records.{countOf}
-use Rattle.interface.specs.Format.{Decoded, Torn, Misfiled, Pack, decode, decodedNumber, interfaceOf}
+use Rattle.interface.specs.Format.{Decoded, Damaged, Malformed, Pack, decode, decodedNumber, interfaceOf}
 use Rattle.report.specs.Text.{wordsOf, hexLines, line}
 use Rattle.report.specs.inner.Written.{Wrote}
 use Rattle.report.specs.Report.{Run, ran, runEntries, usedWords, runText, startRun, refusedPack, decodedText, report}
@@ -44,8 +44,8 @@ pub pack-refused : {t u : List ℕ} {end : ℕ} (ws : List ℕ) (number : ℕ) �
 pack-refused {t} {u} {end} ws number e h f = by (decode ws) e
   where
     by : (d : Decoded) → number ≡ decodedNumber d → Wrote t u 0 end (decodedText ws d)
-    by Torn g = rw g at f
-    by Misfiled g = rw g at f
+    by Damaged g = rw g at f
+    by Malformed g = rw g at f
     by (Pack i) g = absurd (h g)
 
 -- a text of which the start is known, and what stands behind it
@@ -72,8 +72,8 @@ pack-run {u} {v} {at} {end} t ws l io number e z r b h k m f = by (decode ws) e 
     by : (d : Decoded) → number ≡ decodedNumber d
         → ran l io (take at u) ≡ runEntries ws (interfaceOf d .entries) firstRun
         → Wrote t v 0 end (decodedText ws d)
-    by Torn g r = absurd (omega arith)
-    by Misfiled g r = absurd (omega arith)
+    by Damaged g r = absurd (omega arith)
+    by Malformed g r = absurd (omega arith)
     by (Pack i) g r = unfold encodeLayout in unfold encodeStage in unfold flat in unfold payloadWord in run-text (runEntries ws (i .entries) startRun) r
 
 -- ---- the whole

@@ -13,7 +13,7 @@ use Rattle.stage_lists.specs.Format.{encodeStage}
 use Rattle.places.specs.Records.{countOf}
 use Rattle.stage_lists.specs.declared.types.PrimitiveIndex.the-variants as Index
 use Rattle.interface.specs.Meaning.{EntryPoint}
-use Rattle.interface.specs.Format.{Decoded, Torn, Misfiled, Pack, decode, stageCode}
+use Rattle.interface.specs.Format.{Decoded, Damaged, Malformed, Pack, decode, stageCode}
 use Rattle.stage.specs.Meaning.{codes, lent, Call, call, Outcome}
 use Rattle.stage.specs.Stage.{checkStage}
 use Rattle.report.specs.Text.{wordsOf, line, hexLines}
@@ -83,8 +83,8 @@ refusedPack number = line 9 (refused number)
 
 -- a pack's text, by what its words decode to
 abbrev pub decodedText : List ℕ → Decoded → List ℕ
-decodedText pack Torn = refusedPack 1
-decodedText pack Misfiled = refusedPack 2
+decodedText pack Damaged = refusedPack 1
+decodedText pack Malformed = refusedPack 2
 decodedText pack (Pack i) = runText (runEntries pack (i .entries) startRun)
 
 -- 'a byte count not divisible by 4 is 1', and so is more than a pack can hold

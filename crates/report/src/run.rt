@@ -6,7 +6,7 @@ ghost use lib.Dec.{eqb};
 ghost use lib.ListN.{length, take, drop};
 ghost use Rattle.word.specs.Choice.{pick};
 ghost use Rattle.interface.specs.Format.{stageCode, decode, decodedNumber, interfaceOf};
-ghost use Rattle.interface.specs.inner.Parts.{workgroupAt, entryAt};
+ghost use Rattle.interface.specs.inner.Parts.{workgroupAt, entryPointAt};
 ghost use Rattle.report.specs.Report.{ran, derived, fedOn, runEntry, runEntries};
 use crate::names::name_at;
 use crate::text::push_line;
@@ -43,17 +43,17 @@ fn feed(number: u32, out: &[u32], io: &mut [u32])
 
 // The stage code of the entry point that begins at a position.
 fn stage_of(pack: &[u32], head: usize) -> u32
-    ensures { λ r. ⌜ r ≡ stageCode (entryAt (now (pack .entry)) head .stage) ⌝ }
+    ensures { λ r. ⌜ r ≡ stageCode (entryPointAt (now (pack .entry)) head .stage) ⌝ }
 {
     stage_code(stage_at(word(pack, head) / 0x100_0000 % 8))
 }
 
 // Derives the entry point that begins at a position, and feeds the list that it hands on.
 fn derive(pack: &[u32], head: usize, stage: u32, layout: &mut [u32], io: &mut [u32]) -> Answer
-    requires { ⌜ (workgroupAt (now pack) head ≤ length (now pack)) × (stage ≡ stageCode (entryAt (now pack) head .stage)) × (length (now io) ≡ 128) ⌝ }
-    ensures { λ r. ⌜ r ≡ derived (now (pack .entry)) (entryAt (now (pack .entry)) head) (now (layout .entry)) (now (io .entry)) .answer ⌝ }
-    ensures { λ _. ⌜ now (layout .exit) ≡ derived (now (pack .entry)) (entryAt (now (pack .entry)) head) (now (layout .entry)) (now (io .entry)) .layout ⌝ }
-    ensures { λ _. ⌜ now (io .exit) ≡ fedOn (derived (now (pack .entry)) (entryAt (now (pack .entry)) head) (now (layout .entry)) (now (io .entry))) (now (io .entry)) ⌝ }
+    requires { ⌜ (workgroupAt (now pack) head ≤ length (now pack)) × (stage ≡ stageCode (entryPointAt (now pack) head .stage)) × (length (now io) ≡ 128) ⌝ }
+    ensures { λ r. ⌜ r ≡ derived (now (pack .entry)) (entryPointAt (now (pack .entry)) head) (now (layout .entry)) (now (io .entry)) .answer ⌝ }
+    ensures { λ _. ⌜ now (layout .exit) ≡ derived (now (pack .entry)) (entryPointAt (now (pack .entry)) head) (now (layout .entry)) (now (io .entry)) .layout ⌝ }
+    ensures { λ _. ⌜ now (io .exit) ≡ fedOn (derived (now (pack .entry)) (entryPointAt (now (pack .entry)) head) (now (layout .entry)) (now (io .entry))) (now (io .entry)) ⌝ }
 {
     let mut sizes = [0xa000_0000u32; 1];
     let mut out = [0u32; 128];
@@ -83,7 +83,7 @@ fn run_entry(
     at: usize,
 ) -> usize
     requires { ⌜ (workgroupAt (now pack) head ≤ length (now pack)) × (length (now io) ≡ 128) × (at + 55 ≤ length (now text)) ⌝ }
-    ensures { λ r. ⌜ ran (now (layout .exit)) (now (io .exit)) (take r (now (text .exit))) ≡ runEntry (now (pack .entry)) (entryAt (now (pack .entry)) head) (ran (now (layout .entry)) (now (io .entry)) (take at (now (text .entry)))) ⌝ }
+    ensures { λ r. ⌜ ran (now (layout .exit)) (now (io .exit)) (take r (now (text .exit))) ≡ runEntry (now (pack .entry)) (entryPointAt (now (pack .entry)) head) (ran (now (layout .entry)) (now (io .entry)) (take at (now (text .entry)))) ⌝ }
     ensures { λ r. ⌜ drop r (now (text .exit)) ≡ drop r (now (text .entry)) ⌝ }
     ensures { λ r. ⌜ (at ≤ r) × (r ≤ at + 55) ⌝ }
 {

@@ -1,4 +1,4 @@
--- What a delivery says, and when it holds by the definitions that the contracts cite.
+-- What a example says, and when it holds by the definitions that the contracts cite.
 use Prim.Native.Nat.{ℕ}
 use mathlib.Core.Bool.{Bool, true, false, _&&_}
 use mathlib.Core.List.{List, [], _∷_}
@@ -13,13 +13,13 @@ use Rattle.bindings.specs.declared.types.BindingType.{BindingType}
 use Rattle.stage.specs.Meaning.{Call}
 use Rattle.stage.specs.Stage.{checkStage}
 
-pub data Delivery : Type 0 where
+pub data Example : Type 0 where
   -- a resource on an entry: the number of the answer
-  on-entry : ResourceType → BindingType → ℕ → Delivery
+  on-entry : ResourceType → BindingType → ℕ → Example
   -- a type below another: yes or no
-  below : NumericType → NumericType → Bool → Delivery
+  below : NumericType → NumericType → Bool → Example
   -- a stage check: its answer, the used words of the layout list and of the list out after it
-  checked : Call → Answer → List ℕ → List ℕ → Delivery
+  checked : Call → Answer → List ℕ → List ℕ → Example
 
 abbrev pub sameAnswer : Answer → Answer → Bool
 sameAnswer a b = eqb (a .number) (b .number) && (eqb (a .first) (b .first) && (eqb (a .second) (b .second) && eqb (a .third) (b .third)))
@@ -30,12 +30,12 @@ startsWith [] ws = true
 startsWith (x ∷ xs) [] = false
 startsWith (x ∷ xs) (w ∷ ws) = let rest = startsWith xs ws in pick (eqb x w) rest false
 
-abbrev pub holds : Delivery → Bool
+abbrev pub holds : Example → Bool
 holds (on-entry resource entry number) = eqb (useNumber (checkBindingUse resource entry)) number
 holds (below a b expected) = sameBool (fits a b) expected
 holds (checked call answer layout out) =
     sameAnswer (checkStage call .answer) answer && (startsWith layout (checkStage call .layout) && startsWith out (checkStage call .out))
 
-unfoldable pub allHold : List Delivery → Bool
+unfoldable pub allHold : List Example → Bool
 allHold [] = true
 allHold (d ∷ ds) = let rest = allHold ds in pick (holds d) rest false

@@ -12,8 +12,8 @@ use Rattle.word.specs.Words.{wordAt, contentOf, bits, ofKind}
 use Rattle.word.specs.Answers.{accepted}
 use Rattle.word.specs.declared.answer.Answer.{Answer}
 use Rattle.bindings.specs.Rules.{derivedTexture, deriveBindingType}
-use Rattle.bindings.specs.Format.{placeOf, placeWord, typeCode, isBuffer, resourceTypeOf, resource, typeHeld}
-use Rattle.bindings.specs.Format.{bindingTypeOf, bindingCode, leastSize, sameBinding, formatHeld, entryFiled, entryOf, entryHeld, entryFiledAt}
+use Rattle.bindings.specs.Format.{placeOf, placeWord, typeCode, isBufferWord, resourceTypeOf, resource, typeEncodable}
+use Rattle.bindings.specs.Format.{bindingTypeOf, bindingCode, leastSize, sameBinding, formatEncodable, entryWellFormed, entryOf, entryEncodable, entryWellFormedAt}
 use Rattle.bindings.specs.Answers.{bindingAnswer, derivedWord}
 use Rattle.bindings.specs.declared.types.ResourceBinding.{ResourceBinding}
 use Rattle.bindings.specs.declared.types.Resource.{Resource}
@@ -23,14 +23,14 @@ use Rattle.bindings.specs.declared.types.Derived.{Derived}
 use Rattle.bindings.specs.declared.types.Derived.the-variants as Der
 use Rattle.word.proofs.Truth.{first, second, by-test}
 use Rattle.bindings.proofs.CodeLaws.{least-fits}
-use Rattle.bindings.proofs.ReadLaws.{place-held}
-use Rattle.bindings.proofs.EntryFormat.{type-read, entry-filed, entry-read}
-use Rattle.bindings.proofs.HandBack.{derived-held}
+use Rattle.bindings.proofs.ReadLaws.{place-encodable}
+use Rattle.bindings.proofs.EntryFormat.{type-read, entry-well-formed, entry-read}
+use Rattle.bindings.proofs.DerivedServes.{derived-encodable}
 use Rattle.bindings.proofs.WordLaws.{derived-least, same-by-words}
 use Rattle.layouts.specs.Meaning.{Layout, entryPlaces, findEntry, entryHas, entryNth, pushed, joined, roomForEntry}
-use Rattle.layouts.specs.Format.{entryFits, layoutFiled, decodeLayout}
+use Rattle.layouts.specs.Format.{entryFits, layoutWellFormed, decodeLayout}
 use Rattle.places.proofs.PlaceWays.{place-lacks}
-use Rattle.layouts.proofs.LayoutStores.{entry-there, entry-filed-there}
+use Rattle.layouts.proofs.LayoutStores.{entry-there, entry-well-formed-there}
 use Rattle.places.specs.declared.found.Found.{Found}
 use Rattle.places.specs.declared.found.Found.the-variants.{At, Nothing}
 use Rattle.interface.specs.Format.{stageCode, contents, pairsOf}
@@ -40,18 +40,18 @@ use Rattle.resource_steps.specs.inner.Given.{resourceTable, TypeWords}
 use Rattle.resource_steps.specs.Resources.{resourceNth, layoutAfter, occupied, vacant, placeStep, deriveStep, namedTexture, DeriveResult, deriveResult, deriveSteps}
 use Rattle.resource_steps.proofs.ResourceParts.{pairs-cons, pairs-none, nth-at}
 use Rattle.resource_steps.proofs.ResourceWalk.{index-next, index-none, one-more}
-use Rattle.bindings.specs.Format.{placeOf, placeWord, typeCode, isBuffer, sizeLimit, sizeWord, sizeStanding, resourceTypeOf, resource, typeHeld}
-use Rattle.bindings.specs.Format.{bindingTypeOf, bindingCode, leastSize, sameBinding, formatHeld, entryFiled, entryOf, entryHeld, entryFiledAt}
+use Rattle.bindings.specs.Format.{placeOf, placeWord, typeCode, isBufferWord, sizeLimit, sizeWord, sizeStanding, resourceTypeOf, resource, typeEncodable}
+use Rattle.bindings.specs.Format.{bindingTypeOf, bindingCode, leastSize, sameBinding, formatEncodable, entryWellFormed, entryOf, entryEncodable, entryWellFormedAt}
 use Rattle.resource_steps.proofs.ResourceLaws.{least-word}
 
 -- ---- a type at its place
 
 -- the entry at a position is of a type where its words are that type's
-module _ (ty least i : ℕ) (l : List ℕ) (b : BindingType) (f : layoutFiled l ≡ true) (t : TypeWords ty least b) (h : i < length (decodeLayout l .entries)) where
+module _ (ty least i : ℕ) (l : List ℕ) (b : BindingType) (f : layoutWellFormed l ≡ true) (t : TypeWords ty least b) (h : i < length (decodeLayout l .entries)) where
   same-there : sameBinding b (entryNth (decodeLayout l .entries) i .ty) ≡ (eqb (wordAt l (1 + 4 * i + 1)) ty && eqb least (contentOf (wordAt l (1 + 4 * i + 2))))
-  unfolding entryFiled entryOf
+  unfolding entryWellFormed entryOf
   same-there =
-      let d : entryFiledAt l (1 + 4 * i) ≡ true = entry-filed-there l i h f in
+      let d : entryWellFormedAt l (1 + 4 * i) ≡ true = entry-well-formed-there l i h f in
       rw (entry-there l i h, t .type-word, t .least-size)
       (same-by-words (wordAt l (1 + 4 * i + 1)) (contentOf (wordAt l (1 + 4 * i + 2))) b (search (eqb-true, first, second) depth 8) (search (first, second) depth 8)
       (search (first, second) depth 8))
@@ -82,7 +82,7 @@ none-there place L h = sym (place-lacks place (entryPlaces (L .entries)) (findEn
 
 -- the least size of a type that a layout list can hold
 pub new-small : (ty least : ℕ) (b : BindingType) → TypeWords ty least b → least < sizeLimit
-new-small ty least b t = rw (t .least-size) (least-fits b (t .held))
+new-small ty least b t = rw (t .least-size) (least-fits b (t .encodable))
 
 -- the words of a new entry
 module _ (place ty least p s v : ℕ) (b : BindingType) (t : TypeWords ty least b) (ep : p ≡ contentOf place) (es : s ≡ sizeWord least) (hv : v ≤ 16) where
@@ -92,8 +92,8 @@ module _ (place ty least p s v : ℕ) (b : BindingType) (t : TypeWords ty least 
   abbrev words : BindGroupLayoutEntry
   words = entryOf (0x20000000 + p) ty s (0x98000000 + v)
 
-  new-held : entryHeld new ≡ true
-  new-held = rw (place-held place, t .held, lt-ltb v 32 (omega arith))
+  new-encodable : entryEncodable new ≡ true
+  new-encodable = rw (place-encodable place, t .encodable, lt-ltb v 32 (omega arith))
 
   place-again : 0x20000000 + p ≡ placeWord (placeOf place)
   place-again = omega arith
@@ -101,14 +101,14 @@ module _ (place ty least p s v : ℕ) (b : BindingType) (t : TypeWords ty least 
   size-again : s ≡ sizeWord (leastSize b)
   size-again = es ∙ ap sizeWord (t .least-size)
 
-  pub new-filed : entryFiled (0x20000000 + p) ty s (0x98000000 + v) ≡ true
-  new-filed = rw (place-again, t .type-word, size-again) (entry-filed new new-held)
+  pub new-well-formed : entryWellFormed (0x20000000 + p) ty s (0x98000000 + v) ≡ true
+  new-well-formed = rw (place-again, t .type-word, size-again) (entry-well-formed new new-encodable)
 
   new-mean : words ≡ new
-  new-mean = rw (place-again, t .type-word, size-again) (entry-read new new-held)
+  new-mean = rw (place-again, t .type-word, size-again) (entry-read new new-encodable)
 
   pub new-fits : (L : Layout) → placeOf place .group < L .groups → entryFits (L .groups) words ≡ true
-  new-fits L g = rw (new-mean, new-held, lt-ltb (placeOf place .group) (L .groups) g)
+  new-fits L g = rw (new-mean, new-encodable, lt-ltb (placeOf place .group) (L .groups) g)
 
   pub new-lacks : (L : Layout) → findEntry (placeOf place) L ≡ Nothing → entryHas (words .bind) (L .entries) ≡ false
   new-lacks L n = rw new-mean (none-there (placeOf place) L n)
@@ -149,17 +149,17 @@ some-derived Der.WrongBufferAddressSpace x e n k = absurd (omega arith)
 pub within-groups : (L : Layout) (place g : ℕ) → g ≡ L .groups → bits 26 23 place < g → placeOf place .group < L .groups
 within-groups L place g q n = rw q at n
 
-module _ (named : Bool) (w size ty least : ℕ) (h : typeHeld (resourceTypeOf w size) ≡ true)
-    (e : (n : ℕ) → derivedWord (deriveBindingType (resourceTypeOf w n) named) ≡ ty) (z : 0 < ty) (s : least ≡ pick (isBuffer w) size 0) where
+module _ (named : Bool) (w size ty least : ℕ) (h : typeEncodable (resourceTypeOf w size) ≡ true)
+    (e : (n : ℕ) → derivedWord (deriveBindingType (resourceTypeOf w n) named) ≡ ty) (z : 0 < ty) (s : least ≡ pick (isBufferWord w) size 0) where
   abbrev d : Derived
   d = deriveBindingType (resourceTypeOf w size) named
 
   typed : {P : Type 0} → ((b : BindingType) → d ≡ Der.Binding b → TypeWords ty least b → bindingTypeOf ty least ≡ b → P) → P
   typed k =
       some-derived d ty (e size) z λ b q x.
-      let f : formatHeld b ≡ true = derived-held (resourceTypeOf w size) named b h q in
+      let f : formatEncodable b ≡ true = derived-encodable (resourceTypeOf w size) named b h q in
       let y : least ≡ leastSize b = rw (derived-least w size named b q) s in
-      k b q (record { held = f; type-word = x; least-size = y }) (rw (y, x) (type-read b f))
+      k b q (record { encodable = f; type-word = x; least-size = y }) (rw (y, x) (type-read b f))
 
   pub derived-words : TypeWords ty least (bindingTypeOf ty least)
   derived-words = typed (λ b q t m. rw m t)

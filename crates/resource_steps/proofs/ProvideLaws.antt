@@ -11,7 +11,7 @@ use Rattle.word.specs.Words.{wordAt, kindOf, contentOf, bits}
 use Rattle.word.specs.Answers.{accepted}
 use Rattle.word.specs.declared.answer.Answer.{Answer}
 use Rattle.bindings.specs.Rules.{checkBindingUse, useNumber}
-use Rattle.bindings.specs.Format.{placeFiled, placeOf, typeCode, isBuffer, spaceAt, resourceTypeOf, sizeFiled, typeHeld, spaceHeld, bindingTypeOf, entryOf}
+use Rattle.bindings.specs.Format.{placeWellFormed, placeOf, typeCode, isBufferWord, spaceAt, resourceTypeOf, sizeWellFormed, typeEncodable, spaceEncodable, bindingTypeOf, entryOf}
 use Rattle.bindings.specs.Answers.{bindingAnswer}
 use Rattle.bindings.specs.declared.types.ResourceBinding.{ResourceBinding}
 use Rattle.bindings.specs.declared.types.Resource.{Resource}
@@ -19,8 +19,8 @@ use Rattle.bindings.specs.declared.types.ResourceType.{ResourceType}
 use Rattle.word.proofs.Truth.{second, by-test, first}
 use Rattle.layouts.specs.Meaning.{Layout, findEntry, entryNth, seesBit}
 use Rattle.sizes.specs.Meaning.{Sizes, sizeHas, sizeFits, recorded, sizeRecordWidth}
-use Rattle.places.specs.Records.{fits}
-use Rattle.layouts.specs.Format.{decodeLayout, layoutFiled}
+use Rattle.places.specs.Records.{roomFor}
+use Rattle.layouts.specs.Format.{decodeLayout, layoutWellFormed}
 use Rattle.layouts.proofs.LayoutStores.{entry-there}
 use Rattle.places.specs.declared.found.Found.{Found}
 use Rattle.places.specs.declared.found.Found.the-variants.{At, Nothing}
@@ -30,7 +30,7 @@ use Rattle.resource_steps.specs.inner.Given.{resourceTable}
 use Rattle.resource_steps.specs.Resources.{resourceNth, sizesAfter, recordSize, entryUse, providedUse, provideStep, ProvideResult, provideResult, provideSteps}
 use Rattle.resource_steps.proofs.ResourceParts.{nth-at}
 use Rattle.resource_steps.proofs.ResourceWalk.{index-next, index-none, one-more}
-use Rattle.bindings.specs.Format.{placeFiled, placeOf, typeCode, isBuffer, spaceAt, sizeLimit, sizeWord, sizeStanding, resourceTypeOf, resource, sizeFiled, typeHeld, spaceHeld}
+use Rattle.bindings.specs.Format.{placeWellFormed, placeOf, typeCode, isBufferWord, spaceAt, sizeLimit, sizeWord, sizeStanding, resourceTypeOf, resource, sizeWellFormed, typeEncodable, spaceEncodable}
 use Rattle.bindings.specs.Format.{bindingTypeOf, leastSize, entryOf}
 use Rattle.resource_steps.proofs.ResourceLaws.{least-word}
 
@@ -42,7 +42,7 @@ module _ (stage : ShaderStage) (ty : ResourceType) (l : List ℕ) (i c x v : ℕ
   unfolding entryOf
   entry-unseen n = rw (entry-there l i h, ← s, ← p, ← e, ← q, not-true b n)
 
-  pub entry-seen : (t least u : ℕ) → layoutFiled l ≡ true → not b ≡ false → t ≡ wordAt l (1 + 4 * i + 1)
+  pub entry-seen : (t least u : ℕ) → layoutWellFormed l ≡ true → not b ≡ false → t ≡ wordAt l (1 + 4 * i + 1)
       → least ≡ leastSize (entryNth (decodeLayout l .entries) i .ty) → u ≡ useNumber (checkBindingUse ty (bindingTypeOf t least))
       → u ≡ entryUse stage ty (entryNth (decodeLayout l .entries) i)
   unfolding entryOf
@@ -62,7 +62,7 @@ module _ (stage : ShaderStage) (L : Layout) (r : Resource) (f : Found) (a : Answ
 -- ---- the size of a resource
 
 -- a size that has no room is not recorded
-not-recorded : (bind : ResourceBinding) (size : ℕ) (S : Sizes) (h b : Bool) → sizeHas bind (S .records) ≡ h → fits sizeRecordWidth (S .room) ≡ b
+not-recorded : (bind : ResourceBinding) (size : ℕ) (S : Sizes) (h b : Bool) → sizeHas bind (S .records) ≡ h → roomFor sizeRecordWidth (S .room) ≡ b
     → sizeFits bind S ≡ false → recorded bind size S ≡ S
 unfolding recorded
 not-recorded bind size S true b p q e = let z : true ≡ false = rw p at e in absurd (true≢false z)
@@ -71,7 +71,7 @@ not-recorded bind size S false false p q e = rw (p, q)
 
 -- a resource that is no buffer has no size
 module _ (bind : ResourceBinding) (w size : ℕ) (S : Sizes) where
-  none-recorded : isBuffer w ≡ false → recordSize bind (resourceTypeOf w size) S ≡ sizesAfter accepted S
+  none-recorded : isBufferWord w ≡ false → recordSize bind (resourceTypeOf w size) S ≡ sizesAfter accepted S
   unfolding resourceTypeOf recordSize
   none-recorded n0 =
       by-test (eqb (typeCode w) 1) (λ t. rw (n0, t) refl) λ n1.
@@ -84,20 +84,20 @@ module _ (bind : ResourceBinding) (w size : ℕ) (S : Sizes) where
   size-none a n h = rw h (sym (none-recorded (ne-eqb (typeCode w) 0 n)))
 
 -- the place and the size of a buffer that words can hold
-pub place-filed : (p : ℕ) → p < 2 ^ 27 → placeFiled (0x20000000 + p) ≡ true
-place-filed p h = eq-eqb (kindOf (0x20000000 + p)) 4 (omega arith)
+pub place-well-formed : (p : ℕ) → p < 2 ^ 27 → placeWellFormed (0x20000000 + p) ≡ true
+place-well-formed p h = eq-eqb (kindOf (0x20000000 + p)) 4 (omega arith)
 
-module _ (w size : ℕ) (h : typeHeld (resourceTypeOf w size) ≡ true) (z : typeCode w ≡ 0) where
-  held-size : (ltb size sizeLimit && not (eqb size 0)) ≡ true
-  unfolding resourceTypeOf typeHeld
-  held-size = second (spaceHeld (spaceAt (bits 4 3 w) (bits 2 0 w))) (ltb size sizeLimit && not (eqb size 0)) (rw (eq-eqb (typeCode w) 0 z) at h)
+module _ (w size : ℕ) (h : typeEncodable (resourceTypeOf w size) ≡ true) (z : typeCode w ≡ 0) where
+  encodable-size : (ltb size sizeLimit && not (eqb size 0)) ≡ true
+  unfolding resourceTypeOf typeEncodable
+  encodable-size = second (spaceEncodable (spaceAt (bits 4 3 w) (bits 2 0 w))) (ltb size sizeLimit && not (eqb size 0)) (rw (eq-eqb (typeCode w) 0 z) at h)
 
   pub size-fits : size < sizeLimit
-  size-fits = ltb-true size sizeLimit (first (ltb size sizeLimit) (not (eqb size 0)) held-size)
+  size-fits = ltb-true size sizeLimit (first (ltb size sizeLimit) (not (eqb size 0)) encodable-size)
 
-  pub size-filed : (x : ℕ) → x ≡ sizeWord size → sizeFiled x ≡ true
-  size-filed x e =
-      let n : size ≡ 0 → ⊥ = eqb-false size 0 (not-true (eqb size 0) (second (ltb size sizeLimit) (not (eqb size 0)) held-size)) in
+  pub size-well-formed : (x : ℕ) → x ≡ sizeWord size → sizeWellFormed x ≡ true
+  size-well-formed x e =
+      let n : size ≡ 0 → ⊥ = eqb-false size 0 (not-true (eqb size 0) (second (ltb size sizeLimit) (not (eqb size 0)) encodable-size)) in
       let l : size < sizeLimit = size-fits in
       let k : kindOf x ≡ 6 = omega arith in
       rw (k, ne-eqb (contentOf x) 0 (λ q. n (omega arith)))
@@ -121,7 +121,7 @@ module _ (w size : ℕ) (h : typeHeld (resourceTypeOf w size) ≡ true) (z : typ
     unfolding recordSize resourceTypeOf
     size-full t e =
         let n : sizeFits (placeOf place) S ≡ false = rw (← same-place) (sym q ∙ t) in
-        rw (eq-eqb (typeCode w) 0 z, n, r, same-place, not-recorded (placeOf place) (contentOf x) S (sizeHas (placeOf place) (S .records)) (fits sizeRecordWidth (S .room)) refl refl n, e)
+        rw (eq-eqb (typeCode w) 0 z, n, r, same-place, not-recorded (placeOf place) (contentOf x) S (sizeHas (placeOf place) (S .records)) (roomFor sizeRecordWidth (S .room)) refl refl n, e)
 
 -- ---- one resource, by its index
 

@@ -8,15 +8,15 @@ use lib.ListN.{length}
 use borrow.Author.Tests.{lt-ltb, ltb-true}
 use Rattle.word.specs.Words.{wordAt, contentOf}
 use Rattle.word.specs.declared.answer.Answer.{Answer}
-use Rattle.bindings.specs.Format.{placeOf, leastSize, entryFiled, entryOf, entryFiledAt}
+use Rattle.bindings.specs.Format.{placeOf, leastSize, entryWellFormed, entryOf, entryWellFormedAt}
 use Rattle.bindings.specs.Answers.{bindingAnswer}
 use Rattle.bindings.specs.declared.types.ResourceBinding.{ResourceBinding}
 use Rattle.places.specs.Places.{foundBelow}
-use Rattle.layouts.specs.Format.{layoutFiled, decodeLayout}
-use Rattle.layouts.proofs.LayoutStores.{layout-few, entry-there, entry-filed-there}
+use Rattle.layouts.specs.Format.{layoutWellFormed, decodeLayout}
+use Rattle.layouts.proofs.LayoutStores.{layout-few, entry-there, entry-well-formed-there}
 use Rattle.places.specs.declared.found.Found.{Found}
 use Rattle.places.specs.declared.found.Found.the-variants.{At, Nothing}
-use Rattle.places.specs.Records.{fits}
+use Rattle.places.specs.Records.{roomFor}
 use Rattle.word.proofs.Truth.{first, second}
 use Rattle.bindings.proofs.EntryFormat.{least-back}
 use Rattle.layouts.specs.Meaning.{entryNth}
@@ -27,11 +27,11 @@ answer-there number place bind a e h = h ∙ ap (bindingAnswer number) e
 
 -- ---- the least size of an entry
 
-module _ (l : List ℕ) (i : ℕ) (f : layoutFiled l ≡ true) (h : i < length (decodeLayout l .entries)) where
+module _ (l : List ℕ) (i : ℕ) (f : layoutWellFormed l ≡ true) (h : i < length (decodeLayout l .entries)) where
   pub least-word : leastSize (entryNth (decodeLayout l .entries) i .ty) ≡ contentOf (wordAt l (1 + 4 * i + 2))
-  unfolding entryFiled entryOf
+  unfolding entryWellFormed entryOf
   least-word =
-      let d : entryFiledAt l (1 + 4 * i) ≡ true = entry-filed-there l i h f in
+      let d : entryWellFormedAt l (1 + 4 * i) ≡ true = entry-well-formed-there l i h f in
       rw (entry-there l i h) (least-back (wordAt l (1 + 4 * i + 1)) (contentOf (wordAt l (1 + 4 * i + 2))) (search (first, second) depth 8))
 
   pub least-there : (x r : ℕ) → x ≡ wordAt l (1 + 4 * i + 2) → r ≡ contentOf x → r ≡ leastSize (entryNth (decodeLayout l .entries) i .ty)
@@ -39,8 +39,8 @@ module _ (l : List ℕ) (i : ℕ) (f : layoutFiled l ≡ true) (h : i < length (
 
 -- ---- positions that were found
 
--- the position that was found fits into a byte
-pub found-few : (l : List ℕ) (f : Found) → layoutFiled l ≡ true → foundBelow (length (decodeLayout l .entries)) f ≡ true → foundBelow 256 f ≡ true
+-- the position that was found roomFor into a byte
+pub found-few : (l : List ℕ) (f : Found) → layoutWellFormed l ≡ true → foundBelow (length (decodeLayout l .entries)) f ≡ true → foundBelow 256 f ≡ true
 found-few l (At i) h b = lt-ltb i 256 (omega (arith, layout-few l h, ltb-true i (length (decodeLayout l .entries)) b))
 found-few l Nothing h b = refl
 

@@ -10,12 +10,12 @@ use lib.Seq.{drop-cons, getD-take}
 use Rattle.word.proofs.Lists.{first-passes, rest-passes}
 use Rattle.word.specs.Words.{wordAt, contentOf}
 use Rattle.word.specs.Lists.{every}
-use Rattle.bindings.specs.Format.{resourceAt, resourceHeld, typeHeld}
+use Rattle.bindings.specs.Format.{resourceAt, resourceEncodable, typeEncodable}
 use Rattle.bindings.specs.declared.types.Resource.{Resource}
 use Rattle.interface.specs.Format.{contents, pairOf, pairsOf}
 use Rattle.interface.specs.inner.Reads.{resourcesAt}
 use Rattle.interface.specs.inner.Parts.{resourceCount}
-use Rattle.resource_steps.specs.inner.Given.{resourceTable, eachHeld}
+use Rattle.resource_steps.specs.inner.Given.{resourceTable, eachEncodable}
 use Rattle.resource_steps.specs.Resources.{resourceNth}
 
 -- as many words from a position on
@@ -55,11 +55,11 @@ listed-at ws [] i h = absurd (omega arith)
 listed-at ws (o ∷ offsets) zero h = refl
 listed-at ws (o ∷ offsets) (suc i) h = listed-at ws offsets i (omega arith)
 
-pub listed-held : (rs : List Resource) (i : ℕ) → eachHeld rs ≡ true → resourceHeld (resourceNth rs i) ≡ true
-unfolding every resourceNth typeHeld
-listed-held [] i h = refl
-listed-held (r ∷ rs) zero h = first-passes (resourceHeld r) (eachHeld rs) h
-listed-held (r ∷ rs) (suc i) h = listed-held rs i (rest-passes (resourceHeld r) (eachHeld rs) h)
+pub listed-encodable : (rs : List Resource) (i : ℕ) → eachEncodable rs ≡ true → resourceEncodable (resourceNth rs i) ≡ true
+unfolding every resourceNth typeEncodable
+listed-encodable [] i h = refl
+listed-encodable (r ∷ rs) zero h = first-passes (resourceEncodable r) (eachEncodable rs) h
+listed-encodable (r ∷ rs) (suc i) h = listed-encodable rs i (rest-passes (resourceEncodable r) (eachEncodable rs) h)
 
 module _ (ws offsets : List ℕ) (i : ℕ) (h : i < length (resourceTable ws offsets)) where
   pub counted : (i < resourceCount ws) × (i < length (take (resourceCount ws) offsets))
@@ -75,5 +75,5 @@ module _ (ws offsets : List ℕ) (i : ℕ) (h : i < length (resourceTable ws off
   unfolding resourceTable
   nth-at = listed-at ws (take (resourceCount ws) offsets) i (counted .1) ∙ rw (getD-take (resourceCount ws) offsets i 0 (counted .0))
 
-  pub nth-held : eachHeld (resourceTable ws offsets) ≡ true → resourceHeld (resourceAt ws (wordAt offsets i)) ≡ true
-  nth-held e = rw nth-at at (listed-held (resourceTable ws offsets) i e)
+  pub nth-encodable : eachEncodable (resourceTable ws offsets) ≡ true → resourceEncodable (resourceAt ws (wordAt offsets i)) ≡ true
+  nth-encodable e = rw nth-at at (listed-encodable (resourceTable ws offsets) i e)

@@ -9,22 +9,22 @@ use lib.ListN.{length, take, drop}
 use borrow.Author.Tests.{ltb-true}
 use Rattle.word.specs.Words.{wordAt, contentOf}
 use Rattle.word.proofs.Truth.{second}
-use Rattle.bindings.specs.Format.{placeOf, placeHeld, resourceTypeOf, typeHeld, resource, sizeWidth, sizeStanding}
+use Rattle.bindings.specs.Format.{placeOf, placeEncodable, resourceTypeOf, typeEncodable, resource, sizeWidth, sizeStanding}
 use Rattle.word.specs.Lists.{every}
 use Rattle.word.proofs.Lists.{first-passes, rest-passes}
 use Rattle.interface.specs.Format.{contents}
-use Rattle.resource_steps.specs.inner.Given.{resourceTable, Inside, eachHeld, eachBelow}
-use Rattle.resource_steps.proofs.ResourceParts.{contents-cons, contents-none, nth-held}
+use Rattle.resource_steps.specs.inner.Given.{resourceTable, Inside, eachEncodable, eachBelow}
+use Rattle.resource_steps.proofs.ResourceParts.{contents-cons, contents-none, nth-encodable}
 
 -- ---- one resource
 
-module _ (ws offsets : List ℕ) (i o : ℕ) (h : eachHeld (resourceTable ws offsets) ≡ true) (k : i < length (resourceTable ws offsets)) (q : o ≡ wordAt offsets i) where
-  pub held-there : (size : ℕ) → size ≡ sizeStanding ws (o + 2) → typeHeld (resourceTypeOf (wordAt ws (o + 1)) size) ≡ true
-  held-there size e =
+module _ (ws offsets : List ℕ) (i o : ℕ) (h : eachEncodable (resourceTable ws offsets) ≡ true) (k : i < length (resourceTable ws offsets)) (q : o ≡ wordAt offsets i) where
+  pub encodable-there : (size : ℕ) → size ≡ sizeStanding ws (o + 2) → typeEncodable (resourceTypeOf (wordAt ws (o + 1)) size) ≡ true
+  encodable-there size e =
       rw (e, q)
-      (second (placeHeld (placeOf (wordAt ws (wordAt offsets i))))
-      (typeHeld (resourceTypeOf (wordAt ws (wordAt offsets i + 1)) (sizeStanding ws (wordAt offsets i + 2))))
-      (nth-held ws offsets i k h))
+      (second (placeEncodable (placeOf (wordAt ws (wordAt offsets i))))
+      (typeEncodable (resourceTypeOf (wordAt ws (wordAt offsets i + 1)) (sizeStanding ws (wordAt offsets i + 2))))
+      (nth-encodable ws offsets i k h))
 
 module _ (ws offsets : List ℕ) (i o : ℕ) (g : Inside ws offsets) (k : i < length (resourceTable ws offsets)) (q : o ≡ wordAt offsets i) where
   pub place-inside : o < length ws

@@ -4,12 +4,12 @@ ghost use mathlib.Core.Bool.{true, _&&_};
 ghost use lib.Dec.{eqb};
 ghost use Prim.Native.Nat.{_+_, _<_, _≤_};
 ghost use lib.ListN.{length, take, drop};
-ghost use Rattle.bindings.specs.Format.{placeOf, typeCode, resourceTypeOf, resource, bindingTypeOf, sameBinding, typeHeld};
+ghost use Rattle.bindings.specs.Format.{placeOf, typeCode, resourceTypeOf, resource, bindingTypeOf, sameBinding, typeEncodable};
 ghost use Rattle.layouts.specs.Meaning.{findEntry, entryNth};
 ghost use Rattle.places.specs.declared.found.Found.the-variants.{Nothing};
-ghost use Rattle.layouts.specs.Format.{layoutFiled, decodeLayout};
+ghost use Rattle.layouts.specs.Format.{layoutWellFormed, decodeLayout};
 ghost use Rattle.interface.specs.Format.{contents, pairsOf};
-ghost use Rattle.resource_steps.specs.inner.Given.{resourceTable, Inside, eachHeld, eachBelow, TypeWords};
+ghost use Rattle.resource_steps.specs.inner.Given.{resourceTable, Inside, eachEncodable, eachBelow, TypeWords};
 ghost use Rattle.resource_steps.specs.Resources.{resourceNth, layoutAfter, occupied, vacant, placeStep, deriveStep, namedTexture, deriveResult, deriveSteps};
 use crate::resources::entry_least;
 use crate::resources::place_answer;
@@ -33,7 +33,7 @@ use word::content;
 
 // Whether the entry at a position is of a type, by the type's word and least size.
 fn same_type(layout: &[u32], index: usize, ty: u32, least: u64) -> bool
-    requires { ⌜ layoutFiled (now layout) ≡ true ⌝ }
+    requires { ⌜ layoutWellFormed (now layout) ≡ true ⌝ }
     requires { ⌜ TypeWords ty least (bindingTypeOf ty least) ⌝ }
     requires { ⌜ index < length (decodeLayout (now layout) .entries) ⌝ }
     ensures { λ r. ⌜ r ≡ sameBinding (bindingTypeOf ty least) (entryNth (decodeLayout (now (layout .entry)) .entries) index .ty) ⌝ }
@@ -53,12 +53,12 @@ fn occupied(
     index: usize,
     layout: &mut [u32],
 ) -> Answer
-    requires { ⌜ layoutFiled (now layout) ≡ true ⌝ }
+    requires { ⌜ layoutWellFormed (now layout) ≡ true ⌝ }
     requires { ⌜ TypeWords ty least (bindingTypeOf ty least) ⌝ }
     requires { ⌜ index < length (decodeLayout (now layout) .entries) ⌝ }
     ensures { λ a. ⌜ layoutAfter a (decodeLayout (now (layout .exit)))
         ≡ occupied stage (placeOf place) (bindingTypeOf ty least) index (decodeLayout (now (layout .entry))) ⌝ }
-    ensures { λ a. ⌜ layoutFiled (now (layout .exit)) ≡ true ⌝ }
+    ensures { λ a. ⌜ layoutWellFormed (now (layout .exit)) ≡ true ⌝ }
 {
     if same_type(layout, index, ty, least) {
         join_visibility(layout, index, stage_code(stage));
@@ -69,13 +69,13 @@ fn occupied(
 
 // A place that has no entry gets one; a list without room is 5.
 fn vacant(stage: ShaderStage, place: u32, ty: u32, least: u64, layout: &mut [u32]) -> Answer
-    requires { ⌜ layoutFiled (now layout) ≡ true ⌝ }
+    requires { ⌜ layoutWellFormed (now layout) ≡ true ⌝ }
     requires { ⌜ TypeWords ty least (bindingTypeOf ty least) ⌝ }
     requires { ⌜ placeOf place .group < decodeLayout (now layout) .groups ⌝ }
     requires { ⌜ findEntry (placeOf place) (decodeLayout (now layout)) ≡ Nothing ⌝ }
     ensures { λ a. ⌜ layoutAfter a (decodeLayout (now (layout .exit)))
         ≡ vacant stage (placeOf place) (bindingTypeOf ty least) (decodeLayout (now (layout .entry))) ⌝ }
-    ensures { λ a. ⌜ layoutFiled (now (layout .exit)) ≡ true ⌝ }
+    ensures { λ a. ⌜ layoutWellFormed (now (layout .exit)) ≡ true ⌝ }
 {
     let visibility = 0x9800_0000 + stage_bit(stage_code(stage));
     if push_words(
@@ -92,13 +92,13 @@ fn vacant(stage: ShaderStage, place: u32, ty: u32, least: u64, layout: &mut [u32
 
 // A derived type, by its word and least size, at its place.
 fn place_step(stage: ShaderStage, place: u32, ty: u32, least: u64, layout: &mut [u32]) -> Answer
-    requires { ⌜ layoutFiled (now layout) ≡ true ⌝ }
+    requires { ⌜ layoutWellFormed (now layout) ≡ true ⌝ }
     requires { ⌜ TypeWords ty least (bindingTypeOf ty least) ⌝ }
     requires { ⌜ placeOf place .group < decodeLayout (now layout) .groups ⌝ }
     ensures { λ a. ⌜ layoutAfter a (decodeLayout (now (layout .exit)))
         ≡ placeStep stage (placeOf place) (bindingTypeOf ty least)
         (findEntry (placeOf place) (decodeLayout (now (layout .entry)))) (decodeLayout (now (layout .entry))) ⌝ }
-    ensures { λ a. ⌜ layoutFiled (now (layout .exit)) ≡ true ⌝ }
+    ensures { λ a. ⌜ layoutWellFormed (now (layout .exit)) ≡ true ⌝ }
 {
     match find_entry_word(layout, place) {
         Found::At { index } => occupied(stage, place, ty, least, index, layout),
@@ -115,11 +115,11 @@ fn derive_step(
     size: u64,
     layout: &mut [u32],
 ) -> Answer
-    requires { ⌜ layoutFiled (now layout) ≡ true ⌝ }
-    requires { ⌜ typeHeld (resourceTypeOf w size) ≡ true ⌝ }
+    requires { ⌜ layoutWellFormed (now layout) ≡ true ⌝ }
+    requires { ⌜ typeEncodable (resourceTypeOf w size) ≡ true ⌝ }
     ensures { λ a. ⌜ layoutAfter a (decodeLayout (now (layout .exit)))
         ≡ deriveStep stage named (resource place w size) (decodeLayout (now (layout .entry))) ⌝ }
-    ensures { λ a. ⌜ layoutFiled (now (layout .exit)) ≡ true ⌝ }
+    ensures { λ a. ⌜ layoutWellFormed (now (layout .exit)) ≡ true ⌝ }
 {
     if group_count(layout) <= place / 0x80_0000 % 16 {
         return place_answer(20, place);
@@ -169,14 +169,14 @@ fn derive_resource(
     stage: ShaderStage,
     layout: &mut [u32],
 ) -> Answer
-    requires { ⌜ layoutFiled (now layout) ≡ true ⌝ }
-    requires { ⌜ (eachHeld (resourceTable (now pack) (now offsets)) ≡ true) × Inside (now pack) (now offsets) ⌝ }
+    requires { ⌜ layoutWellFormed (now layout) ≡ true ⌝ }
+    requires { ⌜ (eachEncodable (resourceTable (now pack) (now offsets)) ≡ true) × Inside (now pack) (now offsets) ⌝ }
     requires { ⌜ i < length (resourceTable (now pack) (now offsets)) ⌝ }
     requires { ⌜ «pairs_at» + «pairs_n» ≤ length (now pack) ⌝ }
     ensures { λ a. ⌜ layoutAfter a (decodeLayout (now (layout .exit)))
         ≡ deriveStep stage (namedTexture i (pairsOf (take «pairs_n» (drop «pairs_at» (now (pack .entry))))))
         (resourceNth (resourceTable (now (pack .entry)) (now (offsets .entry))) i) (decodeLayout (now (layout .entry))) ⌝ }
-    ensures { λ a. ⌜ layoutFiled (now (layout .exit)) ≡ true ⌝ }
+    ensures { λ a. ⌜ layoutWellFormed (now (layout .exit)) ≡ true ⌝ }
 {
     let at = position_at(offsets, i as usize) as usize;
     let place = pack[at];
@@ -197,15 +197,15 @@ pub fn derive_steps(
     stage: ShaderStage,
     layout: &mut [u32],
 ) -> Checked
-    requires { ⌜ layoutFiled (now layout) ≡ true ⌝ }
-    requires { ⌜ (eachHeld (resourceTable (now pack) (now offsets)) ≡ true) × Inside (now pack) (now offsets) ⌝ }
+    requires { ⌜ layoutWellFormed (now layout) ≡ true ⌝ }
+    requires { ⌜ (eachEncodable (resourceTable (now pack) (now offsets)) ≡ true) × Inside (now pack) (now offsets) ⌝ }
     requires { ⌜ eachBelow (length (resourceTable (now pack) (now offsets))) (contents (take n (drop from (now pack)))) ≡ true ⌝ }
     requires { ⌜ (from + n ≤ length (now pack)) × («pairs_at» + «pairs_n» ≤ length (now pack)) ⌝ }
     ensures { λ r. ⌜ deriveResult (r .answer) (r .passed) (decodeLayout (now (layout .exit)))
         ≡ deriveSteps stage (resourceTable (now (pack .entry)) (now (offsets .entry)))
         (pairsOf (take «pairs_n» (drop «pairs_at» (now (pack .entry))))) (contents (take n (drop from (now (pack .entry)))))
         (decodeLayout (now (layout .entry))) ⌝ }
-    ensures { λ r. ⌜ layoutFiled (now (layout .exit)) ≡ true ⌝ }
+    ensures { λ r. ⌜ layoutWellFormed (now (layout .exit)) ≡ true ⌝ }
 {
     let mut at = from;
     let mut passed: u32 = 0;

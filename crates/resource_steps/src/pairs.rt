@@ -5,7 +5,7 @@ ghost use Prim.Native.Nat.{_+_, _<_, _≤_};
 ghost use lib.ListN.{length, take, drop};
 ghost use Rattle.word.specs.Words.{bits};
 ghost use Rattle.bindings.specs.Format.{placeOf, sampleAt, bindingTypeOf};
-ghost use Rattle.layouts.specs.Format.{layoutFiled, decodeLayout};
+ghost use Rattle.layouts.specs.Format.{layoutWellFormed, decodeLayout};
 ghost use Rattle.interface.specs.Format.{pairOf, pairsOf};
 ghost use Rattle.resource_steps.specs.inner.Given.{resourceTable, Inside, pairBelow, pairsBelow, wordMeans};
 ghost use Rattle.resource_steps.specs.Resources.{resourceNth, filtering, sampleNumber, pairNumber, typeAt, pairAnswer, pairUse, pairUses};
@@ -58,7 +58,7 @@ fn pair_number(texture: u32, sampler: u32) -> u32
 
 // The type word of the entry at a word's place, tried at a position first; where there is none, one that is no texture and no sampler.
 fn type_word_at(layout: &[u32], place: u32, near: usize) -> u32
-    requires { ⌜ layoutFiled (now layout) ≡ true ⌝ }
+    requires { ⌜ layoutWellFormed (now layout) ≡ true ⌝ }
     ensures { λ r. ⌜ wordMeans r (typeAt (decodeLayout (now (layout .entry))) (placeOf place)) ⌝ }
 {
     match find_entry_near(layout, place, near) {
@@ -99,7 +99,7 @@ fn places_use(
     texture_near: usize,
     sampler_near: usize,
 ) -> Answer
-    requires { ⌜ layoutFiled (now layout) ≡ true ⌝ }
+    requires { ⌜ layoutWellFormed (now layout) ≡ true ⌝ }
     ensures { λ r. ⌜ r ≡ pairAnswer
         (pairNumber (typeAt (decodeLayout (now (layout .entry))) (placeOf texture)) (typeAt (decodeLayout (now (layout .entry))) (placeOf sampler)))
         (placeOf texture) (placeOf sampler) ⌝ }
@@ -114,7 +114,7 @@ fn places_use(
 // A texture with the sampler it is sampled with, by the word of the pair.
 fn pair_use(layout: &[u32], pack: &[u32], offsets: &[u16], entries: &[u8; 128], w: u32) -> Answer
     requires { ⌜ (pairBelow (length (resourceTable (now pack) (now offsets))) (pairOf w) ≡ true) × Inside (now pack) (now offsets) ⌝ }
-    requires { ⌜ layoutFiled (now layout) ≡ true ⌝ }
+    requires { ⌜ layoutWellFormed (now layout) ≡ true ⌝ }
     ensures { λ r. ⌜ r ≡ pairUse (decodeLayout (now (layout .entry))) (resourceTable (now (pack .entry)) (now (offsets .entry))) (pairOf w) ⌝ }
 {
     let pair = pair_of(w);
@@ -136,7 +136,7 @@ pub fn pair_uses(
     from: usize,
     n: usize,
 ) -> Answer
-    requires { ⌜ (from + n ≤ length (now pack)) × Inside (now pack) (now offsets) × (layoutFiled (now layout) ≡ true) ⌝ }
+    requires { ⌜ (from + n ≤ length (now pack)) × Inside (now pack) (now offsets) × (layoutWellFormed (now layout) ≡ true) ⌝ }
     requires { ⌜ pairsBelow (length (resourceTable (now pack) (now offsets))) (pairsOf (take n (drop from (now pack)))) ≡ true ⌝ }
     ensures { λ r. ⌜ r ≡ pairUses (decodeLayout (now (layout .entry))) (resourceTable (now (pack .entry)) (now (offsets .entry)))
         (pairsOf (take n (drop from (now (pack .entry))))) ⌝ }

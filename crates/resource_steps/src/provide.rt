@@ -3,12 +3,12 @@ ghost use mathlib.Core.Path.{_≡_};
 ghost use mathlib.Core.Bool.{true};
 ghost use Prim.Native.Nat.{_+_, _<_, _≤_};
 ghost use lib.ListN.{length, take, drop};
-ghost use Rattle.bindings.specs.Format.{placeOf, resourceTypeOf, resource, typeHeld};
+ghost use Rattle.bindings.specs.Format.{placeOf, resourceTypeOf, resource, typeEncodable};
 ghost use Rattle.layouts.specs.Meaning.{entryNth};
-ghost use Rattle.layouts.specs.Format.{layoutFiled, decodeLayout};
-ghost use Rattle.sizes.specs.Format.{sizesFiled, decodeSizes};
+ghost use Rattle.layouts.specs.Format.{layoutWellFormed, decodeLayout};
+ghost use Rattle.sizes.specs.Format.{sizesWellFormed, decodeSizes};
 ghost use Rattle.interface.specs.Format.{contents};
-ghost use Rattle.resource_steps.specs.inner.Given.{resourceTable, Inside, eachHeld, eachBelow};
+ghost use Rattle.resource_steps.specs.inner.Given.{resourceTable, Inside, eachEncodable, eachBelow};
 ghost use Rattle.resource_steps.specs.Resources.{resourceNth, sizesAfter, recordSize, entryUse, providedUse, provideStep, provideResult, provideSteps};
 use crate::resources::entry_least;
 use crate::resources::note;
@@ -31,11 +31,11 @@ use word::content;
 
 // Records the size that a buffer asks for; a list without room is 5.
 fn record_size(place: u32, w: u32, size: u64, next: &mut [u16; 1], sizes: &mut [u32]) -> Answer
-    requires { ⌜ sizesFiled (now sizes) ≡ true ⌝ }
-    requires { ⌜ typeHeld (resourceTypeOf w size) ≡ true ⌝ }
+    requires { ⌜ sizesWellFormed (now sizes) ≡ true ⌝ }
+    requires { ⌜ typeEncodable (resourceTypeOf w size) ≡ true ⌝ }
     ensures { λ r. ⌜ sizesAfter r (decodeSizes (now (sizes .exit)))
         ≡ recordSize (placeOf place) (resourceTypeOf w size) (decodeSizes (now (sizes .entry))) ⌝ }
-    ensures { λ r. ⌜ sizesFiled (now (sizes .exit)) ≡ true ⌝ }
+    ensures { λ r. ⌜ sizesWellFormed (now (sizes .exit)) ≡ true ⌝ }
 {
     if w / 0x80_0000 % 16 != 0 {
         return Answer::accepted();
@@ -48,7 +48,7 @@ fn record_size(place: u32, w: u32, size: u64, next: &mut [u16; 1], sizes: &mut [
 
 // Whether the entry at a position serves a resource: 21 where the stage does not see it.
 fn entry_use(stage: ShaderStage, w: u32, size: u64, layout: &[u32], index: usize) -> u32
-    requires { ⌜ layoutFiled (now layout) ≡ true ⌝ }
+    requires { ⌜ layoutWellFormed (now layout) ≡ true ⌝ }
     requires { ⌜ index < length (decodeLayout (now layout) .entries) ⌝ }
     ensures { λ r. ⌜ r ≡ entryUse stage (resourceTypeOf w size) (entryNth (decodeLayout (now (layout .entry)) .entries) index) ⌝ }
 {
@@ -70,7 +70,7 @@ fn provided_use(
     w: u32,
     size: u64,
 ) -> Answer
-    requires { ⌜ layoutFiled (now layout) ≡ true ⌝ }
+    requires { ⌜ layoutWellFormed (now layout) ≡ true ⌝ }
     ensures { λ a. ⌜ a ≡ providedUse stage (decodeLayout (now (layout .entry))) (resource place w size) ⌝ }
 {
     let found = find_entry_near(layout, place, near);
@@ -93,13 +93,13 @@ fn provide_step(
     layout: &[u32],
     sizes: &mut [u32],
 ) -> Answer
-    requires { ⌜ (layoutFiled (now layout) ≡ true) × (sizesFiled (now sizes) ≡ true) ⌝ }
-    requires { ⌜ (eachHeld (resourceTable (now pack) (now offsets)) ≡ true) × Inside (now pack) (now offsets) ⌝ }
+    requires { ⌜ (layoutWellFormed (now layout) ≡ true) × (sizesWellFormed (now sizes) ≡ true) ⌝ }
+    requires { ⌜ (eachEncodable (resourceTable (now pack) (now offsets)) ≡ true) × Inside (now pack) (now offsets) ⌝ }
     requires { ⌜ i < length (resourceTable (now pack) (now offsets)) ⌝ }
     ensures { λ a. ⌜ sizesAfter a (decodeSizes (now (sizes .exit)))
         ≡ provideStep stage (decodeLayout (now (layout .entry))) (resourceNth (resourceTable (now (pack .entry)) (now (offsets .entry))) i)
         (decodeSizes (now (sizes .entry))) ⌝ }
-    ensures { λ a. ⌜ sizesFiled (now (sizes .exit)) ≡ true ⌝ }
+    ensures { λ a. ⌜ sizesWellFormed (now (sizes .exit)) ≡ true ⌝ }
 {
     let at = position_at(offsets, i as usize) as usize;
     let place = pack[at];
@@ -123,14 +123,14 @@ pub fn provide_steps(
     layout: &[u32],
     sizes: &mut [u32],
 ) -> Checked
-    requires { ⌜ (layoutFiled (now layout) ≡ true) × (sizesFiled (now sizes) ≡ true) ⌝ }
-    requires { ⌜ (eachHeld (resourceTable (now pack) (now offsets)) ≡ true) × Inside (now pack) (now offsets) ⌝ }
+    requires { ⌜ (layoutWellFormed (now layout) ≡ true) × (sizesWellFormed (now sizes) ≡ true) ⌝ }
+    requires { ⌜ (eachEncodable (resourceTable (now pack) (now offsets)) ≡ true) × Inside (now pack) (now offsets) ⌝ }
     requires { ⌜ eachBelow (length (resourceTable (now pack) (now offsets))) (contents (take n (drop from (now pack)))) ≡ true ⌝ }
     requires { ⌜ from + n ≤ length (now pack) ⌝ }
     ensures { λ r. ⌜ provideResult (r .answer) (r .passed) (decodeSizes (now (sizes .exit)))
         ≡ provideSteps stage (decodeLayout (now (layout .entry))) (resourceTable (now (pack .entry)) (now (offsets .entry)))
         (contents (take n (drop from (now (pack .entry))))) (decodeSizes (now (sizes .entry))) ⌝ }
-    ensures { λ r. ⌜ sizesFiled (now (sizes .exit)) ≡ true ⌝ }
+    ensures { λ r. ⌜ sizesWellFormed (now (sizes .exit)) ≡ true ⌝ }
 {
     let mut at = from;
     let mut passed: u32 = 0;

@@ -11,7 +11,7 @@ ghost use Rattle.places.specs.declared.found.Found.the-variants.{Nothing};
 use bindings::resource_words::place_of;
 ghost use lib.ListN.{length};
 ghost use Rattle.layouts.specs.Meaning.{entryNth};
-ghost use Rattle.layouts.specs.Format.{layoutFiled, decodeLayout};
+ghost use Rattle.layouts.specs.Format.{layoutWellFormed, decodeLayout};
 use bindings::sizes::word_size;
 use layouts::layout::entry_word;
 use word::answer::Answer;
@@ -25,7 +25,7 @@ pub(crate) fn place_answer(number: u32, place: u32) -> Answer
 
 // The least size of the entry at a position.
 pub(crate) fn entry_least(layout: &[u32], index: usize) -> u64
-    requires { ⌜ layoutFiled (now layout) ≡ true ⌝ }
+    requires { ⌜ layoutWellFormed (now layout) ≡ true ⌝ }
     requires { ⌜ index < length (decodeLayout (now layout) .entries) ⌝ }
     ensures { λ r. ⌜ r ≡ leastSize (entryNth (decodeLayout (now (layout .entry)) .entries) index .ty) ⌝ }
 {

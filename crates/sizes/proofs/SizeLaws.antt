@@ -8,13 +8,13 @@ use lib.Dec.{eqb}
 use lib.ListN.{length, drop, getD, set, length-append, length-drop}
 use borrow.Author.Tests.{ltb-true, lt-ltb, leb-true, ne-eqb, eqb-false, not-true}
 use Rattle.word.specs.Lists.{every}
-use Rattle.bindings.specs.Format.{placeHeld}
+use Rattle.bindings.specs.Format.{placeEncodable}
 use Rattle.bindings.specs.declared.types.ResourceBinding.{ResourceBinding}
 use Rattle.word.proofs.Truth.{first, second, by-test, never}
-use Rattle.sizes.specs.Meaning.{Sizes, sizePlaces, sizeHas, sizeAt, raiseAt, sizeRecord, sizeFits, recorded}
-use Rattle.places.specs.Records.{fits}
+use Rattle.sizes.specs.Meaning.{Sizes, sizePlaces, sizeHas, sizeRecorded, raiseAt, sizeRecord, sizeFits, recorded}
+use Rattle.places.specs.Records.{roomFor}
 use Rattle.places.specs.Places.{samePlace, placeFrom, placeIn}
-use Rattle.sizes.specs.Format.{sizeHeld, sizesGood}
+use Rattle.sizes.specs.Format.{sizeEncodable, sizesGood}
 use Rattle.sizes.specs.declared.size_record.SizeRecord.{SizeRecord}
 use Rattle.places.specs.declared.found.Found.the-variants.{At}
 use Rattle.word.proofs.Lists.{first-passes, rest-passes}
@@ -59,14 +59,14 @@ module _ (place : ResourceBinding) (size : ℕ) where
 
   -- ---- the size at a place
 
-  pub size-raised : (ss : List SizeRecord) → sizeHas place ss ≡ true → sizeAt place (raiseAt place size ss) ≡ max (sizeAt place ss) size
-  unfolding raiseAt sizeAt placeIn
+  pub size-raised : (ss : List SizeRecord) → sizeHas place ss ≡ true → sizeRecorded place (raiseAt place size ss) ≡ max (sizeRecorded place ss) size
+  unfolding raiseAt sizeRecorded placeIn
   size-raised [] h = never false h refl
   size-raised (s ∷ ss) h =
       by-test (samePlace (s .bind) place) (λ t. rw (t, t)) (λ f. let k = rw f at h in rw (f, f, size-raised ss k))
 
-  pub size-kept : (ss : List SizeRecord) → size ≤ sizeAt place ss → raiseAt place size ss ≡ ss
-  unfolding raiseAt sizeAt
+  pub size-kept : (ss : List SizeRecord) → size ≤ sizeRecorded place ss → raiseAt place size ss ≡ ss
+  unfolding raiseAt sizeRecorded
   size-kept [] h = refl
   size-kept (s ∷ ss) h =
       by-test (samePlace (s .bind) place)
@@ -74,31 +74,31 @@ module _ (place : ResourceBinding) (size : ℕ) where
       (λ f. rw (f, size-kept ss (rw f at h)))
 
   size-beside : (other : ResourceBinding) (ss : List SizeRecord) → samePlace place other ≡ false
-      → sizeAt other (raiseAt place size ss) ≡ sizeAt other ss
-  unfolding raiseAt sizeAt
+      → sizeRecorded other (raiseAt place size ss) ≡ sizeRecorded other ss
+  unfolding raiseAt sizeRecorded
   size-beside other [] n = refl
   size-beside other (s ∷ ss) n =
       by-test (samePlace (s .bind) place)
       (λ t. let e = same-place-eq (s .bind) place t in let q : samePlace (s .bind) other ≡ false = rw e n in rw (t, q))
       (λ f. by-test (samePlace (s .bind) other) (λ t. rw (f, t)) (λ g. rw (f, g, size-beside other ss n)))
 
-size-none : (place : ResourceBinding) (ss : List SizeRecord) → sizeHas place ss ≡ false → sizeAt place ss ≡ 0
-unfolding sizeAt placeIn
+size-none : (place : ResourceBinding) (ss : List SizeRecord) → sizeHas place ss ≡ false → sizeRecorded place ss ≡ 0
+unfolding sizeRecorded placeIn
 size-none place [] h = refl
 size-none place (s ∷ ss) h =
     let n = found-not (samePlace (s .bind) place) (sizeHas place ss) h in
     rw (n .0, size-none place ss (n .1))
 
-size-last : (place : ResourceBinding) (size : ℕ) (ss : List SizeRecord) → sizeHas place ss ≡ false → sizeAt place (ss ++ (sizeRecord place size ∷ [])) ≡ size
-unfolding sizeAt placeIn
+size-last : (place : ResourceBinding) (size : ℕ) (ss : List SizeRecord) → sizeHas place ss ≡ false → sizeRecorded place (ss ++ (sizeRecord place size ∷ [])) ≡ size
+unfolding sizeRecorded placeIn
 size-last place size [] h = rw (same-place-refl place)
 size-last place size (s ∷ ss) h =
     let n = found-not (samePlace (s .bind) place) (sizeHas place ss) h in
     rw (n .0, size-last place size ss (n .1))
 
 size-before : (place other : ResourceBinding) (size : ℕ) (ss : List SizeRecord) → samePlace place other ≡ false
-    → sizeAt other (ss ++ (sizeRecord place size ∷ [])) ≡ sizeAt other ss
-unfolding sizeAt
+    → sizeRecorded other (ss ++ (sizeRecord place size ∷ [])) ≡ sizeRecorded other ss
+unfolding sizeRecorded
 size-before place other size [] n = rw n
 size-before place other size (s ∷ ss) n =
     by-test (samePlace (s .bind) other) (λ t. rw t) (λ f. rw (f, size-before place other size ss n))
@@ -107,25 +107,25 @@ size-before place other size (s ∷ ss) n =
 
 module _ (place : ResourceBinding) (size : ℕ) (S : Sizes) where
   -- the size at the place is the largest recorded
-  pub recorded-size : sizeFits place S ≡ true → sizeAt place (recorded place size S .records) ≡ max (sizeAt place (S .records)) size
+  pub recorded-size : sizeFits place S ≡ true → sizeRecorded place (recorded place size S .records) ≡ max (sizeRecorded place (S .records)) size
   unfolding recorded
   recorded-size h =
       by-test (sizeHas place (S .records))
       (λ t. rw t (size-raised place size (S .records) t))
       (λ f.
-      let r : fits 2 (S .room) ≡ true = rw f at h in
+      let r : roomFor 2 (S .room) ≡ true = rw f at h in
       rw (f, r, size-last place size (S .records) f, size-none place (S .records) f) (omega arith))
 
   -- other places are unchanged
-  pub recorded-beside : (other : ResourceBinding) → samePlace place other ≡ false → sizeAt other (recorded place size S .records) ≡ sizeAt other (S .records)
+  pub recorded-beside : (other : ResourceBinding) → samePlace place other ≡ false → sizeRecorded other (recorded place size S .records) ≡ sizeRecorded other (S .records)
   unfolding recorded
   recorded-beside other n =
       by-test (sizeHas place (S .records))
       (λ t. rw t (size-beside place size other (S .records) n))
-      (λ f. by-test (fits 2 (S .room)) (λ t. rw (f, t) (size-before place other size (S .records) n)) (λ g. rw (f, g)))
+      (λ f. by-test (roomFor 2 (S .room)) (λ t. rw (f, t) (size-before place other size (S .records) n)) (λ g. rw (f, g)))
 
   -- nothing is changed by a size that is not larger
-  pub recorded-again : sizeHas place (S .records) ≡ true → size ≤ sizeAt place (S .records) → recorded place size S ≡ S
+  pub recorded-again : sizeHas place (S .records) ≡ true → size ≤ sizeRecorded place (S .records) → recorded place size S ≡ S
   unfolding recorded
   recorded-again h k = rw (h, size-kept place size (S .records) k)
 
@@ -136,49 +136,49 @@ module _ (place : ResourceBinding) (size : ℕ) (S : Sizes) where
       by-test (sizeHas place (S .records))
       (λ t. rw (t, places-raised place size (S .records), t))
       (λ f.
-      let r : fits 2 (S .room) ≡ true = rw f at h in
+      let r : roomFor 2 (S .room) ≡ true = rw f at h in
       rw (f, r, map-append (λ (s : SizeRecord). s .bind) (S .records) (sizeRecord place size ∷ [])) (in-last (sizePlaces (S .records)) place))
 
 -- ---- the rules stay
 
-held-raised : (size : ℕ) (s : SizeRecord) → size < 2 ^ 27 → sizeHeld s ≡ true → sizeHeld (raised size s) ≡ true
-held-raised size s l h =
-    let p : placeHeld (s .bind) ≡ true = search first in
+encodable-raised : (size : ℕ) (s : SizeRecord) → size < 2 ^ 27 → sizeEncodable s ≡ true → sizeEncodable (raised size s) ≡ true
+encodable-raised size s l h =
+    let p : placeEncodable (s .bind) ≡ true = search first in
     let a : s .size < 2 ^ 27 = search (ltb-true, first, second) in
     let n : not (eqb (s .size) 0) ≡ true = search second in
     let z = eqb-false (s .size) 0 (not-true (eqb (s .size) 0) n) in
     rw (p, lt-ltb (max (s .size) size) (2 ^ 27) (omega arith), ne-eqb (max (s .size) size) 0 (λ e. z (omega arith)))
 
-every-raised : (place : ResourceBinding) (size : ℕ) (ss : List SizeRecord) → size < 2 ^ 27 → every sizeHeld ss ≡ true → every sizeHeld (raiseAt place size ss) ≡ true
+every-raised : (place : ResourceBinding) (size : ℕ) (ss : List SizeRecord) → size < 2 ^ 27 → every sizeEncodable ss ≡ true → every sizeEncodable (raiseAt place size ss) ≡ true
 unfolding raiseAt every
 every-raised place size [] l h = refl
 every-raised place size (s ∷ ss) l h =
-    let p = first-passes (sizeHeld s) (every sizeHeld ss) h in
-    let q = rest-passes (sizeHeld s) (every sizeHeld ss) h in
+    let p = first-passes (sizeEncodable s) (every sizeEncodable ss) h in
+    let q = rest-passes (sizeEncodable s) (every sizeEncodable ss) h in
     by-test (samePlace (s .bind) place)
-    (λ t. rw (t, held-raised size s l p, q))
+    (λ t. rw (t, encodable-raised size s l p, q))
     (λ f. rw (f, p, every-raised place size ss l q))
 
-pub good-recorded : (place : ResourceBinding) (size : ℕ) (S : Sizes) → sizesGood S ≡ true → placeHeld place ≡ true → 1 ≤ size → size < 2 ^ 27
+pub good-recorded : (place : ResourceBinding) (size : ℕ) (S : Sizes) → sizesGood S ≡ true → placeEncodable place ≡ true → 1 ≤ size → size < 2 ^ 27
     → sizesGood (recorded place size S) ≡ true
 unfolding recorded
 good-recorded place size S h p o l =
     let g : Good S = good S h in
-    let r : sizeHeld (sizeRecord place size) ≡ true = rw (p, lt-ltb size (2 ^ 27) l, ne-eqb size 0 (λ e. omega arith)) in
+    let r : sizeEncodable (sizeRecord place size) ≡ true = rw (p, lt-ltb size (2 ^ 27) l, ne-eqb size 0 (λ e. omega arith)) in
     by-test (sizeHas place (S .records))
     (λ t. rw t
     (is-good (record { records = raiseAt place size (S .records); room = S .room })
     (record {
       short = omega (arith, g .short, length-raised place size (S .records));
-      held = every-raised place size (S .records) l (g .held);
+      encodable = every-raised place size (S .records) l (g .encodable);
       distinct = rw (places-raised place size (S .records)) (g .distinct);
     })))
-    (λ f. by-test (fits 2 (S .room))
+    (λ f. by-test (roomFor 2 (S .room))
     (λ t. rw (f, t)
     (is-good (record { records = S .records ++ (sizeRecord place size ∷ []); room = drop 2 (S .room) })
     (record {
       short = omega (arith, g .short, leb-true 2 (length (S .room)) t, length-append (S .records) (sizeRecord place size ∷ []), length-drop 2 (S .room));
-      held = every-more sizeHeld (S .records) (sizeRecord place size) (g .held) r;
+      encodable = every-more sizeEncodable (S .records) (sizeRecord place size) (g .encodable) r;
       distinct = distinct-last (λ (s : SizeRecord). s .bind) (S .records) (sizeRecord place size) (g .distinct) f;
     })))
     (λ n. rw (f, n) h))

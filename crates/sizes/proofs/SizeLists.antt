@@ -11,42 +11,42 @@ use Rattle.word.proofs.Truth.{first, second}
 use Rattle.sizes.specs.Meaning.{Sizes, distinctSizes}
 use Rattle.word.specs.Lists.{every}
 use Rattle.places.specs.Records.{each, countOf, records}
-use Rattle.sizes.specs.Format.{readSize, sizeGood, sizeWords, sizeHeld, readSizes, sizesHead, sizesFiled, decodeSizes, encodeSizes, sizesGood}
+use Rattle.sizes.specs.Format.{readSize, sizeGood, sizeRecordWords, sizeEncodable, readSizes, sizesHead, sizesWellFormed, decodeSizes, encodeSizes, sizesGood}
 use Rattle.places.proofs.Records.{Joined, Carried, read-length, room-length, flat-read, every-read, carried}
 use Rattle.places.proofs.Words.{two}
 use lib.Dec.{eqb}
-use Rattle.bindings.specs.Format.{placeHeld, sizeFiled}
-use Rattle.bindings.proofs.ReadLaws.{place-held}
-use Rattle.bindings.proofs.EntryFormat.{place-filed, place-read, place-back}
+use Rattle.bindings.specs.Format.{placeEncodable, sizeWellFormed}
+use Rattle.bindings.proofs.ReadLaws.{place-encodable}
+use Rattle.bindings.proofs.EntryFormat.{place-well-formed, place-read, place-back}
 use Rattle.sizes.specs.declared.size_record.SizeRecord.{SizeRecord}
 
 -- ---- the two words of a record
 
-pub size-written : (w : ℕ) → sizeFiled w ≡ true → ofKind 6 (contentOf w) ≡ w
+pub size-written : (w : ℕ) → sizeWellFormed w ≡ true → ofKind 6 (contentOf w) ≡ w
 size-written w h = let k : kindOf w ≡ 6 = search (eqb-true, first) in omega arith
 
-size-kept : (ws : List ℕ) → sizeGood ws ≡ true → sizeHeld (readSize ws) ≡ true
+size-kept : (ws : List ℕ) → sizeGood ws ≡ true → sizeEncodable (readSize ws) ≡ true
 size-kept ws h =
     let n : not (eqb (contentOf (wordAt ws 1)) 0) ≡ true = search second in
-    rw (place-held (wordAt ws 0), lt-ltb (contentOf (wordAt ws 1)) (2 ^ 27) (omega arith), n)
+    rw (place-encodable (wordAt ws 0), lt-ltb (contentOf (wordAt ws 1)) (2 ^ 27) (omega arith), n)
 
-size-again : (s : SizeRecord) (ws : List ℕ) → sizeHeld s ≡ true → readSize (sizeWords s ++ ws) ≡ s
+size-again : (s : SizeRecord) (ws : List ℕ) → sizeEncodable s ≡ true → readSize (sizeRecordWords s ++ ws) ≡ s
 size-again s ws h =
-    let p : placeHeld (s .bind) ≡ true = search first in
+    let p : placeEncodable (s .bind) ≡ true = search first in
     let l : s .size < 2 ^ 27 = search (ltb-true, first, second) in
     let c : contentOf (ofKind 6 (s .size)) ≡ s .size = omega arith in
     rw (place-read (s .bind) p, c)
 
-size-passed : (s : SizeRecord) (ws : List ℕ) → sizeHeld s ≡ true → sizeGood (sizeWords s ++ ws) ≡ true
+size-passed : (s : SizeRecord) (ws : List ℕ) → sizeEncodable s ≡ true → sizeGood (sizeRecordWords s ++ ws) ≡ true
 size-passed s ws h =
-    let p : placeHeld (s .bind) ≡ true = search first in
+    let p : placeEncodable (s .bind) ≡ true = search first in
     let l : s .size < 2 ^ 27 = search (ltb-true, first, second) in
     let n : not (eqb (s .size) 0) ≡ true = search second in
     let c : contentOf (ofKind 6 (s .size)) ≡ s .size = omega arith in
     let k : kindOf (ofKind 6 (s .size)) ≡ 6 = omega arith in
-    rw (place-filed (s .bind) p, k, c, n)
+    rw (place-well-formed (s .bind) p, k, c, n)
 
-pub size-form : Joined 2 readSize sizeWords sizeGood sizeHeld
+pub size-form : Joined 2 readSize sizeRecordWords sizeGood sizeEncodable
 size-form =
     record {
       wide = λ s. refl;
@@ -58,7 +58,7 @@ size-form =
 
 -- ---- what well-formed words say
 
-pub record Filed (ws : List ℕ) : Type 0 where
+pub record WellFormed (ws : List ℕ) : Type 0 where
   pub short : length ws ≤ 1024
   pub kind : kindOf (wordAt ws 0) ≡ 20
   pub rest : bits 26 16 (wordAt ws 0) ≡ 0
@@ -66,9 +66,9 @@ pub record Filed (ws : List ℕ) : Type 0 where
   pub good : each 2 sizeGood (countOf ws) (drop 1 ws) ≡ true
   pub distinct : distinctSizes (readSizes (countOf ws) (drop 1 ws)) ≡ true
 
-pub filed : (ws : List ℕ) → sizesFiled ws ≡ true → Filed ws
-unfolding sizesFiled sizesHead
-filed ws h =
+pub well-formed : (ws : List ℕ) → sizesWellFormed ws ≡ true → WellFormed ws
+unfolding sizesWellFormed sizesHead
+well-formed ws h =
     record {
       short = search (leb-true, first);
       kind = search (eqb-true, first, second);
@@ -80,39 +80,39 @@ filed ws h =
 
 pub record Good (S : Sizes) : Type 0 where
   pub short : 1 + 2 * length (S .records) + length (S .room) ≤ 1024
-  pub held : every sizeHeld (S .records) ≡ true
+  pub encodable : every sizeEncodable (S .records) ≡ true
   pub distinct : distinctSizes (S .records) ≡ true
 
 pub good : (S : Sizes) → sizesGood S ≡ true → Good S
 unfolding sizesGood
-good S h = record { short = search (leb-true, first); held = search (first, second); distinct = search second }
+good S h = record { short = search (leb-true, first); encodable = search (first, second); distinct = search second }
 
 pub is-good : (S : Sizes) → Good S → sizesGood S ≡ true
 unfolding sizesGood
-is-good S g = rw (le-leb (1 + 2 * length (S .records) + length (S .room)) 1024 (g .short), g .held, g .distinct)
+is-good S g = rw (le-leb (1 + 2 * length (S .records) + length (S .room)) 1024 (g .short), g .encodable, g .distinct)
 
 -- ---- there and back
 
-pub encode-decode : (ws : List ℕ) → sizesFiled ws ≡ true → encodeSizes (decodeSizes ws) ≡ ws
+pub encode-decode : (ws : List ℕ) → sizesWellFormed ws ≡ true → encodeSizes (decodeSizes ws) ≡ ws
 unfolding encodeSizes decodeSizes countOf
-encode-decode [] h = absurd (omega (arith, filed [] h .kind))
+encode-decode [] h = absurd (omega (arith, well-formed [] h .kind))
 encode-decode (w ∷ ws) h =
-    let f : Filed (w ∷ ws) = filed (w ∷ ws) h in
+    let f : WellFormed (w ∷ ws) = well-formed (w ∷ ws) h in
     let k : kindOf w ≡ 20 = f .kind in
     let z : bits 26 16 w ≡ 0 = f .rest in
     let head : ofKind 20 (bits 15 0 w) ≡ w = omega arith in
     rw (read-length 2 readSize (bits 15 0 w) ws, head, flat-read size-form (bits 15 0 w) ws (omega (arith, f .holds)) (f .good))
 
-pub good-decode : (ws : List ℕ) → sizesFiled ws ≡ true → sizesGood (decodeSizes ws) ≡ true
+pub good-decode : (ws : List ℕ) → sizesWellFormed ws ≡ true → sizesGood (decodeSizes ws) ≡ true
 unfolding decodeSizes countOf
-good-decode [] h = absurd (omega (arith, filed [] h .kind))
+good-decode [] h = absurd (omega (arith, well-formed [] h .kind))
 good-decode (w ∷ ws) h =
-    let f : Filed (w ∷ ws) = filed (w ∷ ws) h in
+    let f : WellFormed (w ∷ ws) = well-formed (w ∷ ws) h in
     let n = bits 15 0 w in
     is-good (decodeSizes (w ∷ ws))
     (record {
       short = omega (arith, f .short, f .holds, read-length 2 readSize n ws, room-length 2 n ws);
-      held = every-read size-form n ws (f .good);
+      encodable = every-read size-form n ws (f .good);
       distinct = f .distinct;
     })
 
@@ -131,7 +131,7 @@ module _ (S : Sizes) (h : sizesGood S ≡ true) where
 
   tail : Carried 2 readSize sizeGood (S .records) (S .room) (drop 1 (encodeSizes S))
   unfolding encodeSizes
-  tail = carried size-form (S .records) (S .room) (good S h .held)
+  tail = carried size-form (S .records) (S .room) (good S h .encodable)
 
   words-length : length (encodeSizes S) ≡ 1 + 2 * length (S .records) + length (S .room)
   unfolding encodeSizes
@@ -141,9 +141,9 @@ module _ (S : Sizes) (h : sizesGood S ≡ true) where
   unfolding decodeSizes
   decode-encode = rw (head-count, tail .again, tail .rest)
 
-  pub filed-encode : sizesFiled (encodeSizes S) ≡ true
-  unfolding sizesFiled sizesHead
-  filed-encode =
+  pub well-formed-encode : sizesWellFormed (encodeSizes S) ≡ true
+  unfolding sizesWellFormed sizesHead
+  well-formed-encode =
       let g : Good S = good S h in
       rw (
         head-count,

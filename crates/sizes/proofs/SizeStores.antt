@@ -8,29 +8,29 @@ use lib.ListN.{length, drop, getD, set}
 use lib.Dec.{eqb}
 use borrow.Author.Tests.{eqb-true, eqb-false, not-true}
 use Rattle.word.specs.Words.{wordAt, kindOf, contentOf, bits, ofKind}
-use Rattle.bindings.specs.Format.{placeFiled, placeOf, sizeFiled}
+use Rattle.bindings.specs.Format.{placeWellFormed, placeOf, sizeWellFormed}
 use Rattle.word.specs.Lists.{flat}
 use Rattle.bindings.specs.declared.types.ResourceBinding.{ResourceBinding}
-use Rattle.bindings.proofs.ReadLaws.{place-held}
+use Rattle.bindings.proofs.ReadLaws.{place-encodable}
 use Rattle.bindings.proofs.EntryFormat.{place-back}
 use Rattle.word.proofs.Truth.{first, second}
 use Rattle.sizes.specs.Meaning.{sizePlaces, sizeHas, sizeRecord, sizeFits, recorded}
 use Rattle.places.specs.Places.{foundBelow, placeFrom, distinctPlaces, places}
-use Rattle.places.specs.Records.{fits, put, past, each, countOf, records}
-use Rattle.sizes.specs.Format.{readSize, readSizes, sizeGood, sizeWords, sizesFiled, decodeSizes, encodeSizes, sizesGood}
+use Rattle.places.specs.Records.{roomFor, put, past, each, countOf, records}
+use Rattle.sizes.specs.Format.{readSize, readSizes, sizeGood, sizeRecordWords, sizesWellFormed, decodeSizes, encodeSizes, sizesGood}
 use Rattle.sizes.specs.declared.size_record.SizeRecord.{SizeRecord}
 use Rattle.places.specs.declared.found.Found.{Found}
 use Rattle.places.specs.declared.found.Found.the-variants.{At, Nothing}
 use Rattle.places.proofs.Words.{there}
 use Rattle.places.proofs.Records.{read-length, room-lacks, room-fits, nth-record, each-nth, put-more, count-more, set-read}
 use Rattle.places.proofs.PlaceWays.{place-found, place-lacks, found-inside}
-use Rattle.sizes.proofs.SizeLists.{size-written, size-form, Filed, filed, encode-decode, decode-encode, filed-encode, good-decode}
+use Rattle.sizes.proofs.SizeLists.{size-written, size-form, WellFormed, well-formed, encode-decode, decode-encode, well-formed-encode, good-decode}
 use Rattle.sizes.proofs.SizeLaws.{raised, noRecord, raised-set, length-raised, good-recorded}
 use Rattle.sizes.proofs.SizeWays.{size-places}
 
 -- no two records have one place
-pub sizes-differ : (s : List ℕ) (n : ℕ) → sizesFiled s ≡ true → n ≡ countOf s → distinctPlaces (places 2 n (drop 1 s)) ≡ true
-sizes-differ s n f e = rw e (rw (size-places (countOf s) (drop 1 s)) at (filed s f .distinct))
+pub sizes-differ : (s : List ℕ) (n : ℕ) → sizesWellFormed s ≡ true → n ≡ countOf s → distinctPlaces (places 2 n (drop 1 s)) ≡ true
+sizes-differ s n f e = rw e (rw (size-places (countOf s) (drop 1 s)) at (well-formed s f .distinct))
 
 -- ---- where the place is
 
@@ -53,39 +53,39 @@ module _ (s : List ℕ) (place : ResourceBinding) (n : ℕ) (r : Found) (en : n 
     size-fits = rw size-has
 
 -- the words of a record that was found
-module _ (s : List ℕ) (n i : ℕ) (r : Found) (f : sizesFiled s ≡ true) (en : n ≡ countOf s) (b : foundBelow n r ≡ true) (h : r ≡ At i) where
+module _ (s : List ℕ) (n i : ℕ) (r : Found) (f : sizesWellFormed s ≡ true) (en : n ≡ countOf s) (b : foundBelow n r ≡ true) (h : r ≡ At i) where
   pub index-inside : 2 * i + 2 < length s
-  index-inside = omega (arith, filed s f .holds, found-inside n i r b h)
+  index-inside = omega (arith, well-formed s f .holds, found-inside n i r b h)
 
   pub index-scaled : 2 * i < 2 ^ 64
-  index-scaled = omega (arith, index-inside, filed s f .short)
+  index-scaled = omega (arith, index-inside, well-formed s f .short)
 
   pub index-placed : 2 * i + 2 < 2 ^ 64
-  index-placed = omega (arith, index-inside, filed s f .short)
+  index-placed = omega (arith, index-inside, well-formed s f .short)
 
   pub index-next : (m : ℕ) → 2 ^ 16 ≤ m → i + 1 < m
-  index-next m k = omega (arith, index-inside, filed s f .short)
+  index-next m k = omega (arith, index-inside, well-formed s f .short)
 
 -- ---- a record raised
 
 raised-tail : (n i size : ℕ) (ws : List ℕ) → 2 * n ≤ length ws → each 2 sizeGood n ws ≡ true → i < n
     → set ws (2 * i + 1) (ofKind 6 (max (contentOf (wordAt ws (2 * i + 1))) size))
-    ≡ flat sizeWords (set (readSizes n ws) i (raised size (getD (readSizes n ws) i noRecord))) ++ past 2 n ws
+    ≡ flat sizeRecordWords (set (readSizes n ws) i (raised size (getD (readSizes n ws) i noRecord))) ++ past 2 n ws
 raised-tail n i size ws h t k =
     let ss = readSizes n ws in
     let v = ofKind 6 (max (contentOf (wordAt ws (2 * i + 1))) size) in
     let z : getD ss i noRecord .size ≡ contentOf (wordAt ws (2 * i + 1))
     = ap (λ (x : SizeRecord). x .size) (nth-record 2 readSize n i ws noRecord k) ∙ rw (there ws (2 * i) 1) in
-    let c : sizeWords (raised size (getD ss i noRecord)) ≡ set (sizeWords (getD ss i noRecord)) 1 v = rw z in
+    let c : sizeRecordWords (raised size (getD ss i noRecord)) ≡ set (sizeRecordWords (getD ss i noRecord)) 1 v = rw z in
     set-read size-form n i 1 v ws (raised size (getD ss i noRecord)) noRecord h t k (omega arith) c
 
-raised-words : (s : List ℕ) (place : ResourceBinding) (i size : ℕ) → sizesFiled s ≡ true → placeFrom place (sizePlaces (decodeSizes s .records)) 0 ≡ At i
+raised-words : (s : List ℕ) (place : ResourceBinding) (i size : ℕ) → sizesWellFormed s ≡ true → placeFrom place (sizePlaces (decodeSizes s .records)) 0 ≡ At i
     → i < countOf s → sizeHas place (decodeSizes s .records) ≡ true
     → set s (2 * i + 2) (ofKind 6 (max (contentOf (wordAt s (2 * i + 2))) size)) ≡ encodeSizes (recorded place size (decodeSizes s))
 unfolding encodeSizes decodeSizes recorded countOf
-raised-words [] place i size f e k has = absurd (omega (arith, filed [] f .kind))
+raised-words [] place i size f e k has = absurd (omega (arith, well-formed [] f .kind))
 raised-words (w ∷ ws) place i size f e k has =
-    let t : Filed (w ∷ ws) = filed (w ∷ ws) f in
+    let t : WellFormed (w ∷ ws) = well-formed (w ∷ ws) f in
     let n = bits 15 0 w in
     let q : kindOf w ≡ 20 = t .kind in
     let y : bits 26 16 w ≡ 0 = t .rest in
@@ -104,14 +104,14 @@ raised-words (w ∷ ws) place i size f e k has =
       raised-tail n i size ws (omega (arith, t .holds)) (t .good) k,
     )
 
-size-kind : (s : List ℕ) (i : ℕ) → sizesFiled s ≡ true → i < countOf s → kindOf (wordAt s (2 * i + 2)) ≡ 6
+size-kind : (s : List ℕ) (i : ℕ) → sizesWellFormed s ≡ true → i < countOf s → kindOf (wordAt s (2 * i + 2)) ≡ 6
 size-kind s i f k =
-    let g : sizeGood (drop (2 * i) (drop 1 s)) ≡ true = each-nth 2 sizeGood (countOf s) i (drop 1 s) (filed s f .good) k in
+    let g : sizeGood (drop (2 * i) (drop 1 s)) ≡ true = each-nth 2 sizeGood (countOf s) i (drop 1 s) (well-formed s f .good) k in
     let q : kindOf (wordAt (drop (2 * i) (drop 1 s)) 1) ≡ 6 = search (eqb-true, first, second) in
     let z : 1 + (2 * i + 1) ≡ 2 * i + 2 = omega arith in
     rw (there (drop 1 s) (2 * i) 1, there s 1 (2 * i + 1), z) at q
 
-pub size-raised : (s s′ : List ℕ) (p z n i : ℕ) (r : Found) → sizesFiled s ≡ true → sizeFiled z ≡ true → n ≡ countOf s
+pub size-raised : (s s′ : List ℕ) (p z n i : ℕ) (r : Found) → sizesWellFormed s ≡ true → sizeWellFormed z ≡ true → n ≡ countOf s
     → r ≡ placeFrom (placeOf p) (places 2 n (drop 1 s)) 0 → foundBelow n r ≡ true → r ≡ At i → s′ ≡ set s (2 * i + 2) (max (wordAt s (2 * i + 2)) z)
     → s′ ≡ encodeSizes (recorded (placeOf p) (contentOf z) (decodeSizes s))
 size-raised s s′ p z n i r f fz en er below h e =
@@ -121,14 +121,14 @@ size-raised s s′ p z n i r f fz en er below h e =
 
 -- ---- a new record
 
-module _ (s : List ℕ) (place : ResourceBinding) (size n : ℕ) (f : sizesFiled s ≡ true) (en : n ≡ countOf s) (new : sizeHas place (decodeSizes s .records) ≡ false) where
-  room-lacking : length s < 1 + 2 * n + 2 → fits 2 (decodeSizes s .room) ≡ false
+module _ (s : List ℕ) (place : ResourceBinding) (size n : ℕ) (f : sizesWellFormed s ≡ true) (en : n ≡ countOf s) (new : sizeHas place (decodeSizes s .records) ≡ false) where
+  room-lacking : length s < 1 + 2 * n + 2 → roomFor 2 (decodeSizes s .room) ≡ false
   unfolding decodeSizes
-  room-lacking h = room-lacks 1 2 (countOf s) s (filed s f .holds) (rw en at h)
+  room-lacking h = room-lacks 1 2 (countOf s) s (well-formed s f .holds) (rw en at h)
 
-  room-there : 1 + 2 * n + 2 ≤ length s → fits 2 (decodeSizes s .room) ≡ true
+  room-there : 1 + 2 * n + 2 ≤ length s → roomFor 2 (decodeSizes s .room) ≡ true
   unfolding decodeSizes
-  room-there h = room-fits 1 2 (countOf s) s (filed s f .holds) (rw en at h)
+  room-there h = room-fits 1 2 (countOf s) s (well-formed s f .holds) (rw en at h)
 
   pub push-lacks : length s < 1 + 2 * n + 2 → false ≡ sizeFits place (decodeSizes s)
   push-lacks h = rw (new, room-lacking h)
@@ -140,22 +140,22 @@ module _ (s : List ℕ) (place : ResourceBinding) (size n : ℕ) (f : sizesFiled
   unfolding recorded
   push-refused h = rw (new, room-lacking h) (sym (encode-decode s f))
 
-pub head-there : (s : List ℕ) → sizesFiled s ≡ true → 1 ≤ length s
-head-there s f = omega (arith, filed s f .holds)
+pub head-there : (s : List ℕ) → sizesWellFormed s ≡ true → 1 ≤ length s
+head-there s f = omega (arith, well-formed s f .holds)
 
-pub records-within : (s : List ℕ) (n : ℕ) → sizesFiled s ≡ true → n ≡ countOf s → 1 + 2 * n ≤ length s
-records-within s n f e = omega (arith, filed s f .holds)
+pub records-within : (s : List ℕ) (n : ℕ) → sizesWellFormed s ≡ true → n ≡ countOf s → 1 + 2 * n ≤ length s
+records-within s n f e = omega (arith, well-formed s f .holds)
 
-pub head-more : (s : List ℕ) (w : ℕ) → sizesFiled s ≡ true → w ≡ wordAt s 0 → w + 1 < 2 ^ 32
-head-more s w f e = let k : kindOf w ≡ 20 = rw e (filed s f .kind) in omega arith
+pub head-more : (s : List ℕ) (w : ℕ) → sizesWellFormed s ≡ true → w ≡ wordAt s 0 → w + 1 < 2 ^ 32
+head-more s w f e = let k : kindOf w ≡ 20 = rw e (well-formed s f .kind) in omega arith
 
-pushed-words : (s : List ℕ) (place : ResourceBinding) (size : ℕ) → sizesFiled s ≡ true → 1 + 2 * countOf s + 2 ≤ length s
-    → set (put s (1 + 2 * countOf s) (sizeWords (sizeRecord place size))) 0 (wordAt s 0 + 1)
+pushed-words : (s : List ℕ) (place : ResourceBinding) (size : ℕ) → sizesWellFormed s ≡ true → 1 + 2 * countOf s + 2 ≤ length s
+    → set (put s (1 + 2 * countOf s) (sizeRecordWords (sizeRecord place size))) 0 (wordAt s 0 + 1)
     ≡ encodeSizes (record { records = decodeSizes s .records ++ (sizeRecord place size ∷ []); room = drop 2 (decodeSizes s .room) })
 unfolding encodeSizes decodeSizes countOf
 pushed-words [] place size f h = absurd (omega arith)
 pushed-words (w ∷ ws) place size f h =
-    let t : Filed (w ∷ ws) = filed (w ∷ ws) f in
+    let t : WellFormed (w ∷ ws) = well-formed (w ∷ ws) f in
     let k : kindOf w ≡ 20 = t .kind in
     let y : bits 26 16 w ≡ 0 = t .rest in
     let n = bits 15 0 w in
@@ -164,30 +164,30 @@ pushed-words (w ∷ ws) place size f h =
     let head : ofKind 20 (n + 1) ≡ w + 1 = omega arith in
     put-more size-form n ws fit (t .good) w (w + 1) (sizeRecord place size) ∙ rw (count-more size-form n ws fit (t .good) (sizeRecord place size), head)
 
-pub push-stored : (s s′ : List ℕ) (p z n w : ℕ) → sizesFiled s ≡ true → n ≡ countOf s → placeFiled p ≡ true → sizeFiled z ≡ true
+pub push-stored : (s s′ : List ℕ) (p z n w : ℕ) → sizesWellFormed s ≡ true → n ≡ countOf s → placeWellFormed p ≡ true → sizeWellFormed z ≡ true
     → sizeHas (placeOf p) (decodeSizes s .records) ≡ false → w ≡ wordAt s 0 → 1 + 2 * n + 2 ≤ length s → s′ ≡ put s (1 + 2 * n) (p ∷ z ∷ [])
     → set s′ 0 (w + 1) ≡ encodeSizes (recorded (placeOf p) (contentOf z) (decodeSizes s))
 unfolding recorded
 push-stored s s′ p z n w f en fp fz new ew h e =
-    let q : s′ ≡ put s (1 + 2 * countOf s) (sizeWords (sizeRecord (placeOf p) (contentOf z))) = rw (place-back p fp, size-written z fz, ← en) e in
+    let q : s′ ≡ put s (1 + 2 * countOf s) (sizeRecordWords (sizeRecord (placeOf p) (contentOf z))) = rw (place-back p fp, size-written z fz, ← en) e in
     rw (new, room-there s (placeOf p) (contentOf z) n f en new h, q, ew)
     (pushed-words s (placeOf p) (contentOf z) f (rw en at h))
 
 -- ---- what holds of the words after either
 
-module _ (s s′ : List ℕ) (p z : ℕ) (f : sizesFiled s ≡ true) (fz : sizeFiled z ≡ true)
+module _ (s s′ : List ℕ) (p z : ℕ) (f : sizesWellFormed s ≡ true) (fz : sizeWellFormed z ≡ true)
     (e : s′ ≡ encodeSizes (recorded (placeOf p) (contentOf z) (decodeSizes s))) where
   record-good : sizesGood (recorded (placeOf p) (contentOf z) (decodeSizes s)) ≡ true
   record-good =
       let n : contentOf z ≡ 0 → ⊥ = eqb-false (contentOf z) 0 (not-true (eqb (contentOf z) 0) (search second)) in
-      good-recorded (placeOf p) (contentOf z) (decodeSizes s) (good-decode s f) (place-held p) (omega arith) (omega arith)
+      good-recorded (placeOf p) (contentOf z) (decodeSizes s) (good-decode s f) (place-encodable p) (omega arith) (omega arith)
 
   pub record-decoded : decodeSizes s′ ≡ recorded (placeOf p) (contentOf z) (decodeSizes s)
   record-decoded = rw e (decode-encode (recorded (placeOf p) (contentOf z) (decodeSizes s)) record-good)
 
-  pub record-filed : sizesFiled s′ ≡ true
-  record-filed = rw e (filed-encode (recorded (placeOf p) (contentOf z) (decodeSizes s)) record-good)
+  pub record-well-formed : sizesWellFormed s′ ≡ true
+  record-well-formed = rw e (well-formed-encode (recorded (placeOf p) (contentOf z) (decodeSizes s)) record-good)
 
-pub raised-filed : (s s′ : List ℕ) (p z n i : ℕ) (r : Found) → sizesFiled s ≡ true → sizeFiled z ≡ true → n ≡ countOf s
-    → r ≡ placeFrom (placeOf p) (places 2 n (drop 1 s)) 0 → foundBelow n r ≡ true → r ≡ At i → s′ ≡ set s (2 * i + 2) (max (wordAt s (2 * i + 2)) z) → sizesFiled s′ ≡ true
-raised-filed s s′ p z n i r f fz en er below h e = record-filed s s′ p z f fz (size-raised s s′ p z n i r f fz en er below h e)
+pub raised-well-formed : (s s′ : List ℕ) (p z n i : ℕ) (r : Found) → sizesWellFormed s ≡ true → sizeWellFormed z ≡ true → n ≡ countOf s
+    → r ≡ placeFrom (placeOf p) (places 2 n (drop 1 s)) 0 → foundBelow n r ≡ true → r ≡ At i → s′ ≡ set s (2 * i + 2) (max (wordAt s (2 * i + 2)) z) → sizesWellFormed s′ ≡ true
+raised-well-formed s s′ p z n i r f fz en er below h e = record-well-formed s s′ p z f fz (size-raised s s′ p z n i r f fz en er below h e)

@@ -9,7 +9,7 @@ use lib.ListN.{length, drop, set}
 use lib.Seq.{set-getD}
 use borrow.Author.Tests.{eq-eqb, ne-eqb, not-false, leb-true}
 use Rattle.word.specs.Words.{wordAt, kindOf, bits}
-use Rattle.bindings.specs.Format.{sizeFiled}
+use Rattle.bindings.specs.Format.{sizeWellFormed}
 use Rattle.word.proofs.Truth.{second}
 use Rattle.places.specs.Places.{distinctPlaces, places}
 use Rattle.sizes.specs.Meaning.{distinctSizes, sizePlaces}
@@ -33,7 +33,7 @@ module _ (l : List ℕ) (at : ℕ) where
   pub size-no-place : (kindOf (wordAt l at) ≡ 4 → ⊥) → false ≡ sizeGood (drop at l)
   size-no-place h = rw (here l at, ne-eqb (kindOf (wordAt l at)) 4 h)
 
-  pub size-is : (r : Bool) → kindOf (wordAt l at) ≡ 4 → r ≡ sizeFiled (wordAt l (at + 1)) → r ≡ sizeGood (drop at l)
+  pub size-is : (r : Bool) → kindOf (wordAt l at) ≡ 4 → r ≡ sizeWellFormed (wordAt l (at + 1)) → r ≡ sizeGood (drop at l)
   size-is r h g = rw (here l at, there l at 1, eq-eqb (kindOf (wordAt l at)) 4 h) g
 
 -- ---- places

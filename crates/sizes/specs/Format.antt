@@ -5,7 +5,7 @@ use mathlib.Core.List.{List, [], _∷_, _++_}
 use lib.Dec.{eqb, leb, ltb}
 use lib.ListN.{length, drop}
 use Rattle.word.specs.Words.{wordAt, kindOf, contentOf, bits, ofKind}
-use Rattle.bindings.specs.Format.{placeFiled, placeWord, placeHeld, sizeFiled, sizeLimit}
+use Rattle.bindings.specs.Format.{placeWellFormed, placeWord, placeEncodable, sizeWellFormed, sizeLimit}
 use Rattle.places.specs.Records.{shortEnough, countOf, past, records, each, mostListWords}
 use Rattle.word.specs.Lists.{every, flat}
 use Rattle.places.specs.Places.{readPlace}
@@ -18,11 +18,11 @@ readSize ws = record { bind = readPlace ws; size = contentOf (wordAt ws 1) }
 
 -- 'size (at least 1)'
 abbrev pub sizeGood : List ℕ → Bool
-sizeGood ws = placeFiled (wordAt ws 0) && sizeFiled (wordAt ws 1)
+sizeGood ws = placeWellFormed (wordAt ws 0) && sizeWellFormed (wordAt ws 1)
 
 -- the two words of a record
-abbrev pub sizeWords : SizeRecord → List ℕ
-sizeWords s = placeWord (s .bind) ∷ ofKind 6 (s .size) ∷ []
+abbrev pub sizeRecordWords : SizeRecord → List ℕ
+sizeRecordWords s = placeWord (s .bind) ∷ ofKind 6 (s .size) ∷ []
 
 -- as many records
 abbrev pub readSizes : ℕ → List ℕ → List SizeRecord
@@ -33,8 +33,8 @@ unfoldable pub sizesHead : List ℕ → Bool
 sizesHead ws = eqb (kindOf (wordAt ws 0)) 20 && (eqb (bits 26 16 (wordAt ws 0)) 0 && leb (1 + sizeRecordWidth * countOf ws) (length ws))
 
 -- words are a size list
-unfoldable pub sizesFiled : List ℕ → Bool
-sizesFiled ws =
+unfoldable pub sizesWellFormed : List ℕ → Bool
+sizesWellFormed ws =
     shortEnough ws && (sizesHead ws && (each sizeRecordWidth sizeGood (countOf ws) (drop 1 ws) && distinctSizes (readSizes (countOf ws) (drop 1 ws))))
 
 -- the sizes that words carry, free room behind them
@@ -43,13 +43,13 @@ decodeSizes ws = record { records = readSizes (countOf ws) (drop 1 ws); room = p
 
 -- the words that carry sizes
 unfoldable pub encodeSizes : Sizes → List ℕ
-encodeSizes S = ofKind 20 (length (S .records)) ∷ (flat sizeWords (S .records) ++ S .room)
+encodeSizes S = ofKind 20 (length (S .records)) ∷ (flat sizeRecordWords (S .records) ++ S .room)
 
 -- what a size list can hold of a record: the same rules, over its meaning
-abbrev pub sizeHeld : SizeRecord → Bool
-sizeHeld s = placeHeld (s .bind) && (ltb (s .size) sizeLimit && not (eqb (s .size) 0))
+abbrev pub sizeEncodable : SizeRecord → Bool
+sizeEncodable s = placeEncodable (s .bind) && (ltb (s .size) sizeLimit && not (eqb (s .size) 0))
 
 -- and of the sizes as a whole
 unfoldable pub sizesGood : Sizes → Bool
 sizesGood S =
-    leb (1 + sizeRecordWidth * length (S .records) + length (S .room)) mostListWords && (every sizeHeld (S .records) && distinctSizes (S .records))
+    leb (1 + sizeRecordWidth * length (S .records) + length (S .room)) mostListWords && (every sizeEncodable (S .records) && distinctSizes (S .records))

@@ -7,7 +7,7 @@ use lib.ListN.{length, drop}
 use Rattle.word.specs.Choice.{pick}
 use Rattle.bindings.specs.declared.types.ResourceBinding.{ResourceBinding}
 use Rattle.bindings.specs.Format.{sizeWidth}
-use Rattle.places.specs.Records.{fits}
+use Rattle.places.specs.Records.{roomFor}
 use Rattle.places.specs.Places.{samePlace, placeIn, distinctPlaces}
 use Rattle.sizes.specs.declared.size_record.SizeRecord.{SizeRecord}
 
@@ -29,9 +29,9 @@ abbrev pub distinctSizes : List SizeRecord → Bool
 distinctSizes ss = distinctPlaces (sizePlaces ss)
 
 -- the size recorded at a place, 0 where there is none
-unfoldable pub sizeAt : ResourceBinding → List SizeRecord → ℕ
-sizeAt place [] = 0
-sizeAt place (s ∷ ss) = let rest = sizeAt place ss in pick (samePlace (s .bind) place) (s .size) rest
+unfoldable pub sizeRecorded : ResourceBinding → List SizeRecord → ℕ
+sizeRecorded place [] = 0
+sizeRecorded place (s ∷ ss) = let rest = sizeRecorded place ss in pick (samePlace (s .bind) place) (s .size) rest
 
 -- the record at a place raised to the larger size
 unfoldable pub raiseAt : ResourceBinding → ℕ → List SizeRecord → List SizeRecord
@@ -54,10 +54,10 @@ sizeRecord place size = record { bind = place; size = size }
 
 -- 'record a buffer's larger size (5)': whether there is room for what has to be recorded
 abbrev pub sizeFits : ResourceBinding → Sizes → Bool
-sizeFits place S = pick (sizeHas place (S .records)) true (fits sizeRecordWidth (S .room))
+sizeFits place S = pick (sizeHas place (S .records)) true (roomFor sizeRecordWidth (S .room))
 
 -- the list with a size recorded: raised where the place has a record, else a new one where there is room
 unfoldable pub recorded : ResourceBinding → ℕ → Sizes → Sizes
 recorded place size S =
     pick (sizeHas place (S .records)) (record { records = raiseAt place size (S .records); room = S .room })
-    (pick (fits sizeRecordWidth (S .room)) (record { records = S .records ++ (sizeRecord place size ∷ []); room = drop sizeRecordWidth (S .room) }) S)
+    (pick (roomFor sizeRecordWidth (S .room)) (record { records = S .records ++ (sizeRecord place size ∷ []); room = drop sizeRecordWidth (S .room) }) S)

@@ -4,10 +4,10 @@ ghost use mathlib.Core.Bool.{true, false};
 ghost use Prim.Native.Nat.{_+_, _*_, _<_, _≤_, max};
 ghost use lib.ListN.{length, drop, set};
 ghost use Rattle.word.specs.Words.{contentOf, wordAt};
-ghost use Rattle.bindings.specs.Format.{placeFiled, placeOf, sizeFiled};
+ghost use Rattle.bindings.specs.Format.{placeWellFormed, placeOf, sizeWellFormed};
 ghost use Rattle.sizes.specs.Meaning.{sizeHas, sizeFits, recorded};
 ghost use Rattle.places.specs.Records.{countOf, each};
-ghost use Rattle.sizes.specs.Format.{sizeGood, sizesHead, sizesFiled, decodeSizes, encodeSizes};
+ghost use Rattle.sizes.specs.Format.{sizeGood, sizesHead, sizesWellFormed, decodeSizes, encodeSizes};
 use places::found::Found;
 use places::heads::counted;
 use places::places::distinct_places;
@@ -59,8 +59,8 @@ fn sizes_good(l: &[u32]) -> bool
 }
 
 // Whether words are a size list.
-pub fn sizes_filed(l: &[u32]) -> bool
-    ensures { λ r. ⌜ r ≡ sizesFiled (now (l .entry)) ⌝ }
+pub fn sizes_well_formed(l: &[u32]) -> bool
+    ensures { λ r. ⌜ r ≡ sizesWellFormed (now (l .entry)) ⌝ }
 {
     if 1024 < l.len() {
         return false;
@@ -76,8 +76,8 @@ pub fn sizes_filed(l: &[u32]) -> bool
 
 // A new record at the end, or nothing where the free room is too small.
 fn push_size(s: &mut [u32], place: u32, size: u32) -> bool
-    requires { ⌜ sizesFiled (now s) ≡ true ⌝ }
-    requires { ⌜ (placeFiled place ≡ true) × (sizeFiled size ≡ true) ⌝ }
+    requires { ⌜ sizesWellFormed (now s) ≡ true ⌝ }
+    requires { ⌜ (placeWellFormed place ≡ true) × (sizeWellFormed size ≡ true) ⌝ }
     requires { ⌜ sizeHas (placeOf place) (decodeSizes (now s) .records) ≡ false ⌝ }
     ensures { λ r. ⌜ r ≡ sizeFits (placeOf place) (decodeSizes (now (s .entry))) ⌝ }
     ensures { λ r. ⌜ now (s .exit) ≡ encodeSizes (recorded (placeOf place) (contentOf size) (decodeSizes (now (s .entry)))) ⌝ }
@@ -111,12 +111,12 @@ fn noted(next: &[u16; 1]) -> u16 {
 // A size recorded at a place, by the words of both: the larger where the place has a record, else a new one where there is room.
 // Records mostly stand in the order in which they are asked for: the position behind the last is noted and tried first.
 pub fn record_words(s: &mut [u32], place: u32, size: u32, next: &mut [u16; 1]) -> bool
-    requires { ⌜ sizesFiled (now s) ≡ true ⌝ }
-    requires { ⌜ (placeFiled place ≡ true) × (sizeFiled size ≡ true) ⌝ }
+    requires { ⌜ sizesWellFormed (now s) ≡ true ⌝ }
+    requires { ⌜ (placeWellFormed place ≡ true) × (sizeWellFormed size ≡ true) ⌝ }
     ensures { λ r. ⌜ r ≡ sizeFits (placeOf place) (decodeSizes (now (s .entry))) ⌝ }
     ensures { λ r. ⌜ now (s .exit) ≡ encodeSizes (recorded (placeOf place) (contentOf size) (decodeSizes (now (s .entry)))) ⌝ }
     ensures { λ r. ⌜ decodeSizes (now (s .exit)) ≡ recorded (placeOf place) (contentOf size) (decodeSizes (now (s .entry))) ⌝ }
-    ensures { λ r. ⌜ sizesFiled (now (s .exit)) ≡ true ⌝ }
+    ensures { λ r. ⌜ sizesWellFormed (now (s .exit)) ≡ true ⌝ }
 {
     match find_near(s, counted(s), 2, content(place), noted(next) as usize) {
         Found::At { index } => {

@@ -15,10 +15,10 @@ use Rattle.word.proofs.Truth.{first, second}
 use Rattle.layouts.specs.Meaning.{Layout}
 use Rattle.sizes.specs.Meaning.{Sizes}
 use Rattle.word.specs.Lists.{every}
-use Rattle.layouts.specs.Format.{layoutFiled}
-use Rattle.sizes.specs.Format.{sizesFiled}
-use Rattle.stage_lists.specs.Format.{outFiled}
-use Rattle.interface.specs.Meaning.{EntryPoint, Interface, entryNth}
+use Rattle.layouts.specs.Format.{layoutWellFormed}
+use Rattle.sizes.specs.Format.{sizesWellFormed}
+use Rattle.stage_lists.specs.Format.{outWellFormed}
+use Rattle.interface.specs.Meaning.{EntryPoint, Interface, entryPointNth}
 use Rattle.interface.specs.Format.{decode, decodedNumber, stageAt, contents, pairsOf, interfaceOf}
 use Rattle.interface.specs.inner.Reads.{standing}
 use Rattle.interface.specs.inner.Parts.{Placed, Offsets}
@@ -29,20 +29,20 @@ use Rattle.interface.specs.declared.types.EntryParts.{EntryParts}
 use Rattle.interface.specs.declared.types.ShaderStage.{ShaderStage}
 use Rattle.output_steps.specs.inner.Summary.{summaryOf}
 use Rattle.output_steps.specs.inner.Given.{Summed}
-use Rattle.output_steps.specs.inner.ListOut.{outputHeld}
+use Rattle.output_steps.specs.inner.ListOut.{outputEncodable}
 use Rattle.output_steps.specs.declared.types.Request.{Request}
 use Rattle.output_steps.specs.declared.types.Summary.{Summary}
 use Rattle.stage.specs.declared.types.Codes.{Codes}
 use Rattle.stage.specs.Meaning.{Lent, Call, Outcome, outcome}
 use Rattle.resource_steps.specs.Meaning.{state}
 use Rattle.resource_steps.specs.Resources.{provideResult, provideSteps, deriveResult, deriveSteps, resourceSteps}
-use Rattle.resource_steps.specs.inner.Given.{resourceTable, eachHeld, eachBelow}
+use Rattle.resource_steps.specs.inner.Given.{resourceTable, eachEncodable, eachBelow}
 use Rattle.stage.specs.inner.Given.{Named, Given}
 use Rattle.stage.specs.inner.Judging.{bindingSteps}
 use Rattle.stage.specs.Stage.{pairStep, listsGood, requestOf, derivedOf, outWords, runBody, onEntryPoint, onChosen, onNamed}
 use Rattle.stage.proofs.JudgeLaws.{pairs-standing}
 use Rattle.resource_steps.proofs.ResourceParts.{counted}
-use Rattle.stage.proofs.GivenLaws.{given-held, given-below, given-pairs, given-outputs}
+use Rattle.stage.proofs.GivenLaws.{given-encodable, given-below, given-pairs, given-outputs}
 
 -- ---- the resources of an entry point that stands at positions
 
@@ -86,10 +86,10 @@ module _ (ws : List ℕ) (p : EntryParts) (k n : ℕ) (ek : k ≡ wordAt ws (p .
 -- ---- the judgement, and the list out
 
 module _ (ws offsets : List ℕ) (i : Interface) (e : EntryPoint) (g : Given ws offsets i e) where
-  pub table-held : eachHeld (resourceTable ws offsets) ≡ true
-  table-held = rw (g .table) (g .named .held)
+  pub table-encodable : eachEncodable (resourceTable ws offsets) ≡ true
+  table-encodable = rw (g .table) (g .named .encodable)
 
-  pub table-outputs : every outputHeld (e .outputs) ≡ true
+  pub table-outputs : every outputEncodable (e .outputs) ≡ true
   table-outputs = g .named .outputs
 
 -- the pairs behind the resources
@@ -103,10 +103,10 @@ module _ (derived : Bool) (stage : ShaderStage) (i : Interface) (e : EntryPoint)
 
 -- ---- the entry point
 
-names-of : (ws : List ℕ) (k : ℕ) → decodedNumber (decode ws) ≡ 0 → Named (interfaceOf (decode ws)) (entryNth (interfaceOf (decode ws) .entries) k)
-names-of ws k z = record { held = given-held ws z; below = given-below ws z k; pairs = given-pairs ws z k; outputs = given-outputs ws z k }
+names-of : (ws : List ℕ) (k : ℕ) → decodedNumber (decode ws) ≡ 0 → Named (interfaceOf (decode ws)) (entryPointNth (interfaceOf (decode ws) .entries) k)
+names-of ws k z = record { encodable = given-encodable ws z; below = given-below ws z k; pairs = given-pairs ws z k; outputs = given-outputs ws z k }
 
-pub gives : (ws offsets : List ℕ) (p : EntryParts) (k : ℕ) → decodedNumber (decode ws) ≡ 0 → Offsets ws offsets → standing ws p ≡ entryNth (interfaceOf (decode ws) .entries) k
+pub gives : (ws offsets : List ℕ) (p : EntryParts) (k : ℕ) → decodedNumber (decode ws) ≡ 0 → Offsets ws offsets → standing ws p ≡ entryPointNth (interfaceOf (decode ws) .entries) k
     → Given ws offsets (interfaceOf (decode ws)) (standing ws p)
 unfolding resourceTable
 gives ws offsets p k z o e = rw e (record { table = o .resources z; inside = record { words = λ i h. o .within z i (counted ws offsets i h .0) }; named = names-of ws k z })
@@ -134,7 +134,7 @@ module _ (c : Call) (i : Interface) (s : ShaderStage) (chosen : Chosen) (es : s 
       h ∙ ap (onChosen (derivedOf (c .codes)) (requestOf (c .codes)) (c .lent) i) f
 
   pub chosen-at : (k : ℕ) (x : Outcome) → chosen ≡ Ch.At k
-      → x ≡ onEntryPoint (derivedOf (c .codes)) (requestOf (c .codes)) (c .lent) i (entryNth (i .entries) k) → x ≡ onNamed c i
+      → x ≡ onEntryPoint (derivedOf (c .codes)) (requestOf (c .codes)) (c .lent) i (entryPointNth (i .entries) k) → x ≡ onNamed c i
   chosen-at k x e ex = on-found x (rw e ex)
 
   module _ (a : Answer) (l z o : List ℕ) (el : l ≡ c .lent .layout) (ez : z ≡ c .lent .sizes) (eo : o ≡ c .lent .out) (ea : a ≡ refused 10) where
@@ -165,14 +165,14 @@ pub ruleset tests-on = (test-fails, test-holds)
 
 -- what a call with good lists has
 module _ (layout sizes inputs : List ℕ) (codes r : Bool) (er : r ≡ (listsGood layout sizes inputs && codes)) (t : r ≡ true) where
-  pub good-layout : layoutFiled layout ≡ true
+  pub good-layout : layoutWellFormed layout ≡ true
   unfolding listsGood
   good-layout = let h = sym er ∙ t in search first
 
-  pub good-sizes : sizesFiled sizes ≡ true
+  pub good-sizes : sizesWellFormed sizes ≡ true
   unfolding listsGood
   good-sizes = let h = sym er ∙ t in search (first, second)
 
-  pub good-inputs : outFiled inputs ≡ true
+  pub good-inputs : outWellFormed inputs ≡ true
   unfolding listsGood
   good-inputs = let h = sym er ∙ t in search (first, second)

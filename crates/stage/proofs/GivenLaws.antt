@@ -7,22 +7,22 @@ use mathlib.Core.List.{List}
 use borrow.Author.Tests.{lt-ltb}
 use lib.ListN.{length}
 use Rattle.word.specs.Lists.{every}
-use Rattle.bindings.specs.Format.{resourceHeld}
+use Rattle.bindings.specs.Format.{resourceEncodable}
 use Rattle.bindings.specs.declared.types.Resource.{Resource}
 use Rattle.word.proofs.Truth.{first, second}
 use Rattle.word.proofs.Lists.{every-as}
-use Rattle.interface.specs.Meaning.{EntryPoint, Interface, entryNth}
-use Rattle.interface.specs.Format.{Decoded, Torn, Misfiled, Pack, decode, decodedNumber, isTexture, isSampler, ofType, pairGood, interfaceOf}
-use Rattle.interface.specs.Held.{varyingHeld}
+use Rattle.interface.specs.Meaning.{EntryPoint, Interface, entryPointNth}
+use Rattle.interface.specs.Format.{Decoded, Damaged, Malformed, Pack, decode, decodedNumber, isTexture, isSampler, ofType, pairGood, interfaceOf}
+use Rattle.interface.specs.Encodable.{varyingEncodable}
 use Rattle.interface.specs.declared.types.SamplingPair.{SamplingPair}
 use Rattle.interface.specs.declared.types.Varying.{Varying}
 use Rattle.interface.specs.declared.types.Varying.the-variants as Var
 use Rattle.interface.proofs.EncodeEntry.{type-below}
 use Rattle.interface.proofs.Packs.{GivenParts, resources-given, entry-given}
-use Rattle.output_steps.specs.inner.ListOut.{outputHeld}
-use Rattle.resource_steps.specs.inner.Given.{eachHeld, eachBelow, pairBelow, pairsBelow}
+use Rattle.output_steps.specs.inner.ListOut.{outputEncodable}
+use Rattle.resource_steps.specs.inner.Given.{eachEncodable, eachBelow, pairBelow, pairsBelow}
 use Rattle.resource_steps.specs.Resources.{resourceNth}
-use Rattle.resource_steps.proofs.ResourceParts.{listed-held}
+use Rattle.resource_steps.proofs.ResourceParts.{listed-encodable}
 
 pair-in : (resources : List Resource) (listed : List ℕ) (p : SamplingPair) → pairGood resources listed p ≡ true → pairBelow (length resources) p ≡ true
 pair-in resources listed p h =
@@ -33,39 +33,39 @@ pair-in resources listed p h =
       lt-ltb (p .sampler) (length resources) (type-below isSampler resources (p .sampler) s),
     )
 
-held-output : (v : Varying) → varyingHeld 5 v ≡ true → outputHeld v ≡ true
-held-output (Var.Local location iv) h = h
-held-output (Var.BuiltIn b) h = refl
+encodable-output : (v : Varying) → varyingEncodable 5 v ≡ true → outputEncodable v ≡ true
+encodable-output (Var.Local location iv) h = h
+encodable-output (Var.BuiltIn b) h = refl
 
 -- ---- a pack that decodes
 
 module _ (ws : List ℕ) (i : Interface) (d : decode ws ≡ Pack i) where
-  all-held : eachHeld (i .resources) ≡ true
-  all-held = resources-given ws i d
+  all-encodable : eachEncodable (i .resources) ≡ true
+  all-encodable = resources-given ws i d
 
-  pub resource-held : (k : ℕ) → resourceHeld (resourceNth (i .resources) k) ≡ true
-  resource-held k = listed-held (i .resources) k all-held
+  pub resource-encodable : (k : ℕ) → resourceEncodable (resourceNth (i .resources) k) ≡ true
+  resource-encodable k = listed-encodable (i .resources) k all-encodable
 
-  pub entry-pairs : (k : ℕ) → every (pairGood (i .resources) (entryNth (i .entries) k .resources)) (entryNth (i .entries) k .pairs) ≡ true
+  pub entry-pairs : (k : ℕ) → every (pairGood (i .resources) (entryPointNth (i .entries) k .resources)) (entryPointNth (i .entries) k .pairs) ≡ true
   entry-pairs k = entry-given ws i d k .pairs
 
 -- ---- an accepted pack
 
 pack-of : (d : Decoded) → decodedNumber d ≡ 0 → d ≡ Pack (interfaceOf d)
-pack-of Torn z = absurd (omega arith)
-pack-of Misfiled z = absurd (omega arith)
+pack-of Damaged z = absurd (omega arith)
+pack-of Malformed z = absurd (omega arith)
 pack-of (Pack i) z = refl
 
 module _ (ws : List ℕ) (z : decodedNumber (decode ws) ≡ 0) where
   abbrev i : Interface
   i = interfaceOf (decode ws)
 
-  pub given-held : eachHeld (i .resources) ≡ true
-  given-held = all-held ws i (pack-of (decode ws) z)
+  pub given-encodable : eachEncodable (i .resources) ≡ true
+  given-encodable = all-encodable ws i (pack-of (decode ws) z)
 
   module _ (k : ℕ) where
     abbrev e : EntryPoint
-    e = entryNth (i .entries) k
+    e = entryPointNth (i .entries) k
 
     parts : GivenParts (i .resources) e
     parts = entry-given ws i (pack-of (decode ws) z) k
@@ -77,5 +77,5 @@ module _ (ws : List ℕ) (z : decodedNumber (decode ws) ≡ 0) where
     given-pairs =
         every-as (pairGood (i .resources) (e .resources)) (pairBelow (length (i .resources))) (pair-in (i .resources) (e .resources)) (e .pairs) (parts .pairs)
 
-    pub given-outputs : every outputHeld (e .outputs) ≡ true
-    given-outputs = every-as (varyingHeld 5) outputHeld held-output (e .outputs) (parts .outputs)
+    pub given-outputs : every outputEncodable (e .outputs) ≡ true
+    given-outputs = every-as (varyingEncodable 5) outputEncodable encodable-output (e .outputs) (parts .outputs)

@@ -31,7 +31,7 @@ use Rattle.interface.specs.declared.types.EntryParts.{EntryParts}
 use Rattle.interface.specs.declared.types.Limits.{Limits}
 use Rattle.output_steps.specs.declared.types.Request.{Request}
 use Rattle.input_steps.specs.Workgroup.{workgroupStep}
-use Rattle.output_steps.specs.Outputs.{placesStep}
+use Rattle.output_steps.specs.Outputs.{slotsStep}
 use Rattle.output_steps.specs.Last.{lastUses, lastStep}
 use Rattle.input_steps.specs.Inputs.{inputSteps, startWalk, walked}
 use Rattle.output_steps.specs.ListOut.{stageOut}
@@ -43,7 +43,7 @@ use Rattle.stage.specs.inner.Given.{Given}
 use Rattle.stage.specs.inner.Judging.{judgedInputs, stopAt, judged}
 use Rattle.stage.specs.Stage.{pairStep, inputWalk, behindInputs, behindPairs, handedOut}
 
-module _ (q : Request) (l : Limits) (e : EntryPoint) (inputs : StageIo) (w : InputWalk) (a : Answer) (k : Limits) (ek : k ≡ l) (ea : a ≡ placesStep (q .stage) q k e (w .locals)) where
+module _ (q : Request) (l : Limits) (e : EntryPoint) (inputs : StageIo) (w : InputWalk) (a : Answer) (k : Limits) (ek : k ≡ l) (ea : a ≡ slotsStep (q .stage) q k e (w .locals)) where
   pub behind-refused : (a .number ≡ 0 → ⊥) → a ≡ behindInputs q l e inputs w
   unfolding behindInputs
   behind-refused n = rw (← ek, ← ea, ne-eqb (a .number) 0 n)
@@ -53,7 +53,7 @@ module _ (q : Request) (l : Limits) (e : EntryPoint) (inputs : StageIo) (w : Inp
       → r ≡ lastUses q m mesh payload input written w → r ≡ behindInputs q l e inputs w
   unfolding behindInputs lastStep
   behind-went mesh payload input written m r z el em ep ei ew h =
-      let b : a ≡ placesStep (q .stage) q l e (w .locals) = rw (← ek) ea in
+      let b : a ≡ slotsStep (q .stage) q l e (w .locals) = rw (← ek) ea in
       rw (← b, eq-eqb (a .number) 0 z, ← em, ← ep, ← ei, ← ew, ← el) h
 
 -- the inputs of an entry point that stands at positions

@@ -12,13 +12,13 @@ use Rattle.layouts.specs.Meaning.{Layout}
 use Rattle.sizes.specs.Meaning.{Sizes}
 use Rattle.stage_lists.specs.Meaning.{StageIo}
 use lib.Dec.{eqb}
-use Rattle.layouts.specs.Format.{layoutFiled, decodeLayout}
-use Rattle.sizes.specs.Format.{sizesFiled, decodeSizes}
+use Rattle.layouts.specs.Format.{layoutWellFormed, decodeLayout}
+use Rattle.sizes.specs.Format.{sizesWellFormed, decodeSizes}
 use Rattle.stage_lists.specs.Format.{decodeStage}
 use Rattle.layouts.proofs.LayoutLists as layouts
 use Rattle.sizes.proofs.SizeLists as sizes
 use Rattle.interface.specs.Meaning.{EntryPoint, Interface}
-use Rattle.interface.specs.Format.{Decoded, Torn, Misfiled, Pack, decode, decodedNumber, interfaceOf}
+use Rattle.interface.specs.Format.{Decoded, Damaged, Malformed, Pack, decode, decodedNumber, interfaceOf}
 use Rattle.output_steps.specs.declared.types.Request.{Request}
 use Rattle.stage.specs.declared.types.Codes.{Codes}
 use Rattle.stage.specs.Meaning.{Lent, lent, Call, call, Outcome, outcome, andThen}
@@ -45,7 +45,7 @@ body-is derived q i e inputs L S =
 
 module _ (derived : Bool) (q : Request) (t : Lent) (i : Interface) (e : EntryPoint) (a : Answer) (l s : List ℕ)
     (steps : state a (decodeLayout l) (decodeSizes s) ≡ bindingSteps derived (q .stage) i e (decodeLayout (t .layout)) (decodeSizes (t .sizes)))
-    (fl : layoutFiled l ≡ true) (fs : sizesFiled s ≡ true) where
+    (fl : layoutWellFormed l ≡ true) (fs : sizesWellFormed s ≡ true) where
   abbrev body : State
   body = stageBody derived q i e (decodeStage (t .inputs)) (decodeLayout (t .layout)) (decodeSizes (t .sizes))
 
@@ -78,8 +78,8 @@ module _ (pack name : List ℕ) (codes : Codes) (layout sizes inputs out : List 
   stage-pack n a e z ea = rw ea (go (decode pack) e)
     where
       go : (d : Decoded) → n ≡ decodedNumber d → unchanged (whole .lent) n ≡ onDecoded whole d
-      go Torn h = rw h
-      go Misfiled h = rw h
+      go Damaged h = rw h
+      go Malformed h = rw h
       go (Pack i) h = absurd (z h)
 
   module _ (z : decodedNumber (decode pack) ≡ 0) (r : Bool) (er : r ≡ (listsGood layout sizes inputs && codesGood codes)) where
@@ -92,8 +92,8 @@ module _ (pack name : List ℕ) (codes : Codes) (layout sizes inputs out : List 
     stage-call a f ea = rw ea (go (decode pack) z (sym good-at ∙ f))
       where
         go : (d : Decoded) → decodedNumber d ≡ 0 → callGood (whole .lent) codes ≡ false → unchanged (whole .lent) 3 ≡ onDecoded whole d
-        go Torn h g = absurd (omega (arith, h))
-        go Misfiled h g = absurd (omega (arith, h))
+        go Damaged h g = absurd (omega (arith, h))
+        go Malformed h g = absurd (omega (arith, h))
         go (Pack i) h g = rw g
 
     pub stage-went : (y : Outcome) → r ≡ true → y ≡ onNamed whole (interfaceOf (decode pack)) → y ≡ checkStage whole
@@ -101,6 +101,6 @@ module _ (pack name : List ℕ) (codes : Codes) (layout sizes inputs out : List 
     stage-went y t e = go (decode pack) z (sym good-at ∙ t) e
       where
         go : (d : Decoded) → decodedNumber d ≡ 0 → callGood (whole .lent) codes ≡ true → y ≡ onNamed whole (interfaceOf d) → y ≡ onDecoded whole d
-        go Torn h g k = absurd (omega (arith, h))
-        go Misfiled h g k = absurd (omega (arith, h))
+        go Damaged h g k = absurd (omega (arith, h))
+        go Malformed h g k = absurd (omega (arith, h))
         go (Pack i) h g k = rw g k

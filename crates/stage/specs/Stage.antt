@@ -11,11 +11,11 @@ use Rattle.bindings.specs.declared.types.Resource.{Resource}
 use Rattle.layouts.specs.Meaning.{Layout}
 use Rattle.sizes.specs.Meaning.{Sizes}
 use Rattle.stage_lists.specs.Meaning.{StageIo}
-use Rattle.layouts.specs.Format.{layoutFiled, decodeLayout, encodeLayout}
-use Rattle.sizes.specs.Format.{sizesFiled, decodeSizes, encodeSizes}
-use Rattle.stage_lists.specs.Format.{stageFiled, decodeStage, encodeStage}
-use Rattle.interface.specs.Meaning.{EntryPoint, Interface, entryNth}
-use Rattle.interface.specs.Format.{Decoded, Torn, Misfiled, Pack, decode, stageAt}
+use Rattle.layouts.specs.Format.{layoutWellFormed, decodeLayout, encodeLayout}
+use Rattle.sizes.specs.Format.{sizesWellFormed, decodeSizes, encodeSizes}
+use Rattle.stage_lists.specs.Format.{stageWellFormed, decodeStage, encodeStage}
+use Rattle.interface.specs.Meaning.{EntryPoint, Interface, entryPointNth}
+use Rattle.interface.specs.Format.{Decoded, Damaged, Malformed, Pack, decode, stageAt}
 use Rattle.entry_points.specs.Rules.{findEntryPoint}
 use Rattle.interface.specs.declared.types.ShaderStage.{ShaderStage}
 use Rattle.interface.specs.declared.types.Limits.{Limits}
@@ -23,7 +23,7 @@ use Rattle.entry_points.specs.declared.choose.Chosen.{Chosen}
 use Rattle.entry_points.specs.declared.choose.Chosen.the-variants as Ch
 use Rattle.input_steps.specs.Workgroup.{workgroupStep}
 use Rattle.input_steps.specs.Inputs.{inputSteps, startWalk}
-use Rattle.output_steps.specs.Outputs.{placesStep, localCount}
+use Rattle.output_steps.specs.Outputs.{slotsStep, localCount}
 use Rattle.output_steps.specs.Last.{lastStep}
 use Rattle.output_steps.specs.ListOut.{stageOut}
 use Rattle.output_steps.specs.declared.types.Request.{Request}
@@ -43,9 +43,9 @@ pairStep derived resources e L = pick (yes derived) accepted (pairUses L resourc
 abbrev pub inputWalk : Request → EntryPoint → StageIo → Walked
 inputWalk q e inputs = inputSteps (q .stage) (inputs .varyings) (e .inputs) startWalk
 
--- outputs, places and what is left, once the inputs passed
+-- outputs, slots and what is left, once the inputs passed
 unfoldable pub behindInputs : Request → Limits → EntryPoint → StageIo → InputWalk → Answer
-behindInputs q l e inputs w = both (placesStep (q .stage) q l e (w .locals)) (lastStep q l e inputs w)
+behindInputs q l e inputs w = both (slotsStep (q .stage) q l e (w .locals)) (lastStep q l e inputs w)
 
 -- the workgroup size, the inputs and what follows them: neither the mode nor the layout is looked at
 abbrev pub behindPairs : Request → Interface → EntryPoint → StageIo → Answer
@@ -68,7 +68,7 @@ stageBody derived q i e inputs L S =
 
 -- 'any lent list bad'; the list out may hold anything
 unfoldable pub listsGood : List ℕ → List ℕ → List ℕ → Bool
-listsGood layout sizes inputs = layoutFiled layout && (sizesFiled sizes && stageFiled inputs)
+listsGood layout sizes inputs = layoutWellFormed layout && (sizesWellFormed sizes && stageWellFormed inputs)
 
 -- 'or the call's stage, topology, mode or flag'
 abbrev pub codesGood : Codes → Bool
@@ -113,7 +113,7 @@ abbrev pub onEntryPoint : Bool → Request → Lent → Interface → EntryPoint
 onEntryPoint derived q t i e = pick (ltb (length (t .out)) (outWords e)) (unchanged t 4) (runBody derived q t i e)
 
 abbrev pub onChosen : Bool → Request → Lent → Interface → Chosen → Outcome
-onChosen derived q t i (Ch.At position) = onEntryPoint derived q t i (entryNth (i .entries) position)
+onChosen derived q t i (Ch.At position) = onEntryPoint derived q t i (entryPointNth (i .entries) position)
 onChosen derived q t i Ch.Absent = unchanged t 10
 onChosen derived q t i Ch.Several = unchanged t 10
 
@@ -123,8 +123,8 @@ onNamed c i =
     onChosen (derivedOf (c .codes)) (requestOf (c .codes)) (c .lent) i (findEntryPoint (requestOf (c .codes) .stage) (c .name) (i .entries))
 
 abbrev pub onDecoded : Call → Decoded → Outcome
-onDecoded c Torn = unchanged (c .lent) 1
-onDecoded c Misfiled = unchanged (c .lent) 2
+onDecoded c Damaged = unchanged (c .lent) 1
+onDecoded c Malformed = unchanged (c .lent) 2
 onDecoded c (Pack i) = pick (callGood (c .lent) (c .codes)) (onNamed c i) (unchanged (c .lent) 3)
 
 -- the stage check

@@ -3,16 +3,16 @@ ghost use mathlib.Core.Path.{_≡_};
 ghost use mathlib.Core.Bool.{true, _&&_};
 ghost use Prim.Native.Nat.{_+_, _*_, _<_, _≤_};
 ghost use lib.ListN.{length};
-ghost use Rattle.layouts.specs.Format.{layoutFiled, decodeLayout};
-ghost use Rattle.sizes.specs.Format.{sizesFiled, decodeSizes};
-ghost use Rattle.stage_lists.specs.Format.{outFiled, decodeStage};
+ghost use Rattle.layouts.specs.Format.{layoutWellFormed, decodeLayout};
+ghost use Rattle.sizes.specs.Format.{sizesWellFormed, decodeSizes};
+ghost use Rattle.stage_lists.specs.Format.{outWellFormed, decodeStage};
 ghost use Rattle.interface.specs.Format.{decode, decodedNumber, interfaceOf};
-ghost use Rattle.interface.specs.Meaning.{entryNth};
+ghost use Rattle.interface.specs.Meaning.{entryPointNth};
 ghost use Rattle.interface.specs.inner.Reads.{standing};
 ghost use Rattle.interface.specs.inner.Parts.{Placed, Offsets, Heads};
 ghost use Rattle.word.specs.Lists.{every};
 ghost use Rattle.output_steps.specs.inner.Given.{Summed};
-ghost use Rattle.output_steps.specs.inner.ListOut.{outputHeld};
+ghost use Rattle.output_steps.specs.inner.ListOut.{outputEncodable};
 ghost use Rattle.stage.specs.Meaning.{lent, call, outcome};
 ghost use Rattle.resource_steps.specs.Meaning.{state};
 ghost use Rattle.resource_steps.specs.Resources.{resourceSteps};
@@ -29,7 +29,7 @@ use interface::parts::resources_counted;
 use interface::reads::entry_parts;
 use interface::reads::stage_at;
 use interface::types::EntryParts;
-use layouts::layout::layout_filed;
+use layouts::layout::layout_well_formed;
 use output_steps::list_out::list_out;
 use output_steps::outputs::output_summary;
 use output_steps::types::Request;
@@ -37,8 +37,8 @@ use output_steps::types::Summary;
 use pack_check::check_pack::index_pack;
 use resource_steps::derive::derive_steps;
 use resource_steps::provide::provide_steps;
-use sizes::sizes::sizes_filed;
-use stage_lists::stage_io::stage_filed;
+use sizes::sizes::sizes_well_formed;
+use stage_lists::stage_io::stage_well_formed;
 use word::answer::Answer;
 
 // The resources of an entry point against the layout and the sizes.
@@ -52,13 +52,13 @@ fn check_resources(
     codes: Codes,
 ) -> Answer
     requires { ⌜ Placed (now pack) parts ⌝ }
-    requires { ⌜ (layoutFiled (now layout) ≡ true) × (sizesFiled (now sizes) ≡ true) ⌝ }
+    requires { ⌜ (layoutWellFormed (now layout) ≡ true) × (sizesWellFormed (now sizes) ≡ true) ⌝ }
     requires { ⌜ Given (now pack) (now offsets) (interfaceOf (decode (now pack))) (standing (now pack) parts) ⌝ }
     ensures { λ a. ⌜ state a (decodeLayout (now (layout .exit))) (decodeSizes (now (sizes .exit)))
         ≡ resourceSteps (requestOf codes .stage) (derivedOf codes) (interfaceOf (decode (now (pack .entry))) .resources)
         (standing (now (pack .entry)) parts .pairs) (standing (now (pack .entry)) parts .resources)
         (decodeLayout (now (layout .entry))) (decodeSizes (now (sizes .entry))) ⌝ }
-    ensures { λ a. ⌜ (layoutFiled (now (layout .exit)) ≡ true) × (sizesFiled (now (sizes .exit)) ≡ true) ⌝ }
+    ensures { λ a. ⌜ (layoutWellFormed (now (layout .exit)) ≡ true) × (sizesWellFormed (now (sizes .exit)) ≡ true) ⌝ }
 {
     let at = parts.counts;
     let counts = pack[at];
@@ -101,12 +101,12 @@ fn check_bindings(
     codes: Codes,
 ) -> Answer
     requires { ⌜ Placed (now pack) parts ⌝ }
-    requires { ⌜ (layoutFiled (now layout) ≡ true) × (sizesFiled (now sizes) ≡ true) ⌝ }
+    requires { ⌜ (layoutWellFormed (now layout) ≡ true) × (sizesWellFormed (now sizes) ≡ true) ⌝ }
     requires { ⌜ Given (now pack) (now offsets) (interfaceOf (decode (now pack))) (standing (now pack) parts) ⌝ }
     ensures { λ a. ⌜ state a (decodeLayout (now (layout .exit))) (decodeSizes (now (sizes .exit)))
         ≡ bindingSteps (derivedOf codes) (requestOf codes .stage) (interfaceOf (decode (now (pack .entry)))) (standing (now (pack .entry)) parts)
         (decodeLayout (now (layout .entry))) (decodeSizes (now (sizes .entry))) ⌝ }
-    ensures { λ a. ⌜ (layoutFiled (now (layout .exit)) ≡ true) × (sizesFiled (now (sizes .exit)) ≡ true) ⌝ }
+    ensures { λ a. ⌜ (layoutWellFormed (now (layout .exit)) ≡ true) × (sizesWellFormed (now (sizes .exit)) ≡ true) ⌝ }
 {
     let mut entries: [u8; 128] = [0; 128];
     let resources = check_resources(pack, parts, offsets, &mut entries, layout, sizes, codes);
@@ -125,9 +125,9 @@ fn judge_out(
     out: &mut [u32],
     request: Request,
 ) -> Answer
-    requires { ⌜ (decodedNumber (decode (now pack)) ≡ 0) × Placed (now pack) parts × (outFiled (now inputs) ≡ true) ⌝ }
+    requires { ⌜ (decodedNumber (decode (now pack)) ≡ 0) × Placed (now pack) parts × (outWellFormed (now inputs) ≡ true) ⌝ }
     requires { ⌜ Summed (now pack) parts outputs × (outWords (standing (now pack) parts) ≤ length (now out)) ⌝ }
-    requires { ⌜ every outputHeld (standing (now pack) parts .outputs) ≡ true ⌝ }
+    requires { ⌜ every outputEncodable (standing (now pack) parts .outputs) ≡ true ⌝ }
     ensures { λ r. ⌜ r ≡ behindPairs request (interfaceOf (decode (now (pack .entry)))) (standing (now (pack .entry)) parts) (decodeStage (now (inputs .entry))) ⌝ }
     ensures { λ r. ⌜ now (out .exit) ≡ handedOut r (request .stage) (standing (now (pack .entry)) parts)
         (inputWalk request (standing (now (pack .entry)) parts) (decodeStage (now (inputs .entry))) .walk) (now (out .entry)) ⌝ }
@@ -167,7 +167,7 @@ fn run_body(
     codes: Codes,
 ) -> Answer
     requires { ⌜ (decodedNumber (decode (now pack)) ≡ 0) × Placed (now pack) parts ⌝ }
-    requires { ⌜ (layoutFiled (now layout) ≡ true) × (sizesFiled (now sizes) ≡ true) × (outFiled (now inputs) ≡ true) ⌝ }
+    requires { ⌜ (layoutWellFormed (now layout) ≡ true) × (sizesWellFormed (now sizes) ≡ true) × (outWellFormed (now inputs) ≡ true) ⌝ }
     requires { ⌜ Given (now pack) (now offsets) (interfaceOf (decode (now pack))) (standing (now pack) parts) ⌝ }
     requires { ⌜ Summed (now pack) parts outputs × (outWords (standing (now pack) parts) ≤ length (now out)) ⌝ }
     ensures { λ a. ⌜ outcome a (now (layout .exit)) (now (sizes .exit)) (now (out .exit)) ≡ runBody (derivedOf codes) (requestOf codes)
@@ -195,10 +195,10 @@ fn on_entry_point(
 ) -> Answer
     requires { ⌜ (decodedNumber (decode (now pack)) ≡ 0) × Offsets (now pack) (now offsets) × Heads (now pack) (now heads) ⌝ }
     requires { ⌜ position < length (interfaceOf (decode (now pack)) .entries) ⌝ }
-    requires { ⌜ (layoutFiled (now layout) ≡ true) × (sizesFiled (now sizes) ≡ true) × (outFiled (now inputs) ≡ true) ⌝ }
+    requires { ⌜ (layoutWellFormed (now layout) ≡ true) × (sizesWellFormed (now sizes) ≡ true) × (outWellFormed (now inputs) ≡ true) ⌝ }
     ensures { λ a. ⌜ outcome a (now (layout .exit)) (now (sizes .exit)) (now (out .exit)) ≡ onEntryPoint (derivedOf codes) (requestOf codes)
         (lent (now (layout .entry)) (now (sizes .entry)) (now (inputs .entry)) (now (out .entry)))
-        (interfaceOf (decode (now (pack .entry)))) (entryNth (interfaceOf (decode (now (pack .entry))) .entries) position) ⌝ }
+        (interfaceOf (decode (now (pack .entry)))) (entryPointNth (interfaceOf (decode (now (pack .entry))) .entries) position) ⌝ }
 {
     let parts = entry_parts(pack, heads, position);
     let outputs = output_summary(pack, parts);
@@ -231,7 +231,7 @@ fn on_named(
     codes: Codes,
 ) -> Answer
     requires { ⌜ (decodedNumber (decode (now pack)) ≡ 0) × Offsets (now pack) (now offsets) × Heads (now pack) (now heads) ⌝ }
-    requires { ⌜ (layoutFiled (now layout) ≡ true) × (sizesFiled (now sizes) ≡ true) × (outFiled (now inputs) ≡ true) ⌝ }
+    requires { ⌜ (layoutWellFormed (now layout) ≡ true) × (sizesWellFormed (now sizes) ≡ true) × (outWellFormed (now inputs) ≡ true) ⌝ }
     ensures { λ a. ⌜ outcome a (now (layout .exit)) (now (sizes .exit)) (now (out .exit)) ≡ onNamed (call (now (pack .entry)) (now (name .entry)) codes
         (lent (now (layout .entry)) (now (sizes .entry)) (now (inputs .entry)) (now (out .entry)))) (interfaceOf (decode (now (pack .entry)))) ⌝ }
 {
@@ -275,9 +275,9 @@ fn codes_good(codes: Codes) -> bool
 fn lists_good(layout: &[u32], sizes: &[u32], inputs: &[u32]) -> bool
     ensures { λ r. ⌜ r ≡ listsGood (now (layout .entry)) (now (sizes .entry)) (now (inputs .entry)) ⌝ }
 {
-    if layout_filed(layout) {
-        if sizes_filed(sizes) {
-            return stage_filed(inputs);
+    if layout_well_formed(layout) {
+        if sizes_well_formed(sizes) {
+            return stage_well_formed(inputs);
         }
     }
     false

@@ -2,8 +2,8 @@
 ghost use mathlib.Core.Path.{_≡_};
 ghost use mathlib.Core.Bool.{true, false};
 ghost use Prim.Native.Nat.{_+_};
-ghost use Rattle.layouts.specs.Format.{layoutFiled, decodeLayout};
-ghost use Rattle.stage_lists.specs.Format.{outFiled, decodeStage};
+ghost use Rattle.layouts.specs.Format.{layoutWellFormed, decodeLayout};
+ghost use Rattle.stage_lists.specs.Format.{outWellFormed, decodeStage};
 ghost use Rattle.interface.specs.Format.{decode, decodedNumber, interfaceOf};
 ghost use Rattle.interface.specs.inner.Reads.{standing};
 ghost use Rattle.interface.specs.inner.Parts.{Placed};
@@ -27,7 +27,7 @@ use interface::types::MeshRecord;
 use interface::types::ShaderStage;
 use interface::types::WorkgroupSize;
 use output_steps::last::last_step;
-use output_steps::outputs::places_step;
+use output_steps::outputs::slots_step;
 use output_steps::types::Request;
 use output_steps::types::Summary;
 use resource_steps::pairs::pair_uses;
@@ -88,9 +88,9 @@ fn after_inputs(
     ensures { λ r. ⌜ r ≡ behindInputs request (interfaceOf (decode (now (pack .entry))) .limits)
         (standing (now (pack .entry)) parts) (decodeStage (now (inputs .entry))) walk ⌝ }
 {
-    let places = places_step(pack, parts, limits(pack), outputs, request, walk.locals);
-    if places.number != 0 {
-        return places;
+    let slots = slots_step(pack, parts, limits(pack), outputs, request, walk.locals);
+    if slots.number != 0 {
+        return slots;
     }
     let mesh = mesh_of(pack, parts);
     let payload = payload_of(pack, parts);
@@ -108,7 +108,7 @@ fn judge_inputs(
     request: Request,
 ) -> Walked
     requires { ⌜ (decodedNumber (decode (now pack)) ≡ 0) × Placed (now pack) parts × Summed (now pack) parts outputs ⌝ }
-    requires { ⌜ outFiled (now inputs) ≡ true ⌝ }
+    requires { ⌜ outWellFormed (now inputs) ≡ true ⌝ }
     ensures { λ r. ⌜ r ≡ judgedInputs request (interfaceOf (decode (now (pack .entry))) .limits)
         (standing (now (pack .entry)) parts) (decodeStage (now (inputs .entry))) ⌝ }
 {
@@ -134,7 +134,7 @@ pub(crate) fn pair_step(
     layout: &[u32],
     derived: bool,
 ) -> Answer
-    requires { ⌜ Placed (now pack) parts × (layoutFiled (now layout) ≡ true) ⌝ }
+    requires { ⌜ Placed (now pack) parts × (layoutWellFormed (now layout) ≡ true) ⌝ }
     requires { ⌜ Given (now pack) (now offsets) (interfaceOf (decode (now pack))) (standing (now pack) parts) ⌝ }
     ensures { λ r. ⌜ r ≡ pairStep derived (interfaceOf (decode (now (pack .entry))) .resources)
         (standing (now (pack .entry)) parts) (decodeLayout (now (layout .entry))) ⌝ }
@@ -165,7 +165,7 @@ pub(crate) fn judge(
     request: Request,
 ) -> Walked
     requires { ⌜ (decodedNumber (decode (now pack)) ≡ 0) × Placed (now pack) parts × Summed (now pack) parts outputs ⌝ }
-    requires { ⌜ outFiled (now inputs) ≡ true ⌝ }
+    requires { ⌜ outWellFormed (now inputs) ≡ true ⌝ }
     ensures { λ r. ⌜ r ≡ judged request (interfaceOf (decode (now (pack .entry))) .limits)
         (standing (now (pack .entry)) parts) (decodeStage (now (inputs .entry))) ⌝ }
 {

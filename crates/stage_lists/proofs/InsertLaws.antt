@@ -9,7 +9,7 @@ use lib.ListN.{length, getD}
 use borrow.Author.Tests.{eqb-true, eqb-false, ltb-true, ltb-false, eq-eqb, ne-eqb, lt-ltb, le-ltb}
 use Rattle.word.specs.Choice.{pick}
 use Rattle.word.specs.Lists.{every}
-use Rattle.varying.specs.Format.{locatedHeld}
+use Rattle.varying.specs.Format.{locatedEncodable}
 use Rattle.varying.specs.declared.Located.{Located}
 use Rattle.word.proofs.Truth.{by-test}
 use Rattle.stage_lists.specs.Meaning.{StageIo, rising, varyingAt, isProvided, insert, inserted}
@@ -180,7 +180,7 @@ every-insert test v (w ∷ vs) t h =
     let q = rest-passes (test w) (every test vs) h in
     insert-cases v w vs (λ l. every test l ≡ true) (λ b. rw (t, p, q)) (λ e. rw (t, q)) (λ a. rw (p, every-insert test v vs t q))
 
-pub good-inserted : (v : Located) (S : StageIo) → outGood S ≡ true → locatedHeld v ≡ true → length (S .varyings) < 63 → outGood (inserted v S) ≡ true
+pub good-inserted : (v : Located) (S : StageIo) → outGood S ≡ true → locatedEncodable v ≡ true → length (S .varyings) < 63 → outGood (inserted v S) ≡ true
 unfolding inserted
 good-inserted v S h t few =
     let g : Good S = good S h in
@@ -190,6 +190,6 @@ good-inserted v S h t few =
     (record {
       few = rw n (omega (arith, m));
       payload = g .payload;
-      held = every-insert locatedHeld v (S .varyings) t (g .held);
+      encodable = every-insert locatedEncodable v (S .varyings) t (g .encodable);
       rises = rising-insert v (S .varyings) (g .rises);
     })

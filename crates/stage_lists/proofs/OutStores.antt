@@ -10,19 +10,19 @@ use borrow.Author.Tests.{eqb-true}
 use Rattle.word.specs.Choice.{pick}
 use Rattle.word.specs.Words.{wordAt, kindOf, contentOf, bits, ofKind}
 use Rattle.word.specs.Lists.{every, flat}
-use Rattle.varying.specs.Format.{locatedWords, locatedHeld, varFiled, varOf, varWord, payloadHeld, payloadWord}
+use Rattle.varying.specs.Format.{locatedWords, locatedEncodable, varWellFormed, varOf, varWord, payloadEncodable, payloadWord}
 use Rattle.varying.specs.declared.Located.{Located}
 use Rattle.varying.specs.declared.Payload.{Payload}
 use Rattle.word.proofs.Truth.{first, second}
 use Rattle.word.proofs.Lists.{first-passes, rest-passes}
-use Rattle.varying.proofs.Joined.{payload-written, location-written, var-written, var-filed, var-read}
+use Rattle.varying.proofs.Joined.{payload-written, location-written, var-written, var-well-formed, var-read}
 use Rattle.stage_lists.specs.Meaning.{StageIo, rising, insert, inserted, varyingAt, isProvided}
 use Rattle.places.specs.Records.{put, past, each, countOf, records}
-use Rattle.stage_lists.specs.Format.{primitiveCode, readLocated, locatedGood, readVaryings, outFiled, decodeStage, encodeStage, outGood}
+use Rattle.stage_lists.specs.Format.{primitiveCode, readLocated, locatedGood, readVaryings, outWellFormed, decodeStage, encodeStage, outGood}
 use Rattle.stage_lists.specs.declared.types.PrimitiveIndex.{PrimitiveIndex}
 use Rattle.places.proofs.Words.{here, there, two-at, drop-put, put-put, put-after, put-own, put-kept}
 use Rattle.places.proofs.Records.{read-length, room-left, left-cons, left-none, each-cons, each-nth, past-drop, flat-append, flat-length, take-read}
-use Rattle.stage_lists.proofs.StageLists.{located-form, Filed, filed, is-good, code-back, decode-encode, filed-encode, good-decode}
+use Rattle.stage_lists.proofs.StageLists.{located-form, WellFormed, well-formed, is-good, code-back, decode-encode, well-formed-encode, good-decode}
 use Rattle.stage_lists.proofs.InsertLaws.{lastFrom, insert-last, insert-before, insert-over, insert-behind, insert-length, longer, good-inserted}
 
 -- ---- records moved up
@@ -176,13 +176,13 @@ module _ (s : List ℕ) (n a : ℕ) (v : Located) (k : kindOf a ≡ 12) (l : v .
 
 -- ---- the list with a variable more
 
-pub var-again : (w : ℕ) → varFiled w ≡ true → w ≡ varWord (varOf w)
+pub var-again : (w : ℕ) → varWellFormed w ≡ true → w ≡ varWord (varOf w)
 var-again w h = sym (var-written w h)
 
-pub located-filed : (v : Located) (w : ℕ) → locatedHeld v ≡ true → w ≡ varWord (v .var) → varFiled w ≡ true
-located-filed v w h e = rw e (var-filed (v .var) (search second))
+pub located-well-formed : (v : Located) (w : ℕ) → locatedEncodable v ≡ true → w ≡ varWord (v .var) → varWellFormed w ≡ true
+located-well-formed v w h e = rw e (var-well-formed (v .var) (search second))
 
-located-again : (v : Located) (w : ℕ) → locatedHeld v ≡ true → w ≡ varWord (v .var) → record { location = v .location; var = varOf w } ≡ v
+located-again : (v : Located) (w : ℕ) → locatedEncodable v ≡ true → w ≡ varWord (v .var) → record { location = v .location; var = varOf w } ≡ v
 located-again v w h e = rw (e, var-read (v .var) (search second))
 
 -- what is known of a list under a head that it does not have yet
@@ -194,30 +194,30 @@ module _ (s : List ℕ) (head : ℕ) where
       go [] = refl
       go (w ∷ ws) = refl
 
-module _ (s : List ℕ) (head : ℕ) (f : outFiled (set s 0 head) ≡ true) where
+module _ (s : List ℕ) (head : ℕ) (f : outWellFormed (set s 0 head) ≡ true) where
   there-head : wordAt (set s 0 head) 0 ≡ head
-  there-head = getD-set-same s 0 head 0 (omega (arith, filed (set s 0 head) f .holds, length-set s 0 head))
+  there-head = getD-set-same s 0 head 0 (omega (arith, well-formed (set s 0 head) f .holds, length-set s 0 head))
 
   count-under : countOf (set s 0 head) ≡ head % 0x10000
   unfolding countOf
   count-under = rw there-head
 
   pub head-sum : (r : ℕ) → r ≤ 1 → head + r < 2 ^ 32
-  head-sum r h = let k : kindOf head ≡ 11 = rw there-head at (filed (set s 0 head) f .kind) in omega arith
+  head-sum r h = let k : kindOf head ≡ 11 = rw there-head at (well-formed (set s 0 head) f .kind) in omega arith
 
   module _ (n : ℕ) (en : n ≡ head % 0x10000) where
     count-is : n ≡ countOf (set s 0 head)
     count-is = en ∙ sym count-under
 
     pub out-good : each 2 locatedGood n (drop 2 s) ≡ true
-    out-good = rw (count-is, ← behind-head s head) (filed (set s 0 head) f .good)
+    out-good = rw (count-is, ← behind-head s head) (well-formed (set s 0 head) f .good)
 
     pub out-rises : rising (readVaryings n (drop 2 s)) ≡ true
-    out-rises = rw (count-is, ← behind-head s head) (filed (set s 0 head) f .rises)
+    out-rises = rw (count-is, ← behind-head s head) (well-formed (set s 0 head) f .rises)
 
     pub out-fits : 2 ≤ length (decodeStage (set s 0 head) .room) → 2 + 2 * n + 2 ≤ length s
     unfolding decodeStage
-    out-fits h = omega (arith, count-is, room-left 2 2 (countOf (set s 0 head)) (set s 0 head) (filed (set s 0 head) f .holds), length-set s 0 head)
+    out-fits h = omega (arith, count-is, room-left 2 2 (countOf (set s 0 head)) (set s 0 head) (well-formed (set s 0 head) f .holds), length-set s 0 head)
 
 room-after : (b : Bool) (n r : ℕ) (ws : List ℕ) → longer b n ≡ n + r → drop (2 * (n + r)) ws ≡ pick b (past 2 n ws) (drop 2 (past 2 n ws))
 room-after true n r ws e = let z : 2 * (n + r) ≡ 2 * n = omega arith in rw (z, past-drop 2 n ws)
@@ -225,13 +225,13 @@ room-after false n r ws e =
     let z : 2 * (n + r) ≡ 2 * n + 2 = omega arith in
     rw (z, past-drop 2 n ws, drop-drop 2 (2 * n) ws)
 
-inserted-words : (s : List ℕ) (v : Located) (r : ℕ) → outFiled s ≡ true → length (insert v (readVaryings (countOf s) (drop 2 s))) ≡ countOf s + r → countOf s + r ≤ 63
+inserted-words : (s : List ℕ) (v : Located) (r : ℕ) → outWellFormed s ≡ true → length (insert v (readVaryings (countOf s) (drop 2 s))) ≡ countOf s + r → countOf s + r ≤ 63
     → set (put s 2 (flat locatedWords (insert v (readVaryings (countOf s) (drop 2 s))))) 0 (wordAt s 0 + r) ≡ encodeStage (inserted v (decodeStage s))
 unfolding encodeStage decodeStage inserted countOf put
-inserted-words [] v r f e few = absurd (omega (arith, filed [] f .kind))
-inserted-words (w ∷ []) v r f e few = absurd (omega (arith, filed (w ∷ []) f .holds))
+inserted-words [] v r f e few = absurd (omega (arith, well-formed [] f .kind))
+inserted-words (w ∷ []) v r f e few = absurd (omega (arith, well-formed (w ∷ []) f .holds))
 inserted-words (w ∷ p ∷ ws) v r f e few =
-    let t : Filed (w ∷ p ∷ ws) = filed (w ∷ p ∷ ws) f in
+    let t : WellFormed (w ∷ p ∷ ws) = well-formed (w ∷ p ∷ ws) f in
     let n = bits 15 0 w in
     let vs = insert v (readVaryings n ws) in
     let k : kindOf w ≡ 11 = t .kind in
@@ -261,7 +261,7 @@ put-head [] xs head r = refl
 put-head (w ∷ []) xs head r = let e : 2 + length xs ≡ suc (suc (length xs)) = omega arith in rw e
 put-head (w ∷ p ∷ ws) xs head r = let e : 2 + length xs ≡ suc (suc (length xs)) = omega arith in rw e
 
-pub out-inserted : (s m : List ℕ) (v : Located) (head n b r : ℕ) → outFiled (set s 0 head) ≡ true → locatedHeld v ≡ true
+pub out-inserted : (s m : List ℕ) (v : Located) (head n b r : ℕ) → outWellFormed (set s 0 head) ≡ true → locatedEncodable v ≡ true
     → length (decodeStage (set s 0 head) .varyings) < 63 → n ≡ head % 0x10000 → b ≡ varWord (v .var)
     → m ≡ put s 2 (flat locatedWords (insert (record { location = v .location; var = varOf b }) (readVaryings n (drop 2 s))))
     → length (insert (record { location = v .location; var = varOf b }) (readVaryings n (drop 2 s))) ≡ n + r → r ≤ 1
@@ -274,22 +274,22 @@ out-inserted s m v head n b r f h few en eb em e o =
     let m-is : m ≡ put s 2 (flat locatedWords vs) = em ∙ rw (located-again v b h eb, c, ← behind-head s head) in
     rw m-is (sym (put-head s (flat locatedWords vs) head (head + r)) ∙ rw (there-head s head f) at (inserted-words t v r f k (omega (arith, count-read t))))
 
-module _ (s m : List ℕ) (v : Located) (f : outFiled s ≡ true) (t : locatedHeld v ≡ true) (few : length (decodeStage s .varyings) < 63)
+module _ (s m : List ℕ) (v : Located) (f : outWellFormed s ≡ true) (t : locatedEncodable v ≡ true) (few : length (decodeStage s .varyings) < 63)
     (e : m ≡ encodeStage (inserted v (decodeStage s))) where
   pub inserted-decoded : decodeStage m ≡ inserted v (decodeStage s)
   inserted-decoded = rw e (decode-encode (inserted v (decodeStage s)) (good-inserted v (decodeStage s) (good-decode s f) t few))
 
-  pub inserted-filed : outFiled m ≡ true
-  inserted-filed = rw e (filed-encode (inserted v (decodeStage s)) (good-inserted v (decodeStage s) (good-decode s f) t few))
+  pub inserted-well-formed : outWellFormed m ≡ true
+  inserted-well-formed = rw e (well-formed-encode (inserted v (decodeStage s)) (good-inserted v (decodeStage s) (good-decode s f) t few))
 
 -- ---- a list without variables
 
 abbrev bare : PrimitiveIndex → Payload → List ℕ → StageIo
 bare primitive payload ws = record { primitive = primitive; payload = payload; varyings = []; room = drop 2 ws }
 
-good-bare : (primitive : PrimitiveIndex) (payload : Payload) (ws : List ℕ) → payloadHeld payload ≡ true → outGood (bare primitive payload ws) ≡ true
+good-bare : (primitive : PrimitiveIndex) (payload : Payload) (ws : List ℕ) → payloadEncodable payload ≡ true → outGood (bare primitive payload ws) ≡ true
 unfolding every rising
-good-bare primitive payload ws h = is-good (bare primitive payload ws) (record { few = omega arith; payload = h; held = refl; rises = refl })
+good-bare primitive payload ws h = is-good (bare primitive payload ws) (record { few = omega arith; payload = h; encodable = refl; rises = refl })
 
 module _ (l m : List ℕ) (primitive : PrimitiveIndex) (payload : Payload) (a b : ℕ) (ea : a ≡ ofKind 11 (2 ^ 25 * primitiveCode primitive))
     (eb : b ≡ payloadWord payload) (em : m ≡ put l 0 (a ∷ b ∷ [])) where
@@ -301,9 +301,9 @@ module _ (l m : List ℕ) (primitive : PrimitiveIndex) (payload : Payload) (a b 
   unfolding put
   begun-head = rw em
 
-  module _ (h : payloadHeld payload ≡ true) where
+  module _ (h : payloadEncodable payload ≡ true) where
     pub begun-decoded : decodeStage (set m 0 a) ≡ bare primitive payload l
     begun-decoded = rw (begun-head, begun-words) (decode-encode (bare primitive payload l) (good-bare primitive payload l h))
 
-    pub begun-filed : outFiled (set m 0 a) ≡ true
-    begun-filed = rw (begun-head, begun-words) (filed-encode (bare primitive payload l) (good-bare primitive payload l h))
+    pub begun-well-formed : outWellFormed (set m 0 a) ≡ true
+    begun-well-formed = rw (begun-head, begun-words) (well-formed-encode (bare primitive payload l) (good-bare primitive payload l h))

@@ -7,8 +7,8 @@ use lib.Dec.{eqb, ltb}
 use borrow.Author.Tests.{eqb-true, ltb-true, lt-ltb, le-ltb}
 use Rattle.word.specs.Choice.{pick}
 use Rattle.word.specs.Words.{bits, bit, ofKind}
-use Rattle.numeric.specs.TypeWords.{dimensionAt, typeOf, shapeCode, typeWord}
-use Rattle.varying.specs.Format.{varOf, varWord, payloadHeld, payloadWord}
+use Rattle.numeric.specs.TypeWords.{shapeAt, typeOf, shapeCode, typeWord}
+use Rattle.varying.specs.Format.{varOf, varWord, payloadEncodable, payloadWord}
 use Rattle.varying.specs.declared.Payload.{Payload}
 use Rattle.varying.specs.declared.Payload.the-variants as Pay
 use Rattle.word.proofs.Truth.{below-all}
@@ -31,23 +31,23 @@ module _ (p : Payload) (bytes : ℕ) (e : p ≡ Pay.Size bytes) where
   unfolding payloadWord
   payload-some = rw e (omega arith)
 
-  pub payload-sum : payloadHeld p ≡ true → 0x4C000000 + bytes < 2 ^ 32
+  pub payload-sum : payloadEncodable p ≡ true → 0x4C000000 + bytes < 2 ^ 32
   payload-sum h = let b : bytes < 2 ^ 26 = ltb-true bytes (2 ^ 26) (rw e at h) in omega arith
 
 -- ---- a variable
 
 -- of sixteen codes of a shape the last three mean what others mean
-shape-code : (code : ℕ) → code < 16 → shapeCode (dimensionAt code) ≡ pick (ltb code 13) code (code - 3)
+shape-code : (code : ℕ) → code < 16 → shapeCode (shapeAt code) ≡ pick (ltb code 13) code (code - 3)
 shape-code code h =
-    eqb-true (shapeCode (dimensionAt code)) (pick (ltb code 13) code (code - 3))
-    (below-all 16 (λ c. eqb (shapeCode (dimensionAt c)) (pick (ltb c 13) c (c - 3))) refl code h)
+    eqb-true (shapeCode (shapeAt code)) (pick (ltb code 13) code (code - 3))
+    (below-all 16 (λ c. eqb (shapeCode (shapeAt c)) (pick (ltb c 13) c (c - 3))) refl code h)
 
 summed : (s a b c d e : ℕ) → 0x68000000 + (c + 8 * d + 64 * e) * 0x1000 + (a + 4 * b) * 16 + s
     ≡ 2 ^ 27 * 13 + (s + 16 * a + 64 * b) + (2 ^ 12 * c + (2 ^ 15 * d + 2 ^ 18 * e))
 summed s a b c d e = omega arith
 
 module _ (w : ℕ) where
-  var-by : (s : ℕ) → shapeCode (dimensionAt (bits 3 0 w)) ≡ s → 0x68000000 + w / 0x1000 % 0x80 * 0x1000 + w / 16 % 64 * 16 + s ≡ varWord (varOf w)
+  var-by : (s : ℕ) → shapeCode (shapeAt (bits 3 0 w)) ≡ s → 0x68000000 + w / 0x1000 % 0x80 * 0x1000 + w / 16 % 64 * 16 + s ≡ varWord (varOf w)
   unfolding varWord varOf typeWord typeOf
   var-by s e =
       let h : w / 0x1000 % 0x80 ≡ bits 14 12 w + 8 * bits 17 15 w + 64 * bit 18 w = omega arith in

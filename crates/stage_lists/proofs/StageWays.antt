@@ -10,13 +10,13 @@ use lib.Seq.{drop-drop}
 use borrow.Author.Tests.{eq-eqb, ne-eqb, lt-ltb, le-ltb, leb-true, not-false}
 use Rattle.word.specs.Choice.{pick}
 use Rattle.word.specs.Words.{wordAt, kindOf, contentOf, bits}
-use Rattle.varying.specs.Format.{locationFiled, varFiled, payloadFiled, payloadOf}
+use Rattle.varying.specs.Format.{locationWellFormed, varWellFormed, payloadWellFormed, payloadOf}
 use Rattle.varying.specs.declared.Payload.{Payload}
 use Rattle.word.proofs.Truth.{first, second}
 use Rattle.places.specs.Places.{foundBelow}
 use Rattle.stage_lists.specs.Meaning.{rising, varyingAt}
 use Rattle.places.specs.Records.{records, countOf}
-use Rattle.stage_lists.specs.Format.{primitiveAt, readLocated, locatedGood, readVaryings, variableFound, stageHead, outFiled, decodeStage}
+use Rattle.stage_lists.specs.Format.{primitiveAt, readLocated, locatedGood, readVaryings, variableFound, stageHead, outWellFormed, decodeStage}
 use Rattle.places.specs.declared.found.Found.{Found}
 use Rattle.places.specs.declared.found.Found.the-variants.{At}
 use Rattle.stage_lists.specs.declared.types.PrimitiveIndex.{PrimitiveIndex}
@@ -24,14 +24,14 @@ use Rattle.stage_lists.specs.declared.types.Provided.{Provided}
 use Rattle.stage_lists.specs.declared.types.Provided.the-variants as Pro
 use Rattle.places.proofs.Records.{read-length, nth-record, left-cons, left-none}
 use Rattle.places.proofs.Words.{here, there}
-use Rattle.stage_lists.proofs.StageLists.{filed}
+use Rattle.stage_lists.proofs.StageLists.{well-formed}
 use Rattle.stage_lists.proofs.InsertLaws.{varying-nth}
 
 -- ---- the head
 
 module _ (ws : List ℕ) (w : ℕ) (r : Bool) (e : w ≡ wordAt ws 0) where
   pub head-word : r ≡ (eqb (kindOf w) 11 && (ltb (bits 26 25 w) 3 && (eqb (bits 24 16 w) 0 && (leb (bits 15 0 w) 63
-      && (leb (2 + 2 * bits 15 0 w) (length ws) && payloadFiled (wordAt ws 1)))))) → r ≡ stageHead ws
+      && (leb (2 + 2 * bits 15 0 w) (length ws) && payloadWellFormed (wordAt ws 1)))))) → r ≡ stageHead ws
   unfolding stageHead countOf
   head-word h = rw (← e) h
 
@@ -45,7 +45,7 @@ head-holds ws b n e h en =
 pub head-there : (ws : List ℕ) (b : Bool) → b ≡ stageHead ws → not b ≡ false → 1 ≤ length ws
 head-there ws b e h = omega (arith, head-holds ws b (countOf ws) e h refl)
 
-pub payload-word : (ws : List ℕ) (p : ℕ) (r : Bool) → p ≡ wordAt ws 1 → r ≡ payloadFiled p → r ≡ payloadFiled (wordAt ws 1)
+pub payload-word : (ws : List ℕ) (p : ℕ) (r : Bool) → p ≡ wordAt ws 1 → r ≡ payloadWellFormed p → r ≡ payloadWellFormed (wordAt ws 1)
 payload-word ws p r e h = rw (← e) h
 
 pub primitive-word : (ws : List ℕ) (w : ℕ) (r : PrimitiveIndex) → w ≡ wordAt ws 0 → r ≡ primitiveAt (bits 26 25 w) → r ≡ decodeStage ws .primitive
@@ -58,19 +58,19 @@ payload-decoded ws w r e h = rw (← e) h
 
 -- ---- a record
 
-module _ (l : List ℕ) (at : ℕ) (a : Bool) (f : a ≡ locationFiled (wordAt l at)) where
+module _ (l : List ℕ) (at : ℕ) (a : Bool) (f : a ≡ locationWellFormed (wordAt l at)) where
   pub located-not : a ≡ false → false ≡ locatedGood (drop at l)
   located-not h = rw (here l at, ← f, h)
 
-  pub located-is : (b : Bool) → a ≡ true → b ≡ varFiled (wordAt l (at + 1)) → b ≡ locatedGood (drop at l)
+  pub located-is : (b : Bool) → a ≡ true → b ≡ varWellFormed (wordAt l (at + 1)) → b ≡ locatedGood (drop at l)
   located-is b h k = rw (here l at, there l at 1, ← f, h, ← k)
 
 -- ---- a variable's word that is known to be one
 
-pub located-var : (l : List ℕ) (at : ℕ) (b : Bool) → b ≡ locatedGood (drop at l) → not b ≡ false → varFiled (wordAt l (at + 1)) ≡ true
+pub located-var : (l : List ℕ) (at : ℕ) (b : Bool) → b ≡ locatedGood (drop at l) → not b ≡ false → varWellFormed (wordAt l (at + 1)) ≡ true
 located-var l at b e h =
     let g : locatedGood (drop at l) ≡ true = sym e ∙ not-false b h in
-    rw (there l at 1) at (second (locationFiled (wordAt (drop at l) 0)) (varFiled (wordAt (drop at l) 1)) g)
+    rw (there l at 1) at (second (locationWellFormed (wordAt (drop at l) 0)) (varWellFormed (wordAt (drop at l) 1)) g)
 
 -- ---- rising locations
 
@@ -127,12 +127,12 @@ location-found l n location f e h = rw (← e) h
 pub within-below : (l : List ℕ) (k at : ℕ) → (k ≡ 0 → ⊥) → at + 2 * k ≤ length l → foundBelow (length l) (At (at + 1)) ≡ true
 within-below l k at h f = lt-ltb (at + 1) (length l) (omega arith)
 
-pub first-there : (l : List ℕ) → outFiled l ≡ true → 1 ≤ length l
-first-there l f = omega (arith, filed l f .holds)
+pub first-there : (l : List ℕ) → outWellFormed l ≡ true → 1 ≤ length l
+first-there l f = omega (arith, well-formed l f .holds)
 
-module _ (l : List ℕ) (n : ℕ) (f : outFiled l ≡ true) (e : n ≡ countOf l) where
+module _ (l : List ℕ) (n : ℕ) (f : outWellFormed l ≡ true) (e : n ≡ countOf l) where
   pub varyings-within : 2 + 2 * n ≤ length l
-  varyings-within = omega (arith, filed l f .holds)
+  varyings-within = omega (arith, well-formed l f .holds)
 
   -- the variable at a position
   module _ (i : ℕ) (h : i < n) where
@@ -148,5 +148,5 @@ module _ (l : List ℕ) (n : ℕ) (f : outFiled l ≡ true) (e : n ≡ countOf l
         let k : i < countOf l = omega arith in
         let vs = readVaryings (countOf l) (drop 2 l) in
         let z : 2 + 2 * i + 1 ≡ 3 + 2 * i = omega arith in
-        let a = varying-nth vs i (readLocated []) (filed l f .rises) (omega (arith, read-length 2 readLocated (countOf l) (drop 2 l))) in
+        let a = varying-nth vs i (readLocated []) (well-formed l f .rises) (omega (arith, read-length 2 readLocated (countOf l) (drop 2 l))) in
         sym (rw (nth-record 2 readLocated (countOf l) i (drop 2 l) (readLocated []) k, drop-drop (2 * i) 2 l, here l (2 + 2 * i), there l (2 + 2 * i) 1, z, q) at a)

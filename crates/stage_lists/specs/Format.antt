@@ -8,7 +8,7 @@ use lib.ListN.{length, drop}
 use Rattle.word.specs.Choice.{pick}
 use Rattle.varying.specs.declared.Located.{Located}
 use Rattle.word.specs.Words.{wordAt, kindOf, bits, ofKind}
-use Rattle.varying.specs.Format.{locationFiled, varFiled, varOf, locatedOf, locatedWords, locatedHeld, payloadFiled, payloadOf, payloadWord, payloadHeld}
+use Rattle.varying.specs.Format.{locationWellFormed, varWellFormed, varOf, locatedOf, locatedWords, locatedEncodable, payloadWellFormed, payloadOf, payloadWord, payloadEncodable}
 use Rattle.places.specs.Records.{shortEnough, countOf, past, records, each, mostListWords}
 use Rattle.word.specs.Lists.{every, flat}
 use Rattle.stage_lists.specs.Meaning.{StageIo, rising}
@@ -35,7 +35,7 @@ readLocated ws = locatedOf (wordAt ws 0) (wordAt ws 1)
 
 -- both words are of their kind
 abbrev pub locatedGood : List ℕ → Bool
-locatedGood ws = locationFiled (wordAt ws 0) && varFiled (wordAt ws 1)
+locatedGood ws = locationWellFormed (wordAt ws 0) && varWellFormed (wordAt ws 1)
 
 -- as many variables
 abbrev pub readVaryings : ℕ → List ℕ → List Located
@@ -50,15 +50,15 @@ variableFound ws Nothing = Pro.Missing
 unfoldable pub stageHead : List ℕ → Bool
 stageHead ws =
     eqb (kindOf (wordAt ws 0)) 11 && (ltb (bits 26 25 (wordAt ws 0)) 3 && (eqb (bits 24 16 (wordAt ws 0)) 0
-    && (leb (countOf ws) 63 && (leb (2 + 2 * countOf ws) (length ws) && payloadFiled (wordAt ws 1)))))
+    && (leb (countOf ws) 63 && (leb (2 + 2 * countOf ws) (length ws) && payloadWellFormed (wordAt ws 1)))))
 
 -- 'a list out any number' of words
-unfoldable pub outFiled : List ℕ → Bool
-outFiled ws = stageHead ws && (each 2 locatedGood (countOf ws) (drop 2 ws) && rising (readVaryings (countOf ws) (drop 2 ws)))
+unfoldable pub outWellFormed : List ℕ → Bool
+outWellFormed ws = stageHead ws && (each 2 locatedGood (countOf ws) (drop 2 ws) && rising (readVaryings (countOf ws) (drop 2 ws)))
 
 -- words are a stage list
-abbrev pub stageFiled : List ℕ → Bool
-stageFiled ws = shortEnough ws && outFiled ws
+abbrev pub stageWellFormed : List ℕ → Bool
+stageWellFormed ws = shortEnough ws && outWellFormed ws
 
 -- what words carry to the next stage, free room behind its variables
 unfoldable pub decodeStage : List ℕ → StageIo
@@ -79,7 +79,7 @@ encodeStage S =
 -- what a list out can hold: the same rules, over its meaning
 unfoldable pub outGood : StageIo → Bool
 outGood S =
-    leb (length (S .varyings)) 63 && (payloadHeld (S .payload) && (every locatedHeld (S .varyings) && rising (S .varyings)))
+    leb (length (S .varyings)) 63 && (payloadEncodable (S .payload) && (every locatedEncodable (S .varyings) && rising (S .varyings)))
 
 -- and a stage list
 abbrev pub stageGood : StageIo → Bool

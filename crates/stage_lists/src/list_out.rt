@@ -6,10 +6,10 @@ ghost use Prim.Native.Nat.{_+_, _*_, _<_, _≤_, _^_};
 ghost use lib.ListN.{length, take, drop, set};
 ghost use Rattle.word.specs.Words.{kindOf, contentOf};
 ghost use Rattle.word.specs.Lists.{flat};
-ghost use Rattle.varying.specs.Format.{varFiled, varOf, locatedHeld, locatedWords, payloadHeld};
+ghost use Rattle.varying.specs.Format.{varWellFormed, varOf, locatedEncodable, locatedWords, payloadEncodable};
 ghost use Rattle.stage_lists.specs.Meaning.{rising, insert, inserted};
 ghost use Rattle.places.specs.Records.{put, each};
-ghost use Rattle.stage_lists.specs.Format.{locatedGood, readVaryings, outFiled, decodeStage, encodeStage};
+ghost use Rattle.stage_lists.specs.Format.{locatedGood, readVaryings, outWellFormed, decodeStage, encodeStage};
 use crate::out_words::payload_word;
 use crate::out_words::primitive_word;
 use crate::out_words::var_word;
@@ -22,10 +22,10 @@ use word::word;
 // The head and the payload of a list without variables. The answer is the head.
 pub fn begin_out(out: &mut [u32], primitive: PrimitiveIndex, payload: Payload) -> u32
     requires { ⌜ 2 ≤ length (now out) ⌝ }
-    requires { ⌜ payloadHeld payload ≡ true ⌝ }
+    requires { ⌜ payloadEncodable payload ≡ true ⌝ }
     ensures { λ _. ⌜ now (out .exit) ≡ encodeStage (record { primitive = primitive; payload = payload; varyings = []; room = drop 2 (now (out .entry)) }) ⌝ }
     ensures { λ r. ⌜ decodeStage (set (now (out .exit)) 0 r) ≡ record { primitive = primitive; payload = payload; varyings = []; room = drop 2 (now (out .entry)) } ⌝ }
-    ensures { λ r. ⌜ outFiled (set (now (out .exit)) 0 r) ≡ true ⌝ }
+    ensures { λ r. ⌜ outWellFormed (set (now (out .exit)) 0 r) ≡ true ⌝ }
 {
     let head = primitive_word(primitive);
     let second = payload_word(payload);
@@ -57,7 +57,7 @@ fn shift(out: &mut [u32], from: usize, n: usize, first: u32, second: u32)
 // A variable put into its place among as many: 1 where its location is new.
 fn place(out: &mut [u32], n: usize, location: u32, var: u32) -> u32
     requires { ⌜ (2 + 2 * n + 2 ≤ length (now out)) × (n < 0x1_0000) × (each 2 locatedGood n (drop 2 (now out)) ≡ true) ⌝ }
-    requires { ⌜ (location < 2 ^ 27) × (varFiled var ≡ true) ⌝ }
+    requires { ⌜ (location < 2 ^ 27) × (varWellFormed var ≡ true) ⌝ }
     ensures { λ _. ⌜ now (out .exit) ≡ put (now (out .entry)) 2 (flat locatedWords (insert (record { location = location; var = varOf var }) (readVaryings n (drop 2 (now (out .entry)))))) ⌝ }
     ensures { λ r. ⌜ length (insert (record { location = location; var = varOf var }) (readVaryings n (drop 2 (now (out .entry))))) ≡ n + r ⌝ }
     ensures { λ r. ⌜ r ≤ 1 ⌝ }
@@ -84,7 +84,7 @@ fn place(out: &mut [u32], n: usize, location: u32, var: u32) -> u32
 // The same by its first word, where the locations rise: one above the last, or above the head where there is none, needs no search.
 fn place_last(out: &mut [u32], n: usize, first: u32, var: u32) -> u32
     requires { ⌜ (2 + 2 * n + 2 ≤ length (now out)) × (n < 0x1_0000) × (each 2 locatedGood n (drop 2 (now out)) ≡ true) ⌝ }
-    requires { ⌜ (kindOf first ≡ 12) × (varFiled var ≡ true) × (rising (readVaryings n (drop 2 (now out))) ≡ true) ⌝ }
+    requires { ⌜ (kindOf first ≡ 12) × (varWellFormed var ≡ true) × (rising (readVaryings n (drop 2 (now out))) ≡ true) ⌝ }
     ensures { λ _. ⌜ now (out .exit) ≡ put (now (out .entry)) 2 (flat locatedWords (insert (record { location = contentOf first; var = varOf var }) (readVaryings n (drop 2 (now (out .entry)))))) ⌝ }
     ensures { λ r. ⌜ length (insert (record { location = contentOf first; var = varOf var }) (readVaryings n (drop 2 (now (out .entry))))) ≡ n + r ⌝ }
     ensures { λ r. ⌜ r ≤ 1 ⌝ }
@@ -98,12 +98,12 @@ fn place_last(out: &mut [u32], n: usize, first: u32, var: u32) -> u32
 
 // The variable of two words put into the list by its location; of equal locations the last is kept. The head is handed over, and the answer is the new one.
 pub fn insert_words(out: &mut [u32], head: u32, first: u32, var: u32) -> u32
-    requires { ⌜ outFiled (set (now out) 0 head) ≡ true ⌝ }
-    requires { ⌜ (kindOf first ≡ 12) × (locatedHeld (record { location = contentOf first; var = varOf var }) ≡ true) ⌝ }
+    requires { ⌜ outWellFormed (set (now out) 0 head) ≡ true ⌝ }
+    requires { ⌜ (kindOf first ≡ 12) × (locatedEncodable (record { location = contentOf first; var = varOf var }) ≡ true) ⌝ }
     requires { ⌜ (length (decodeStage (set (now out) 0 head) .varyings) < 63) × (2 ≤ length (decodeStage (set (now out) 0 head) .room)) ⌝ }
     ensures { λ r. ⌜ set (now (out .exit)) 0 r ≡ encodeStage (inserted (record { location = contentOf first; var = varOf var }) (decodeStage (set (now (out .entry)) 0 head))) ⌝ }
     ensures { λ r. ⌜ decodeStage (set (now (out .exit)) 0 r) ≡ inserted (record { location = contentOf first; var = varOf var }) (decodeStage (set (now (out .entry)) 0 head)) ⌝ }
-    ensures { λ r. ⌜ outFiled (set (now (out .exit)) 0 r) ≡ true ⌝ }
+    ensures { λ r. ⌜ outWellFormed (set (now (out .exit)) 0 r) ≡ true ⌝ }
 {
     let n = (head % 0x1_0000) as usize;
     let second = var_word(var);

@@ -3,7 +3,7 @@ ghost use mathlib.Core.Path.{_≡_};
 ghost use mathlib.Core.Bool.{true};
 ghost use Prim.Native.Nat.{_*_, _^_};
 ghost use Rattle.word.specs.Words.{ofKind};
-ghost use Rattle.varying.specs.Format.{varOf, varWord, payloadHeld, payloadWord};
+ghost use Rattle.varying.specs.Format.{varOf, varWord, payloadEncodable, payloadWord};
 ghost use Rattle.stage_lists.specs.Format.{primitiveCode};
 use crate::types::PrimitiveIndex;
 use varying::Payload;
@@ -20,7 +20,7 @@ pub(crate) fn primitive_word(primitive: PrimitiveIndex) -> u32
 }
 
 pub(crate) fn payload_word(payload: Payload) -> u32
-    requires { ⌜ payloadHeld payload ≡ true ⌝ }
+    requires { ⌜ payloadEncodable payload ≡ true ⌝ }
     ensures { λ r. ⌜ r ≡ payloadWord payload ⌝ }
 {
     match payload {

@@ -4,11 +4,11 @@ ghost use mathlib.Core.Bool.{true};
 ghost use Prim.Native.Nat.{_<_, _≤_, _+_, _*_, _^_};
 ghost use lib.ListN.{length, drop};
 ghost use Rattle.word.specs.Words.{wordAt, contentOf};
-ghost use Rattle.varying.specs.Format.{varFiled};
+ghost use Rattle.varying.specs.Format.{varWellFormed};
 ghost use Rattle.places.specs.Places.{foundBelow};
 ghost use Rattle.stage_lists.specs.Meaning.{rising, varyingAt};
 ghost use Rattle.places.specs.Records.{countOf, each};
-ghost use Rattle.stage_lists.specs.Format.{locatedGood, readVaryings, variableFound, stageHead, outFiled, stageFiled, decodeStage};
+ghost use Rattle.stage_lists.specs.Format.{locatedGood, readVaryings, variableFound, stageHead, outWellFormed, stageWellFormed, decodeStage};
 use crate::types::PrimitiveIndex;
 use places::found::Found;
 use places::heads::counted;
@@ -36,7 +36,7 @@ fn stage_head(l: &[u32]) -> bool
     if l.len() < 2 + 2 * (n as usize) {
         return false;
     }
-    varying::payload_filed(word(l, 1))
+    varying::payload_well_formed(word(l, 1))
 }
 
 // The location that stands at a position.
@@ -49,10 +49,10 @@ pub(crate) fn location_at(l: &[u32], at: usize) -> u32
 
 fn located_good(l: &[u32], at: usize, good: u32) -> bool
     requires { ⌜ at + 2 ≤ length (now l) ⌝ }
-    requires { ⌜ varFiled good ≡ true ⌝ }
+    requires { ⌜ varWellFormed good ≡ true ⌝ }
     ensures { λ r. ⌜ r ≡ locatedGood (drop at (now (l .entry))) ⌝ }
 {
-    if varying::location_filed(l[at]) {
+    if varying::location_well_formed(l[at]) {
         return varying::var_good(l[at + 1], good);
     }
     false
@@ -95,8 +95,8 @@ fn rises(l: &[u32], n: usize) -> bool
 }
 
 // Whether words are a stage list, of whatever length.
-pub fn out_filed(l: &[u32]) -> bool
-    ensures { λ r. ⌜ r ≡ outFiled (now (l .entry)) ⌝ }
+pub fn out_well_formed(l: &[u32]) -> bool
+    ensures { λ r. ⌜ r ≡ outWellFormed (now (l .entry)) ⌝ }
 {
     if !stage_head(l) {
         return false;
@@ -108,13 +108,13 @@ pub fn out_filed(l: &[u32]) -> bool
 }
 
 // Whether words are a stage list.
-pub fn stage_filed(l: &[u32]) -> bool
-    ensures { λ r. ⌜ r ≡ stageFiled (now (l .entry)) ⌝ }
+pub fn stage_well_formed(l: &[u32]) -> bool
+    ensures { λ r. ⌜ r ≡ stageWellFormed (now (l .entry)) ⌝ }
 {
     if 1024 < l.len() {
         return false;
     }
-    out_filed(l)
+    out_well_formed(l)
 }
 
 // Where the word of the variable at a location stands, where all variables lie within the slice.
@@ -138,7 +138,7 @@ fn find_within(l: &[u32], n: usize, location: u32) -> Found
 
 // Where the word of the variable at a location stands in a stage list. The variable at a likely position is tried first.
 pub fn find_location(l: &[u32], location: u32, near: usize) -> Found
-    requires { ⌜ outFiled (now l) ≡ true ⌝ }
+    requires { ⌜ outWellFormed (now l) ≡ true ⌝ }
     ensures { λ r. ⌜ variableFound (now (l .entry)) r ≡ varyingAt location (decodeStage (now (l .entry)) .varyings) ⌝ }
     ensures { λ r. ⌜ foundBelow (length (now (l .entry))) r ≡ true ⌝ }
 {

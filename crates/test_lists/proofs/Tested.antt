@@ -9,17 +9,17 @@ use lib.ListN.{length, take, drop, set, length-drop}
 use lib.Seq.{length-take-le}
 use borrow.Author.Tests.{not-true, not-false, eq-eqb, ne-eqb, lt-ltb, le-ltb, ltb-true, leb-true}
 use Rattle.word.specs.Words.{wordAt, kindOf, contentOf, bits}
-use Rattle.bindings.specs.Format.{placeFiled, placeOf, sizeFiled, entryHeld, entryFiled, entryOf}
+use Rattle.bindings.specs.Format.{placeWellFormed, placeOf, sizeWellFormed, entryEncodable, entryWellFormed, entryOf}
 use Rattle.bindings.specs.declared.types.ResourceBinding.{ResourceBinding}
-use Rattle.bindings.proofs.EntryFormat.{entry-held}
-use Rattle.varying.specs.Format.{varFiled, varOf, locatedHeld, payloadOf, payloadHeld}
+use Rattle.bindings.proofs.EntryFormat.{entry-encodable}
+use Rattle.varying.specs.Format.{varWellFormed, varOf, locatedEncodable, payloadOf, payloadEncodable}
 use Rattle.varying.specs.declared.Payload.{Payload}
 use Rattle.word.proofs.Truth.{first, second, both, told-true}
-use Rattle.varying.proofs.Joined.{var-held, payload-held}
+use Rattle.varying.proofs.Joined.{var-encodable, payload-encodable}
 use Rattle.layouts.specs.Meaning.{Layout, entryPlaces, entryHas, findEntry}
 use Rattle.places.specs.Records.{countOf}
 use Rattle.layouts.specs.Format.{entryFits, decodeLayout}
-use Rattle.stage_lists.specs.Format.{readLocated, outFiled, stageFiled, decodeStage}
+use Rattle.stage_lists.specs.Format.{readLocated, outWellFormed, stageWellFormed, decodeStage}
 use Rattle.places.specs.declared.found.Found.{Found}
 use Rattle.places.specs.declared.found.Found.the-variants.{Nothing}
 use Rattle.places.proofs.PlaceWays.{place-lacks}
@@ -44,10 +44,10 @@ pub found-none : (place : ResourceBinding) (L : Layout) (f : Found) → f ≡ fi
 found-none place L f q e = sym q ∙ e
 
 module _ (p t s v : ℕ) (L : Layout) where
-  pub entry-fits : entryFiled p t s v ≡ true → bits 26 23 p < L .groups → entryFits (L .groups) (entryOf p t s v) ≡ true
+  pub entry-fits : entryWellFormed p t s v ≡ true → bits 26 23 p < L .groups → entryFits (L .groups) (entryOf p t s v) ≡ true
   unfolding entryOf
   entry-fits h n =
-      both (entryHeld (entryOf p t s v)) (ltb (bits 26 23 p) (L .groups)) (entry-held p t s v h) (lt-ltb (bits 26 23 p) (L .groups) n)
+      both (entryEncodable (entryOf p t s v)) (ltb (bits 26 23 p) (L .groups)) (entry-encodable p t s v h) (lt-ltb (bits 26 23 p) (L .groups) n)
 
   pub place-new : findEntry (placeOf p) L ≡ Nothing → entryHas (entryOf p t s v .bind) (L .entries) ≡ false
   unfolding entryOf
@@ -55,37 +55,37 @@ module _ (p t s v : ℕ) (L : Layout) where
 
 -- ---- sizes
 
-pub place-passed : (place : ℕ) → placeFiled (0x20000000 + place % 0x800_0000) ≡ true
+pub place-passed : (place : ℕ) → placeWellFormed (0x20000000 + place % 0x800_0000) ≡ true
 place-passed place = eq-eqb (kindOf (0x20000000 + place % 0x800_0000)) 4 (omega arith)
 
-pub size-passed : (size : ℕ) → (size ≡ 0 → ⊥) → size < 0x800_0000 → sizeFiled (0x30000000 + size) ≡ true
+pub size-passed : (size : ℕ) → (size ≡ 0 → ⊥) → size < 0x800_0000 → sizeWellFormed (0x30000000 + size) ≡ true
 size-passed size n h =
     let k : kindOf (0x30000000 + size) ≡ 6 = omega arith in
     rw (k, ne-eqb (contentOf (0x30000000 + size)) 0 (λ z. n (omega arith)))
 
 -- ---- the list out
 
-pub payload-fits : (p : Payload) (w : ℕ) → p ≡ payloadOf w → payloadHeld p ≡ true
-payload-fits p w e = rw e (payload-held w)
+pub payload-fits : (p : Payload) (w : ℕ) → p ≡ payloadOf w → payloadEncodable p ≡ true
+payload-fits p w e = rw e (payload-encodable w)
 
-pub located-fits : (location w : ℕ) (b : Bool) → b ≡ varFiled w → not b ≡ false → location < 2 ^ 27
-    → locatedHeld (record { location = contentOf (0x60000000 + location); var = varOf w }) ≡ true
+pub located-fits : (location w : ℕ) (b : Bool) → b ≡ varWellFormed w → not b ≡ false → location < 2 ^ 27
+    → locatedEncodable (record { location = contentOf (0x60000000 + location); var = varOf w }) ≡ true
 located-fits location w b q h n =
     let e : contentOf (0x60000000 + location) ≡ location = omega arith in
-    rw (e, lt-ltb location (2 ^ 27) n) (var-held w (told-true b (varFiled w) q h))
+    rw (e, lt-ltb location (2 ^ 27) n) (var-encodable w (told-true b (varWellFormed w) q h))
 
 own-head : (l : List ℕ) (head : ℕ) → head ≡ wordAt l 0 → set l 0 head ≡ l
 own-head [] head e = refl
 own-head (w ∷ ws) head e = rw e
 
 module _ (l : List ℕ) (h : hasRoom l ≡ true) where
-  list-filed : outFiled l ≡ true
+  list-well-formed : outWellFormed l ≡ true
   unfolding hasRoom
-  list-filed = first (outFiled l) (ltb (countOf l) 63 && leb (2 + 2 * countOf l + 2) (length l)) h
+  list-well-formed = first (outWellFormed l) (ltb (countOf l) 63 && leb (2 + 2 * countOf l + 2) (length l)) h
 
   counted : (ltb (countOf l) 63 && leb (2 + 2 * countOf l + 2) (length l)) ≡ true
   unfolding hasRoom
-  counted = second (outFiled l) (ltb (countOf l) 63 && leb (2 + 2 * countOf l + 2) (length l)) h
+  counted = second (outWellFormed l) (ltb (countOf l) 63 && leb (2 + 2 * countOf l + 2) (length l)) h
 
   few : length (decodeStage l .varyings) < 63
   unfolding decodeStage
@@ -100,11 +100,11 @@ module _ (l : List ℕ) (h : hasRoom l ≡ true) where
   unfolding decodeStage
   roomy = omega (arith, long, room-length 2 (countOf l) (drop 2 l), length-drop 2 l)
 
-pub stage-out : (l : List ℕ) (b : Bool) → b ≡ stageFiled l → not b ≡ false → outFiled l ≡ true
-stage-out l b e h = second (leb (length l) 1024) (outFiled l) (told-true b (stageFiled l) e h)
+pub stage-out : (l : List ℕ) (b : Bool) → b ≡ stageWellFormed l → not b ≡ false → outWellFormed l ≡ true
+stage-out l b e h = second (leb (length l) 1024) (outWellFormed l) (told-true b (stageWellFormed l) e h)
 
-pub out-there : (l : List ℕ) (b : Bool) → b ≡ outFiled l → not b ≡ false → 1 ≤ length l
-out-there l b e h = first-there l (told-true b (outFiled l) e h)
+pub out-there : (l : List ℕ) (b : Bool) → b ≡ outWellFormed l → not b ≡ false → 1 ≤ length l
+out-there l b e h = first-there l (told-true b (outWellFormed l) e h)
 
 -- what has room, with its own head
 module _ (l : List ℕ) (b : Bool) (q : b ≡ hasRoom l) (t : not b ≡ false) where
@@ -115,8 +115,8 @@ module _ (l : List ℕ) (b : Bool) (q : b ≡ hasRoom l) (t : not b ≡ false) w
   head-stays m e = omega (arith, head-there)
 
   module _ (head : ℕ) (e : head ≡ wordAt l 0) where
-    pub list-out : outFiled (set l 0 head) ≡ true
-    list-out = rw (own-head l head e) (list-filed l (told-true b (hasRoom l) q t))
+    pub list-out : outWellFormed (set l 0 head) ≡ true
+    list-out = rw (own-head l head e) (list-well-formed l (told-true b (hasRoom l) q t))
 
     pub variables-few : length (decodeStage (set l 0 head) .varyings) < 63
     variables-few = rw (own-head l head e) (few l (told-true b (hasRoom l) q t))
@@ -125,7 +125,7 @@ module _ (l : List ℕ) (b : Bool) (q : b ≡ hasRoom l) (t : not b ≡ false) w
     room-enough = rw (own-head l head e) (roomy l (told-true b (hasRoom l) q t))
 
 -- the code's ways through the test of the room
-module _ (l : List ℕ) (b : Bool) (q : b ≡ outFiled l) where
+module _ (l : List ℕ) (b : Bool) (q : b ≡ outWellFormed l) where
   pub no-list : not b ≡ true → false ≡ hasRoom l
   unfolding hasRoom
   no-list h = rw (← q, not-true b h)

@@ -28,9 +28,9 @@ fn read_list(list: &mut [u32], kept: &mut [u32])
 
 // Which of the three lists the words are.
 fn tests(list: &[u32]) {
-    print::yes_no(layouts::layout::layout_filed(list));
-    print::yes_no(sizes::sizes::sizes_filed(list));
-    print::yes_no(stage_lists::stage_io::stage_filed(list));
+    print::yes_no(layouts::layout::layout_well_formed(list));
+    print::yes_no(sizes::sizes::sizes_well_formed(list));
+    print::yes_no(stage_lists::stage_io::stage_well_formed(list));
 }
 
 fn answer(list: &mut [u32], asked: u32, a: u32, b: u32, c: u32, d: u32) {

@@ -3,22 +3,22 @@ ghost use mathlib.Core.Path.{_≡_};
 ghost use mathlib.Core.Bool.{true};
 ghost use Prim.Native.Nat.{_<_};
 ghost use Rattle.word.specs.Words.{bits};
-ghost use Rattle.bindings.specs.Format.{placeOf, entryFiled};
+ghost use Rattle.bindings.specs.Format.{placeOf, entryWellFormed};
 ghost use Rattle.layouts.specs.Meaning.{findEntry};
-ghost use Rattle.layouts.specs.Format.{layoutFiled, decodeLayout};
+ghost use Rattle.layouts.specs.Format.{layoutWellFormed, decodeLayout};
 ghost use Rattle.places.specs.declared.found.Found.the-variants.{Nothing};
 use crate::print;
 use bindings::binding_codes::binding_code;
 use bindings::binding_codes::least_size;
 use bindings::entry_words::entry_of;
-use bindings::entry_words::words_filed;
+use bindings::entry_words::words_well_formed;
 use bindings::types::BindGroupLayoutEntry;
 use layouts::layout::entry_word;
 use layouts::layout::find_entry_near;
 use layouts::layout::find_entry_word;
 use layouts::layout::group_count;
 use layouts::layout::join_visibility;
-use layouts::layout::layout_filed;
+use layouts::layout::layout_well_formed;
 use layouts::layout::push_words;
 use layouts::visibility::sees;
 use places::found::Found;
@@ -46,7 +46,7 @@ fn position(found: Found) {
 
 // The entry at a position, from its words.
 fn show_at(l: &[u32], index: usize)
-    requires { ⌜ layoutFiled (now l) ≡ true ⌝ }
+    requires { ⌜ layoutWellFormed (now l) ≡ true ⌝ }
 {
     if counted(l) <= index {
         return print::nothing();
@@ -59,7 +59,7 @@ fn show_at(l: &[u32], index: usize)
 
 // The groups, the position of a place, sought at another first, and the entry at that one.
 pub(crate) fn look(l: &[u32], place: u32, index: u32) {
-    if !layout_filed(l) {
+    if !layout_well_formed(l) {
         return print::nothing();
     }
     print::number(group_count(l) as u64);
@@ -69,7 +69,7 @@ pub(crate) fn look(l: &[u32], place: u32, index: u32) {
 
 // A stage joined to the entry at a place.
 pub(crate) fn join(l: &mut [u32], place: u32, stage: u32) {
-    if !layout_filed(l) {
+    if !layout_well_formed(l) {
         return print::nothing();
     }
     if 4 < stage {
@@ -86,8 +86,8 @@ pub(crate) fn join(l: &mut [u32], place: u32, stage: u32) {
 
 // A new entry; then whether there was room.
 fn push_new(l: &mut [u32], place: u32, ty: u32, least: u32, visibility: u32)
-    requires { ⌜ layoutFiled (now l) ≡ true ⌝ }
-    requires { ⌜ entryFiled place ty least visibility ≡ true ⌝ }
+    requires { ⌜ layoutWellFormed (now l) ≡ true ⌝ }
+    requires { ⌜ entryWellFormed place ty least visibility ≡ true ⌝ }
     requires { ⌜ bits 26 23 place < decodeLayout (now l) .groups ⌝ }
     requires { ⌜ findEntry (placeOf place) (decodeLayout (now l)) ≡ Nothing ⌝ }
 {
@@ -96,8 +96,8 @@ fn push_new(l: &mut [u32], place: u32, ty: u32, least: u32, visibility: u32)
 
 // The same where no entry has its place.
 fn push_vacant(l: &mut [u32], place: u32, ty: u32, least: u32, visibility: u32)
-    requires { ⌜ layoutFiled (now l) ≡ true ⌝ }
-    requires { ⌜ entryFiled place ty least visibility ≡ true ⌝ }
+    requires { ⌜ layoutWellFormed (now l) ≡ true ⌝ }
+    requires { ⌜ entryWellFormed place ty least visibility ≡ true ⌝ }
     requires { ⌜ bits 26 23 place < decodeLayout (now l) .groups ⌝ }
 {
     match find_entry_word(l, place) {
@@ -108,8 +108,8 @@ fn push_vacant(l: &mut [u32], place: u32, ty: u32, least: u32, visibility: u32)
 
 // The same where its group is one of the list's.
 fn push_grouped(l: &mut [u32], place: u32, ty: u32, least: u32, visibility: u32)
-    requires { ⌜ layoutFiled (now l) ≡ true ⌝ }
-    requires { ⌜ entryFiled place ty least visibility ≡ true ⌝ }
+    requires { ⌜ layoutWellFormed (now l) ≡ true ⌝ }
+    requires { ⌜ entryWellFormed place ty least visibility ≡ true ⌝ }
 {
     if group_count(l) <= place / 0x80_0000 % 16 {
         return print::nothing();
@@ -119,10 +119,10 @@ fn push_grouped(l: &mut [u32], place: u32, ty: u32, least: u32, visibility: u32)
 
 // The same where the words are an entry's.
 pub(crate) fn push(l: &mut [u32], place: u32, ty: u32, least: u32, visibility: u32) {
-    if !layout_filed(l) {
+    if !layout_well_formed(l) {
         return print::nothing();
     }
-    if !words_filed(place, ty, least, visibility) {
+    if !words_well_formed(place, ty, least, visibility) {
         return print::nothing();
     }
     push_grouped(l, place, ty, least, visibility)

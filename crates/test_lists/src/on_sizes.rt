@@ -1,11 +1,11 @@
 // What is asked of size lists.
 use crate::print;
 use sizes::sizes::record_words;
-use sizes::sizes::sizes_filed;
+use sizes::sizes::sizes_well_formed;
 
 // A size recorded at a place, where it is one, with a position noted; then whether there was room.
 pub(crate) fn record(l: &mut [u32], place: u32, size: u32, near: u32) {
-    if !sizes_filed(l) {
+    if !sizes_well_formed(l) {
         return print::nothing();
     }
     if size == 0 {

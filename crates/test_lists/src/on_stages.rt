@@ -8,17 +8,17 @@ use places::heads::counted;
 use stage_lists::list_out::begin_out;
 use stage_lists::list_out::insert_words;
 use stage_lists::stage_io::find_location;
-use stage_lists::stage_io::out_filed;
+use stage_lists::stage_io::out_well_formed;
 use stage_lists::stage_io::payload;
 use stage_lists::stage_io::primitive_index;
-use stage_lists::stage_io::stage_filed;
+use stage_lists::stage_io::stage_well_formed;
 use stage_lists::types::PrimitiveIndex;
 use varying::InterfaceVar;
 use varying::Payload;
-use varying::payload_filed;
 use varying::payload_of;
-use varying::var_filed;
+use varying::payload_well_formed;
 use varying::var_of;
+use varying::var_well_formed;
 use word::word;
 
 fn show_variable(v: InterfaceVar) {
@@ -54,7 +54,7 @@ fn show_payload(p: Payload) {
 
 // The primitive index, the payload and the variable at a location, sought at a position first.
 pub(crate) fn look(l: &[u32], location: u32, near: u32) {
-    if !stage_filed(l) {
+    if !stage_well_formed(l) {
         return print::nothing();
     }
     show_primitive(primitive_index(l));
@@ -75,7 +75,7 @@ pub(crate) fn begin(l: &mut [u32], code: u32, payload: u32) {
     if l.len() < 2 {
         return print::nothing();
     }
-    if !payload_filed(payload) {
+    if !payload_well_formed(payload) {
         return print::nothing();
     }
     begin_out(l, primitive_of(code), payload_of(payload));
@@ -86,7 +86,7 @@ pub(crate) fn begin(l: &mut [u32], code: u32, payload: u32) {
 fn has_room(l: &[u32]) -> bool
     ensures { λ r. ⌜ r ≡ hasRoom (now (l .entry)) ⌝ }
 {
-    if !out_filed(l) {
+    if !out_well_formed(l) {
         return false;
     }
     let n = counted(l);
@@ -101,7 +101,7 @@ pub(crate) fn insert(l: &mut [u32], location: u32, var: u32) {
     if 0x800_0000 <= location {
         return print::nothing();
     }
-    if !var_filed(var) {
+    if !var_well_formed(var) {
         return print::nothing();
     }
     let head = l[0];

@@ -1,5 +1,5 @@
 // Damages a pack that has every sort of resource, and prints what the check of packs answers.
-// Lines `0 WORD A B C`: of the 32 packs with one bit of the word flipped, how many are accepted, torn and misfiled.
+// Lines `0 WORD A B C`: of the 32 packs with one bit of the word flipped, how many are accepted, damaged and malformed.
 // Lines `1 WORD A B C`: the same with the closing sum renewed. Lines `2 N ANSWER`: the first N words alone.
 // Lines `3 N ANSWER`: the first N words, or all and zeros behind them, with total and sum renewed.
 // The stored output is from the program `model` of oracle/ on the same packs, by tools/packs_expected.py.

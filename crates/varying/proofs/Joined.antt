@@ -9,8 +9,8 @@ use borrow.Author.Tests.{eqb-true, eqb-false, ltb-true, lt-ltb}
 use Rattle.word.specs.Choice.{pick, yes}
 use Rattle.word.specs.Words.{kindOf, contentOf, bits, bit, ofKind}
 use Rattle.numeric.specs.Types.{kindCode}
-use Rattle.numeric.specs.TypeWords.{widthKnown, typeFiled, typeOf, shapeCode, typeWord}
-use Rattle.varying.specs.Format.{locationFiled, varFiled, varOf, varWord, varHeld, payloadFiled, payloadOf, payloadWord, payloadHeld}
+use Rattle.numeric.specs.TypeWords.{widthKnown, typeWellFormed, typeOf, shapeCode, typeWord}
+use Rattle.varying.specs.Format.{locationWellFormed, varWellFormed, varOf, varWord, varEncodable, payloadWellFormed, payloadOf, payloadWord, payloadEncodable}
 use Rattle.varying.specs.declared.InterfaceVar.{InterfaceVar}
 use Rattle.varying.specs.declared.Payload.{Payload}
 use Rattle.varying.specs.declared.Payload.the-variants as Pay
@@ -28,8 +28,8 @@ record VarBits (w : ℕ) : Type 0 where
   shape : bits 3 0 w < 13
   width : widthKnown (bits 9 6 w) ≡ true
 
-var-bits : (w : ℕ) → varFiled w ≡ true → VarBits w
-unfolding varFiled typeFiled
+var-bits : (w : ℕ) → varWellFormed w ≡ true → VarBits w
+unfolding varWellFormed typeWellFormed
 var-bits w h =
     record {
       kind = search (eqb-true, first) depth 9;
@@ -53,7 +53,7 @@ glue w a b c d e f g q₁ q₂ q₃ q₄ q₅ h₁ h₂ h₃ h₄ h₅ h₆ h₇
 high-bits : (w : ℕ) → w / 2 ^ 19 ≡ 2 ^ 8 * (w / 2 ^ 27) → w / 2 ^ 18 ≡ bit 18 w + 2 * (w / 2 ^ 19) → w / 2 ^ 18 ≡ bit 18 w + 2 ^ 9 * kindOf w
 high-bits w m n = n ∙ rw m (omega arith)
 
-pub var-written : (w : ℕ) → varFiled w ≡ true → varWord (varOf w) ≡ w
+pub var-written : (w : ℕ) → varWellFormed w ≡ true → varWord (varOf w) ≡ w
 unfolding varWord varOf typeWord typeOf
 var-written w h =
     let v : VarBits w = var-bits w h in
@@ -64,9 +64,9 @@ var-written w h =
     (w / 2 ^ 4) (w / 2 ^ 6) (w / 2 ^ 12) (w / 2 ^ 15) (w / 2 ^ 18)
     (omega arith) (omega arith) (omega arith) (omega arith) (omega arith) (high-bits w m n) (v .kind))
 
-pub var-held : (w : ℕ) → varFiled w ≡ true → varHeld (varOf w) ≡ true
+pub var-encodable : (w : ℕ) → varWellFormed w ≡ true → varEncodable (varOf w) ≡ true
 unfolding varOf typeOf
-var-held w h =
+var-encodable w h =
     let v : VarBits w = var-bits w h in
     rw (v .width, lt-ltb (bits 14 12 w) 5 (v .interpolation), lt-ltb (bits 17 15 w) 6 (v .sampling))
 
@@ -92,7 +92,7 @@ record WordBits (v : InterfaceVar) (w : ℕ) : Type 0 where
   sampling : bits 17 15 w ≡ v .sampling
   primitive : bit 18 w ≡ pick (yes (v .«per_primitive»)) 1 0
 
-word-bits : (v : InterfaceVar) → varHeld v ≡ true → WordBits v (varWord v)
+word-bits : (v : InterfaceVar) → varEncodable v ≡ true → WordBits v (varWord v)
 unfolding varWord typeWord
 word-bits v h =
     let a : v .ty .scalar .width < 16 = search (width-below, first) depth 5 in
@@ -113,9 +113,9 @@ word-bits v h =
       primitive = omega arith;
     }
 
-pub var-filed : (v : InterfaceVar) → varHeld v ≡ true → varFiled (varWord v) ≡ true
-unfolding varFiled typeFiled
-var-filed v h =
+pub var-well-formed : (v : InterfaceVar) → varEncodable v ≡ true → varWellFormed (varWord v) ≡ true
+unfolding varWellFormed typeWellFormed
+var-well-formed v h =
     let w = varWord v in
     let f : WordBits v w = word-bits v h in
     let b : v .interpolation < 5 = search (ltb-true, first, second) depth 5 in
@@ -135,7 +135,7 @@ var-filed v h =
       d,
     )
 
-pub var-read : (v : InterfaceVar) → varHeld v ≡ true → varOf (varWord v) ≡ v
+pub var-read : (v : InterfaceVar) → varEncodable v ≡ true → varOf (varWord v) ≡ v
 unfolding varOf typeOf
 var-read v h =
     let f : WordBits v (varWord v) = word-bits v h in
@@ -143,18 +143,18 @@ var-read v h =
 
 -- ---- locations and payloads
 
-pub location-written : (w : ℕ) → locationFiled w ≡ true → ofKind 12 (contentOf w) ≡ w
+pub location-written : (w : ℕ) → locationWellFormed w ≡ true → ofKind 12 (contentOf w) ≡ w
 location-written w h = let k : kindOf w ≡ 12 = eqb-true (kindOf w) 12 h in omega arith
 
 module _ (location : ℕ) (h : location < 2 ^ 27) where
-  pub location-filed : locationFiled (ofKind 12 location) ≡ true
-  location-filed = let k : kindOf (ofKind 12 location) ≡ 12 = omega arith in rw k
+  pub location-well-formed : locationWellFormed (ofKind 12 location) ≡ true
+  location-well-formed = let k : kindOf (ofKind 12 location) ≡ 12 = omega arith in rw k
 
   pub location-read : contentOf (ofKind 12 location) ≡ location
   location-read = omega arith
 
-pub payload-written : (w : ℕ) → payloadFiled w ≡ true → payloadWord (payloadOf w) ≡ w
-unfolding payloadFiled payloadOf payloadWord
+pub payload-written : (w : ℕ) → payloadWellFormed w ≡ true → payloadWord (payloadOf w) ≡ w
+unfolding payloadWellFormed payloadOf payloadWord
 payload-written w h =
     let k : kindOf w ≡ 9 = search (eqb-true, first) in
     go k (second (eqb (kindOf w) 9) (eqb (bit 26 w) 1 || eqb (bits 25 0 w) 0) h) (eqb (bit 26 w) 1) refl
@@ -163,24 +163,24 @@ payload-written w h =
     go k z true e = omega (arith, eqb-true (bit 26 w) 1 e)
     go k z false e = omega (arith, eqb-false (bit 26 w) 1 e, eqb-true (bits 25 0 w) 0 (rw e at z))
 
-pub payload-held : (w : ℕ) → payloadHeld (payloadOf w) ≡ true
+pub payload-encodable : (w : ℕ) → payloadEncodable (payloadOf w) ≡ true
 unfolding payloadOf
-payload-held w = go (eqb (bit 26 w) 1)
+payload-encodable w = go (eqb (bit 26 w) 1)
   where
-    go : (b : Bool) → payloadHeld (pick b (Pay.Size (bits 25 0 w)) Pay.Absent) ≡ true
+    go : (b : Bool) → payloadEncodable (pick b (Pay.Size (bits 25 0 w)) Pay.Absent) ≡ true
     go true = lt-ltb (bits 25 0 w) (2 ^ 26) (omega arith)
     go false = refl
 
-pub payload-filed : (p : Payload) → payloadHeld p ≡ true → payloadFiled (payloadWord p) ≡ true
-unfolding payloadFiled payloadWord
-payload-filed Pay.Absent h = refl
-payload-filed (Pay.Size bytes) h =
+pub payload-well-formed : (p : Payload) → payloadEncodable p ≡ true → payloadWellFormed (payloadWord p) ≡ true
+unfolding payloadWellFormed payloadWord
+payload-well-formed Pay.Absent h = refl
+payload-well-formed (Pay.Size bytes) h =
     let l : bytes < 2 ^ 26 = ltb-true bytes (2 ^ 26) h in
     let k : kindOf (ofKind 9 (2 ^ 26 + bytes)) ≡ 9 = omega arith in
     let b : bit 26 (ofKind 9 (2 ^ 26 + bytes)) ≡ 1 = omega arith in
     rw (k, b)
 
-pub payload-read : (p : Payload) → payloadHeld p ≡ true → payloadOf (payloadWord p) ≡ p
+pub payload-read : (p : Payload) → payloadEncodable p ≡ true → payloadOf (payloadWord p) ≡ p
 unfolding payloadOf payloadWord
 payload-read Pay.Absent h = refl
 payload-read (Pay.Size bytes) h =

@@ -1,7 +1,7 @@
 // What passes between stages: a variable at a location, and the payload of a task stage.
 ghost use mathlib.Core.Path.{_≡_};
 ghost use mathlib.Core.Bool.{true};
-ghost use Rattle.varying.specs.Format.{varFiled, varOf, locationFiled, payloadFiled, payloadOf};
+ghost use Rattle.varying.specs.Format.{varWellFormed, varOf, locationWellFormed, payloadWellFormed, payloadOf};
 ghost use Rattle.varying.specs.Rules.{samePayload};
 use numeric::types::NumericType;
 
@@ -26,15 +26,15 @@ pub enum Payload {
 }
 
 // Whether a word is a location.
-pub fn location_filed(w: u32) -> bool
-    ensures { λ r. ⌜ r ≡ locationFiled w ⌝ }
+pub fn location_well_formed(w: u32) -> bool
+    ensures { λ r. ⌜ r ≡ locationWellFormed w ⌝ }
 {
     word::kind(w) == 12
 }
 
 // Whether a word is a variable: its type, interpolation, sampling and per-primitive bit.
-pub fn var_filed(w: u32) -> bool
-    ensures { λ r. ⌜ r ≡ varFiled w ⌝ }
+pub fn var_well_formed(w: u32) -> bool
+    ensures { λ r. ⌜ r ≡ varWellFormed w ⌝ }
 {
     if word::kind(w) != 13 {
         return false;
@@ -51,18 +51,18 @@ pub fn var_filed(w: u32) -> bool
     if 6 <= w / 0x8000 % 8 {
         return false;
     }
-    numeric::type_words::type_filed(w)
+    numeric::type_words::type_well_formed(w)
 }
 
 // The same where another word is known to be a variable: most of a list are alike, and the like is not tested again.
 pub fn var_good(w: u32, good: u32) -> bool
-    requires { ⌜ varFiled good ≡ true ⌝ }
-    ensures { λ r. ⌜ r ≡ varFiled w ⌝ }
+    requires { ⌜ varWellFormed good ≡ true ⌝ }
+    ensures { λ r. ⌜ r ≡ varWellFormed w ⌝ }
 {
     if w == good {
         return true;
     }
-    var_filed(w)
+    var_well_formed(w)
 }
 
 // The variable that a word holds.
@@ -79,8 +79,8 @@ pub fn var_of(w: u32) -> InterfaceVar
 }
 
 // Whether a word is a payload; an absent one has size 0.
-pub fn payload_filed(w: u32) -> bool
-    ensures { λ r. ⌜ r ≡ payloadFiled w ⌝ }
+pub fn payload_well_formed(w: u32) -> bool
+    ensures { λ r. ⌜ r ≡ payloadWellFormed w ⌝ }
 {
     if word::kind(w) != 9 {
         return false;

@@ -1,4 +1,4 @@
--- Where the records of a pack stand, by the counts that it names: read without asking whether it is well filed.
+-- Where the records of a pack stand, by the counts that it names: read without asking whether it is well formed.
 use Prim.Native.Nat.{ℕ, zero, suc, _+_, _<_, _≤_}
 use mathlib.Core.Path.{_≡_}
 use mathlib.Core.List.{List, [], _∷_}
@@ -6,7 +6,7 @@ use lib.Dec.{eqb}
 use lib.ListN.{length, take, drop}
 use Rattle.word.specs.Choice.{pick}
 use Rattle.word.specs.Words.{wordAt, bits, bit}
-use Rattle.bindings.specs.Format.{resourceAt, isBuffer}
+use Rattle.bindings.specs.Format.{resourceAt, isBufferWord}
 use Rattle.bindings.specs.declared.types.Resource.{Resource}
 use Rattle.interface.specs.Meaning.{EntryPoint}
 use Rattle.interface.specs.Format.{mostWords, nameWords, decode, decodedNumber, interfaceOf}
@@ -31,7 +31,7 @@ varyingsEnd ws n at = endFrom (varyingEnd ws) n at
 
 -- behind a resource: 'kind 4; kind 16; for buffers kind 6'
 abbrev pub resourceEnd : List ℕ → ℕ → ℕ
-resourceEnd ws at = at + pick (isBuffer (wordAt ws (at + 1))) 3 2
+resourceEnd ws at = at + pick (isBufferWord (wordAt ws (at + 1))) 3 2
 
 -- ---- an entry point by the position of its first word
 
@@ -76,8 +76,8 @@ outputsEnd ws p = varyingsEnd ws (bits 5 0 (wordAt ws (p .counts))) (p .outputs)
 unfoldable pub entryEnd : List ℕ → ℕ → ℕ
 entryEnd ws head = outputsEnd ws (partsAt ws head)
 
-abbrev pub entryAt : List ℕ → ℕ → EntryPoint
-entryAt ws head = standing ws (partsAt ws head)
+abbrev pub entryPointAt : List ℕ → ℕ → EntryPoint
+entryPointAt ws head = standing ws (partsAt ws head)
 
 -- ---- a pack: two words and thirteen limits, the resources, the entry points
 
@@ -98,7 +98,7 @@ abbrev pub headAt : List ℕ → ℕ → ℕ
 headAt ws position = endFrom (entryEnd ws) position (entriesAt ws)
 
 abbrev pub entriesOf : List ℕ → List EntryPoint
-entriesOf ws = recordsFrom (entryAt ws) (entryEnd ws) (entryCount ws) (entriesAt ws)
+entriesOf ws = recordsFrom (entryPointAt ws) (entryEnd ws) (entryCount ws) (entriesAt ws)
 
 -- the parts of an entry point lie one behind the other before the end of a pack, which is short
 pub record Placed (ws : List ℕ) (p : EntryParts) : Type 0 where

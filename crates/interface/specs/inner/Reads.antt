@@ -1,4 +1,4 @@
--- What stands at positions of a pack, read without asking whether it is well filed: what the functions behind the check of a pack read.
+-- What stands at positions of a pack, read without asking whether it is well formed: what the functions behind the check of a pack read.
 use Prim.Native.Nat.{ℕ, zero, suc, _+_}
 use mathlib.Core.List.{List, [], _∷_}
 use lib.Dec.{eqb}
@@ -7,7 +7,7 @@ use Rattle.word.specs.Choice.{pick}
 use Rattle.word.specs.Words.{wordAt, contentOf, bits, bit}
 use Rattle.bindings.specs.Format.{resourceAt}
 use Rattle.bindings.specs.declared.types.Resource.{Resource}
-use Rattle.varying.specs.Format.{locationFiled, payloadOf}
+use Rattle.varying.specs.Format.{locationWellFormed, payloadOf}
 use Rattle.interface.specs.Meaning.{EntryPoint}
 use Rattle.interface.specs.Format.{local, builtInOf, bytesOf, nameWords, stageAt, meshInfo, contents, pairsOf}
 use Rattle.interface.specs.declared.types.MeshRecord.{MeshRecord}
@@ -19,10 +19,10 @@ use Rattle.interface.specs.declared.types.EntryParts.{EntryParts}
 -- ---- varyings: two words for a local one, one for a built-in
 
 abbrev pub varying : List ℕ → Varying
-varying ws = pick (locationFiled (wordAt ws 0)) (local (wordAt ws 0) (wordAt ws 1)) (Var.BuiltIn (builtInOf (wordAt ws 0)))
+varying ws = pick (locationWellFormed (wordAt ws 0)) (local (wordAt ws 0) (wordAt ws 1)) (Var.BuiltIn (builtInOf (wordAt ws 0)))
 
 abbrev pub varyingWidth : List ℕ → ℕ
-varyingWidth ws = pick (locationFiled (wordAt ws 0)) 2 1
+varyingWidth ws = pick (locationWellFormed (wordAt ws 0)) 2 1
 
 unfoldable pub varyings : ℕ → List ℕ → List Varying
 varyings zero ws = []

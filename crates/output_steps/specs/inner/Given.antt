@@ -11,4 +11,4 @@ use Rattle.output_steps.specs.declared.types.Summary.{Summary}
 pub record Summed (ws : List ℕ) (p : EntryParts) (s : Summary) : Type 0 where
   pub outputs : s ≡ summaryOf (standing ws p .outputs)
   pub locals : s .locals ≤ 63
-  pub clip : s .«clip_places» ≤ 63 * 64
+  pub clip : s .«clip_slots» ≤ 63 * 64

@@ -6,7 +6,7 @@ use Rattle.interface.specs.declared.types.BuiltIn.{BuiltIn}
 use Rattle.interface.specs.declared.types.Varying.{Varying}
 use Rattle.interface.specs.declared.types.Varying.the-variants as Var
 use Rattle.output_steps.specs.declared.types.Summary.{Summary}
-use Rattle.output_steps.specs.Outputs.{anyOf, builtInPlaces, clipPlaces, isDepth, isPrimitive, localCount}
+use Rattle.output_steps.specs.Outputs.{anyOf, builtInSlots, clipSlots, isDepth, isPrimitive, localCount}
 
 abbrev pub reachPart : Varying → ℕ
 reachPart (Var.Local location iv) = location + 1
@@ -22,8 +22,8 @@ unfoldable pub summaryOf : List Varying → Summary
 summaryOf vs =
     record {
       locals = localCount vs;
-      «clip_places» = clipPlaces vs;
-      «built_in_places» = builtInPlaces vs;
+      «clip_slots» = clipSlots vs;
+      «built_in_slots» = builtInSlots vs;
       reach = reachOf vs;
       depth = anyOf isDepth vs;
       primitive = anyOf isPrimitive vs;
@@ -34,8 +34,8 @@ abbrev pub plus : Summary → Summary → Summary
 plus a b =
     record {
       locals = a .locals + b .locals;
-      «clip_places» = a .«clip_places» + b .«clip_places»;
-      «built_in_places» = a .«built_in_places» + b .«built_in_places»;
+      «clip_slots» = a .«clip_slots» + b .«clip_slots»;
+      «built_in_slots» = a .«built_in_slots» + b .«built_in_slots»;
       reach = max (a .reach) (b .reach);
       depth = a .depth || b .depth;
       primitive = a .primitive || b .primitive;

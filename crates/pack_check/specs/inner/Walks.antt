@@ -12,10 +12,10 @@ use Rattle.bindings.specs.Format.{readResource, typeCode}
 use Rattle.bindings.specs.declared.types.Resource.{Resource}
 use Rattle.bindings.specs.declared.types.ResourceType.{ResourceType}
 use Rattle.bindings.specs.declared.types.ResourceType.the-variants as Res
-use Rattle.varying.specs.Format.{payloadFiled}
+use Rattle.varying.specs.Format.{payloadWellFormed}
 use Rattle.interface.specs.Meaning.{EntryPoint}
-use Rattle.interface.specs.Format.{mostResources, readVarying, isClip, readName, headFiled, ofWord, readWorkgroup, readMesh, countsFiled, indexFiled, contents}
-use Rattle.interface.specs.Format.{sampledClass, pairFiled, bytesOf, nameWords, sameBytes, stageAt, distinctNames, readEntryPoint}
+use Rattle.interface.specs.Format.{mostResources, readVarying, isClip, readName, headWellFormed, ofWord, readWorkgroup, readMesh, countsWellFormed, indexWellFormed, contents}
+use Rattle.interface.specs.Format.{sampledClass, pairWellFormed, bytesOf, nameWords, sameBytes, stageAt, distinctNames, readEntryPoint}
 
 -- what a reader of several records got; nothing where it faulted
 abbrev pub listed : {A : Type 0} → Parsed (List A) → List A
@@ -50,21 +50,21 @@ varyingListsBehind counts ws = onward (varyingsBehind (bits 11 6 counts) 4 ws) �
 -- the four lists of an entry point
 unfoldable pub listsBehind : List Resource → ℕ → List ℕ → Rest
 listsBehind resources counts ws =
-    onward (behind (several (bits 23 18 counts) (one (indexFiled (length resources))) ws)) λ rest.
-    onward (behind (several (bits 17 12 counts) (one (pairFiled resources (contents (take (bits 23 18 counts) ws)))) rest)) λ rest.
+    onward (behind (several (bits 23 18 counts) (one (indexWellFormed (length resources))) ws)) λ rest.
+    onward (behind (several (bits 17 12 counts) (one (pairWellFormed resources (contents (take (bits 23 18 counts) ws)))) rest)) λ rest.
     varyingListsBehind counts rest
 
 -- an entry point: from its payload on, and whole
 unfoldable pub partsBehind : List Resource → ℕ → List ℕ → Rest
 partsBehind resources head ws =
-    word payloadFiled ws λ payload rest.
+    word payloadWellFormed ws λ payload rest.
     onward (behind (readMesh (eqb (bit 1 head) 1) rest)) λ rest.
-    word countsFiled rest λ counts rest.
+    word countsWellFormed rest λ counts rest.
     listsBehind resources counts rest
 
 unfoldable pub entryBehind : List Resource → List ℕ → Rest
 entryBehind resources ws =
-    word headFiled ws λ head rest.
+    word headWellFormed ws λ head rest.
     onward (behind (readName (bits 22 16 head) rest)) λ rest.
     onward (behind (readWorkgroup rest)) λ rest.
     partsBehind resources head rest
@@ -97,13 +97,13 @@ abbrev pub packResources : ℕ → List ℕ → List Resource
 packResources count ws = listed (several count readResource (drop 15 ws))
 
 -- a table in which the listed resources have their part
-unfoldable pub marked : List ℕ → List ℕ → List ℕ → List ℕ
-marked roles [] table = table
-marked roles (i ∷ is) table = marked roles is (set table i (getD roles i 0))
+unfoldable pub rolesOf : List ℕ → List ℕ → List ℕ → List ℕ
+rolesOf roles [] table = table
+rolesOf roles (i ∷ is) table = rolesOf roles is (set table i (getD roles i 0))
 
 -- a pair of a listed texture and a listed sampler
-abbrev pub pairMarked : List ℕ → ℕ → Bool
-pairMarked table w = ofWord 5 w && (eqb (bits 26 16 w) 0 && (eqb (getD table (bits 15 8 w) 0) 2 && eqb (getD table (bits 7 0 w) 0) 1))
+abbrev pub pairByRoles : List ℕ → ℕ → Bool
+pairByRoles table w = ofWord 5 w && (eqb (bits 26 16 w) 0 && (eqb (getD table (bits 15 8 w) 0) 2 && eqb (getD table (bits 7 0 w) 0) 1))
 
 -- ---- entry points by the positions of their first words
 

@@ -7,7 +7,7 @@ use lib.Dec.{ltb}
 use lib.ListN.{length, take}
 use Rattle.word.specs.Words.{wordAt, ofKind}
 use Rattle.word.specs.Lists.{every}
-use Rattle.bindings.specs.Format.{resourceHeld, bindingTypeOf, bindingCode, leastSize, formatHeld, resourceWidth}
+use Rattle.bindings.specs.Format.{resourceEncodable, bindingTypeOf, bindingCode, leastSize, formatEncodable, resourceWidth}
 use Rattle.bindings.specs.declared.types.Resource.{Resource}
 use Rattle.bindings.specs.declared.types.BindingType.{BindingType}
 use Rattle.interface.specs.inner.Reads.{resourcesAt}
@@ -23,8 +23,8 @@ pub record Inside (ws offsets : List ℕ) : Type 0 where
   pub words : (k : ℕ) → k < length (resourceTable ws offsets) → wordAt offsets k + resourceWidth ≤ length ws
 
 -- each is one that a pack can hold
-abbrev pub eachHeld : List Resource → Bool
-eachHeld rs = every resourceHeld rs
+abbrev pub eachEncodable : List Resource → Bool
+eachEncodable rs = every resourceEncodable rs
 
 -- each index is below the number of resources
 abbrev pub eachBelow : ℕ → List ℕ → Bool
@@ -39,7 +39,7 @@ pairsBelow count ps = every (pairBelow count) ps
 
 -- the type word and the least size of a binding type that a layout list can hold
 pub record TypeWords (type least : ℕ) (ty : BindingType) : Type 0 where
-  pub held : formatHeld ty ≡ true
+  pub encodable : formatEncodable ty ≡ true
   pub type-word : type ≡ ofKind 18 (bindingCode ty)
   pub least-size : least ≡ leastSize ty
 

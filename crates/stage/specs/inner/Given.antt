@@ -6,15 +6,15 @@ use mathlib.Core.List.{List}
 use lib.ListN.{length}
 use Rattle.word.specs.Lists.{every}
 use Rattle.interface.specs.Meaning.{EntryPoint, Interface}
-use Rattle.output_steps.specs.inner.ListOut.{outputHeld}
-use Rattle.resource_steps.specs.inner.Given.{Inside, eachBelow, eachHeld, pairsBelow, resourceTable}
+use Rattle.output_steps.specs.inner.ListOut.{outputEncodable}
+use Rattle.resource_steps.specs.inner.Given.{Inside, eachBelow, eachEncodable, pairsBelow, resourceTable}
 
 -- what the check of a pack gives the steps of an entry point: what it names stands among the resources, and can be handed on
 pub record Named (i : Interface) (e : EntryPoint) : Type 0 where
-  pub held : eachHeld (i .resources) ≡ true
+  pub encodable : eachEncodable (i .resources) ≡ true
   pub below : eachBelow (length (i .resources)) (e .resources) ≡ true
   pub pairs : pairsBelow (length (i .resources)) (e .pairs) ≡ true
-  pub outputs : every outputHeld (e .outputs) ≡ true
+  pub outputs : every outputEncodable (e .outputs) ≡ true
 
 -- and a table that holds the resources
 pub record Given (ws offsets : List ℕ) (i : Interface) (e : EntryPoint) : Type 0 where

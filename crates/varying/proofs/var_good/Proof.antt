@@ -8,5 +8,5 @@ var-good-spec =
     tie.close
     (tie.spec
     (λ c. search var-same)  -- returns
-    (λ c κs. search needs)  -- var-filed-requires
+    (λ c κs. search needs)  -- var-well-formed-requires
     (λ c. search needs))  -- returns-2

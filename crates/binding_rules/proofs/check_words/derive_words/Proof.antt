@@ -1,4 +1,4 @@
-use Rattle.binding_rules.proofs.AnswerLaws.{derive-no-resource, derive-found, derive-none, derive-held}
+use Rattle.binding_rules.proofs.AnswerLaws.{derive-no-resource, derive-found, derive-none, derive-encodable}
 use borrow.Author.Needs.{needs}
 use Rattle.binding_rules.proofs.check_words.derive_words.Statement.{statement}
 use Rattle.binding_rules.proofs.check_words.derive_words.Tie as tie
@@ -13,8 +13,8 @@ derive-words-spec =
     (λ c κs. search needs)  -- resource-at-requires
     (λ c κs. search needs)  -- derive-binding-type-requires
     (λ c. search needs)  -- enum-known-derived
-    (λ c κs. search derive-held)  -- binding-word-requires
-    (λ c κs. search derive-held)  -- least-word-requires
+    (λ c κs. search derive-encodable)  -- binding-word-requires
+    (λ c κs. search derive-encodable)  -- least-word-requires
     (λ c κs. search needs)  -- new-requires
     (λ c. search needs)  -- enum-told
     (λ c κs. search needs)  -- binding-answer-requires

@@ -9,5 +9,5 @@ entry-alone-spec =
     tie.close
     (tie.spec
     (λ c. search entry-other)  -- returns
-    (λ c κs. search needs)  -- entry-filed-requires
-    (λ c. entry-four (now (c .before .before .before .args .ws)) _ (c .entry-filed .ensures) (search needs)))  -- returns-2
+    (λ c κs. search needs)  -- entry-well-formed-requires
+    (λ c. entry-four (now (c .before .before .before .args .ws)) _ (c .entry-well-formed .ensures) (search needs)))  -- returns-2

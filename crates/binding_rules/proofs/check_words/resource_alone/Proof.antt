@@ -1,4 +1,4 @@
-use Rattle.binding_rules.proofs.AnswerLaws.{alone-none, none-held, alone-ends, alone-held}
+use Rattle.binding_rules.proofs.AnswerLaws.{alone-none, none-encodable, alone-ends, alone-encodable}
 use denote.Ref.{now}
 use borrow.Author.Needs.{needs}
 use Rattle.binding_rules.proofs.check_words.resource_alone.Statement.{statement}
@@ -9,5 +9,5 @@ resource-alone-spec =
     tie.close
     (tie.spec
     (λ c κs. search needs)  -- resource-next-requires
-    (λ c. (search alone-none, search none-held))  -- returns
-    (λ c. (alone-ends (now (c .before .before .before .args .ws)) _ (c .before .resource-next .ensures .0) (c .if1 .left) (search needs), search alone-held)))  -- returns-2
+    (λ c. (search alone-none, search none-encodable))  -- returns
+    (λ c. (alone-ends (now (c .before .before .before .args .ws)) _ (c .before .resource-next .ensures .0) (c .if1 .left) (search needs), search alone-encodable)))  -- returns-2

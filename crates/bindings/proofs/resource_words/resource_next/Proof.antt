@@ -9,14 +9,14 @@ resource-next-spec =
     (tie.spec
     (λ c. search needs)  -- sub-if1
     (λ c. (search next-few, (search needs, search needs)))  -- returns
-    (λ c. search needs)  -- mul-place-filed
-    (λ c. search needs)  -- shared-slice-read-place-filed
-    (λ c κs. search needs)  -- place-filed-requires
+    (λ c. search needs)  -- mul-place-well-formed
+    (λ c. search needs)  -- shared-slice-read-place-well-formed
+    (λ c κs. search needs)  -- place-well-formed-requires
     (λ c. (search next-no-place, (search needs, search needs)))  -- returns-2
     (λ c. search needs)  -- add-w
     (λ c. search needs)  -- mul-w
     (λ c. search needs)  -- shared-slice-read-w
-    (λ c κs. search needs)  -- resource-word-filed-requires
+    (λ c κs. search needs)  -- resource-word-well-formed-requires
     (λ c. (search next-no-type, (search needs, search needs)))  -- returns-3
     (λ c. search needs)  -- add-size-next
     (λ c κs. search needs)  -- size-next-requires

@@ -10,9 +10,9 @@ size-next-spec =
     (λ c κs. search needs)  -- is-buffer-requires
     (λ c. (search size-none, (search needs, search needs)))  -- returns
     (λ c. (search size-past, (search needs, search needs)))  -- returns-2
-    (λ c. search needs)  -- mul-size-filed
-    (λ c. search needs)  -- shared-slice-read-size-filed
-    (λ c κs. search needs)  -- size-filed-requires
+    (λ c. search needs)  -- mul-size-well-formed
+    (λ c. search needs)  -- shared-slice-read-size-well-formed
+    (λ c κs. search needs)  -- size-well-formed-requires
     (λ c. (search size-bad, (search needs, search needs)))  -- returns-3
     (λ c. search needs)  -- add-result
     (λ c. (search size-good, (search needs, search needs))))  -- returns-4

@@ -46,7 +46,7 @@ use denote.Exit.{yes}
 use denote.Triple.Clauses.{ensured, lasts}
 use Rattle.word.proofs.answer.Answer as R
 use Rattle.word.proofs.answer.Answer.Laws as R′
-use Rattle.stage_lists.specs.Format.{outFiled, decodeStage}
+use Rattle.stage_lists.specs.Format.{outWellFormed, decodeStage}
 use Rattle.interface.specs.inner.Reads.{varying}
 use Rattle.interface.specs.declared.types.ShaderStage.{ShaderStage}
 use Rattle.interface.proofs.types.ShaderStage as G
@@ -77,7 +77,7 @@ module _ {M : Type 1} (𝓤 : URA M) (H : Heap 𝓤) (A : Atoms 𝓤) (at-mem : 
   Callee = tripleOf 𝓤 H A callee.signature (callee.spec 𝓤 H A at-mem run)
 
 module _ {M : Type 1} (𝓤 : URA M) (H : Heap 𝓤) (A : Atoms 𝓤) (W : Given 𝓤 H A) (at-mem : Memory → SProp 𝓤) (run : Routine → Fun 𝓤) (κ κ′ : Lft) (q q′ : Share) (bounds : AllOutlive 2 (f.signature .outlives) (κ, (κ′, tt)))
-    (g : ShaderStage) (s : RefT (List ℕ)) (y z b o : ℕ) (γ : GName) (h : InputWalk) (is-g : Is G.the-row g (stage-vals g)) (is-s : Is (ShrSlice (named 0) κ u32) s (slice-vals s)) (fits-y : y < 2 ^ 32) (fits-z : z < 2 ^ 32) (ok : (h .locals < 2 ^ 31) × (outFiled (now s) ≡ true)) where
+    (g : ShaderStage) (s : RefT (List ℕ)) (y z b o : ℕ) (γ : GName) (h : InputWalk) (is-g : Is G.the-row g (stage-vals g)) (is-s : Is (ShrSlice (named 0) κ u32) s (slice-vals s)) (fits-y : y < 2 ^ 32) (fits-z : z < 2 ^ 32) (ok : (h .locals < 2 ^ 31) × (outWellFormed (now s) ≡ true)) where
   -- the arguments, and their machine values
   abbrev x : ShaderStage × (RefT (List ℕ) × (ℕ × (ℕ × (RefT InputWalk × Unit {0}))))
   x = (g, (s, (y, (z, (record { ptr = (b, o); name = γ; now = h }, tt)))))

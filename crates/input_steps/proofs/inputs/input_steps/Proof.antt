@@ -28,7 +28,7 @@ use contract.Running.{givenOf, tables, tablesOf}
 use types.Kit.{Given, Item, ‵, raw, _⊛_, ⋆, Sq, runs, anyQ, atRet, some, later, _$_, _∵_, !, qed, by, move, keep, drop, use0, use1, use2, use3, split, join, pick, rewrite, fsplit, fjoin, suffices, frame, await, done}
 use types.Part.{agg, whole, sub, look-in}
 use types.Run.{look, init, store, forget, stop, fld, from, load, lit, false-lit, of-opd, bin, addr, and-then, no-more, assigns, assigns-last, land, first, skips, stays, leaves-loop, blocks, branches, returns, returns-within, enter, alloc1, alloc0, params1, pass1, pass0, free1, free0, exec, Below, again, loops}
-use types.SemTy.{Body as Held}
+use types.SemTy.{Body as Encodable}
 use types.Tokens.{lft-new, lft-end}
 use sound.WpLaws.{fmOf, WpFn-mono}
 use denote.RattleType.{owns}
@@ -58,7 +58,7 @@ use Rattle.word.specs.declared.answer.Answer.{Answer}
 use Rattle.word.proofs.answer.Answer as R
 use Rattle.word.proofs.answer.Answer.Laws as R′
 use Rattle.varying.specs.declared.Located.{Located}
-use Rattle.stage_lists.specs.Format.{outFiled, decodeStage}
+use Rattle.stage_lists.specs.Format.{outWellFormed, decodeStage}
 use Rattle.interface.specs.inner.Reads.{varying, varyingWidth, varyings}
 use Rattle.interface.specs.inner.Parts.{varyingsEnd}
 use Rattle.interface.proofs.ReadsParts.{varying-there, varyings-left}
@@ -153,7 +153,7 @@ module _ {M : Type 1} (𝓤 : URA M) (H : Heap 𝓤) (A : Atoms 𝓤) (at-mem : 
 
 module _ {M : Type 1} (𝓤 : URA M) (H : Heap 𝓤) (A : Atoms 𝓤) (W : Given 𝓤 H A) (at-mem : Memory → SProp 𝓤) (run : Routine → Fun 𝓤) (κ κ′ : Lft) (q q′ : Share) (bounds : AllOutlive 2 (f.signature .outlives) (κ, (κ′, tt)))
     (s : RefT (List ℕ)) (start n : ℕ) (s′ : RefT (List ℕ)) (g : ShaderStage) (is-s : Is (ShrSlice (named 0) κ u32) s (slice-vals s)) (fits-start : start < 2 ^ 64) (fits-n : n < 2 ^ 64)
-    (is-s′ : Is (ShrSlice (named 1) κ′ u32) s′ (slice-vals s′)) (is-g : Is G.the-row g (stage-vals g)) (ok : (varyingsEnd (now s) n start < length (now s)) × (length (now s) ≤ 4096) × (n ≤ 63) × (outFiled (now s′) ≡ true)) where
+    (is-s′ : Is (ShrSlice (named 1) κ′ u32) s′ (slice-vals s′)) (is-g : Is G.the-row g (stage-vals g)) (ok : (varyingsEnd (now s) n start < length (now s)) × (length (now s) ≤ 4096) × (n ≤ 63) × (outWellFormed (now s′) ≡ true)) where
   -- the arguments, and their machine values
   abbrev x : RefT (List ℕ) × (ℕ × (ℕ × (RefT (List ℕ) × (ShaderStage × Unit {0}))))
   x = (s, (start, (n, (s′, (g, tt)))))
@@ -324,7 +324,7 @@ module _ {M : Type 1} (𝓤 : URA M) (H : Heap 𝓤) (A : Atoms 𝓤) (W : Given
         assigns ! (addr ! (from ! (stop !))) (from ! (stop !)) (init ! 8 refl (tt, tt)) $
         -- the record is lent for a new lifetime
         move ! (24 ∷ []) $ use1 W (‵ (partAt T.the-row fullShare h l₆ 0)) (lies 𝓤 H A W h l₆ is-h) $ lft-new ! tt (λ α. move ! (1 ∷ []) $
-        use1 W (later (some (λ (δ : GName). ‵ (Lent l₆ h y z α δ) ⊛ ‵ (flent (α ∷ []) (Held (mem T.the-row) l₆ 0 δ))))) (lends-ref 𝓤 H A W T.the-row (named 1) (α ∷ []) h l₆ 0) $ await ! tt $ pick ! (λ δ. split ! $
+        use1 W (later (some (λ (δ : GName). ‵ (Lent l₆ h y z α δ) ⊛ ‵ (flent (α ∷ []) (Encodable (mem T.the-row) l₆ 0 δ))))) (lends-ref 𝓤 H A W T.the-row (named 1) (α ∷ []) h l₆ 0) $ await ! tt $ pick ! (λ δ. split ! $
         move ! (2 ∷ 0 ∷ []) $ join ! $ move ! (40 ∷ 39 ∷ 0 ∷ []) $ use3 W (raw (Step 𝓤 H A at-mem run .pre (to-step l₆ h y z α δ)) ⊛ ‵ Own′) (goes-step l₆ h y z (is-y .1) (is-z .1) few α δ) $ split ! $
         -- [what the callee asks; what the inputs own; the lender's part; the pack's token; what the pack owns; the locals without _6]
         calls-at ! (fmOf 𝓤 H (W .laws) 𝓣) (Step 𝓤 H A at-mem run) known-step (to-step l₆ h y z α δ) (and-then ! (load ! (from ! (stop !)) (look ! 28 refl)) (and-then ! (load ! (from ! (stop !)) (look ! 30 refl)) (and-then ! (load ! (from ! (stop !)) (look ! 21 refl)) (and-then ! (load ! (from ! (stop !)) (look ! 19 refl)) (and-then ! (load ! (from ! (stop !)) (look ! 11 refl)) (no-more !)))))) (λ m′.

@@ -7,7 +7,7 @@ pub met-spec : {M : Type 1} → statement M
 met-spec =
     tie.close
     (tie.spec
-    (λ c κs. search needs)  -- location-filed-requires
+    (λ c κs. search needs)  -- location-well-formed-requires
     (λ c κs. search needs)  -- met-local-requires
     (λ c. search past-local)  -- returns
     (λ c κs. search needs)  -- built-in-of-requires

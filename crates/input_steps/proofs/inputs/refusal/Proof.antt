@@ -7,7 +7,7 @@ pub refusal-spec : {M : Type 1} → statement M
 refusal-spec =
     tie.close
     (tie.spec
-    (λ c κs. search needs)  -- location-filed-requires
+    (λ c κs. search needs)  -- location-well-formed-requires
     (λ c κs. search needs)  -- content-requires
     (λ c κs. search needs)  -- input-number-requires
     (λ c. (search number-local, search needs))  -- returns

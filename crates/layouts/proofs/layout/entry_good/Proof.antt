@@ -9,15 +9,15 @@ entry-good-spec =
     (tie.spec
     (λ c. search needs)  -- mul-place
     (λ c. search needs)  -- shared-slice-read-place
-    (λ c. search needs)  -- add-words-filed
-    (λ c. search needs)  -- mul-words-filed
-    (λ c. search needs)  -- shared-slice-read-words-filed
-    (λ c. search needs)  -- add-words-filed-2
-    (λ c. search needs)  -- mul-words-filed-2
-    (λ c. search needs)  -- shared-slice-read-words-filed-2
-    (λ c. search needs)  -- add-words-filed-3
-    (λ c. search needs)  -- mul-words-filed-3
-    (λ c. search needs)  -- shared-slice-read-words-filed-3
-    (λ c κs. search needs)  -- words-filed-requires
+    (λ c. search needs)  -- add-words-well-formed
+    (λ c. search needs)  -- mul-words-well-formed
+    (λ c. search needs)  -- shared-slice-read-words-well-formed
+    (λ c. search needs)  -- add-words-well-formed-2
+    (λ c. search needs)  -- mul-words-well-formed-2
+    (λ c. search needs)  -- shared-slice-read-words-well-formed-2
+    (λ c. search needs)  -- add-words-well-formed-3
+    (λ c. search needs)  -- mul-words-well-formed-3
+    (λ c. search needs)  -- shared-slice-read-words-well-formed-3
+    (λ c κs. search needs)  -- words-well-formed-requires
     (λ c. search entry-is)  -- returns
     (λ c. search entry-not))  -- returns-2

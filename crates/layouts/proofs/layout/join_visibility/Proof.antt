@@ -1,4 +1,4 @@
-use Rattle.layouts.proofs.LayoutStores.{entry-scaled, entry-placed, word-placed, word-bytes, word-inside, join-stored, join-decoded, join-filed}
+use Rattle.layouts.proofs.LayoutStores.{entry-scaled, entry-placed, word-placed, word-bytes, word-inside, join-stored, join-decoded, join-well-formed}
 use borrow.Author.Needs.{needs}
 use Rattle.layouts.proofs.layout.join_visibility.Statement.{statement}
 use Rattle.layouts.proofs.layout.join_visibility.Tie as tie
@@ -17,4 +17,4 @@ join-visibility-spec =
     (λ c. search (word-bytes, needs))  -- mul-l
     (λ c. search (word-inside, needs))  -- slice-write-l
     (λ c. search needs)  -- same-length
-    (λ c. (search join-stored, (search join-decoded, search join-filed))))  -- returns
+    (λ c. (search join-stored, (search join-decoded, search join-well-formed))))  -- returns

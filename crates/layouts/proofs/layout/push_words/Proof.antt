@@ -1,4 +1,4 @@
-use Rattle.layouts.proofs.LayoutStores.{head-there, entry-stored, room-lacking, room-there, words-kept, head-more, push-stored, push-decoded, push-filed}
+use Rattle.layouts.proofs.LayoutStores.{head-there, entry-stored, room-lacking, room-there, words-kept, head-more, push-stored, push-decoded, push-well-formed}
 use borrow.Author.Needs.{needs}
 use Rattle.layouts.proofs.layout.push_words.Statement.{statement}
 use Rattle.layouts.proofs.layout.push_words.Tie as tie
@@ -18,4 +18,4 @@ push-words-spec =
     (λ c. search head-more)  -- add-l
     (λ c. search needs)  -- slice-write-l
     (λ c. search needs)  -- same-length-2
-    (λ c. (search room-there, (search (push-stored, entry-stored), (search (push-decoded, entry-stored), search (push-filed, entry-stored))))))  -- returns-2
+    (λ c. (search room-there, (search (push-stored, entry-stored), (search (push-decoded, entry-stored), search (push-well-formed, entry-stored))))))  -- returns-2

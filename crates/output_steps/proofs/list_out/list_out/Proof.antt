@@ -1,5 +1,5 @@
 use Rattle.output_steps.proofs.OutputLaws.{outputs-end}
-use Rattle.output_steps.proofs.ListOutLaws.{outputs-held, outputs-room, payload-read-held, list-out}
+use Rattle.output_steps.proofs.ListOutLaws.{outputs-encodable, outputs-room, payload-read-encodable, list-out}
 use borrow.Author.Needs.{needs}
 use Rattle.output_steps.proofs.list_out.list_out.Statement.{statement}
 use Rattle.output_steps.proofs.list_out.list_out.Tie as tie
@@ -17,6 +17,6 @@ list-out-spec =
     (λ c. search needs)  -- mul-payload-of
     (λ c. search needs)  -- shared-slice-read-payload-of
     (λ c κs. search needs)  -- payload-of-requires
-    (λ c κs. ((search outputs-end, search needs, search needs), (search payload-read-held, (search outputs-held, search outputs-room))))  -- write-out-requires
+    (λ c κs. ((search outputs-end, search needs, search needs), (search payload-read-encodable, (search outputs-encodable, search outputs-room))))  -- write-out-requires
     (λ c. search needs)  -- same-length
     (λ c. search list-out))  -- returns

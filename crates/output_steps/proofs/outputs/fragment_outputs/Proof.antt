@@ -13,7 +13,7 @@ fragment-outputs-spec =
     (λ c. search needs)  -- mul-counts
     (λ c. search needs)  -- shared-slice-read-counts
     (λ c κs. search needs)  -- inputs-counted-requires
-    (λ c κs. (search inputs-end, search needs, search needs))  -- fragment-places-requires
+    (λ c κs. (search inputs-end, search needs, search needs))  -- fragment-slots-requires
     (λ c. search (both-ended, inputs-stand))  -- returns
     (λ c κs. search needs)  -- outputs-counted-requires
     (λ c κs. (search outputs-end, search needs, search needs))  -- location-uses-requires

@@ -1,5 +1,5 @@
 use borrow.Author.Needs.{needs}
-use Rattle.interface.specs.Format.{headFiled}
+use Rattle.interface.specs.Format.{headWellFormed}
 use Rattle.pack_check.proofs.CheckSteps.{steps, word-in}
 use Rattle.pack_check.proofs.CheckWalks.{entry-is}
 use Rattle.pack_check.proofs.check_entry.entry_point_next.Statement.{statement}
@@ -10,10 +10,10 @@ entry-point-next-spec =
     tie.close
     (tie.spec
     (λ c κs. search needs)  -- word-requires
-    (λ c κs. search needs)  -- head-filed-requires
+    (λ c κs. search needs)  -- head-well-formed-requires
     (λ c. (search (entry-is, steps), search needs))  -- returns
     (λ c. search needs)  -- add-name-next
-    (λ c κs. (search needs, search (word-in headFiled)))  -- name-next-requires
+    (λ c κs. (search needs, search (word-in headWellFormed)))  -- name-next-requires
     (λ c. (search (entry-is, steps), search needs))  -- returns-2
     (λ c κs. search needs)  -- workgroup-next-requires
     (λ c. (search (entry-is, steps), search needs))  -- returns-3

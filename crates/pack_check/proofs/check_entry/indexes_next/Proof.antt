@@ -4,8 +4,8 @@ use lib.ListN.{take, drop}
 use borrow.Author.Needs.{needs}
 use Rattle.word.specs.Parse.{one, several, behind, restAt}
 use Rattle.word.proofs.Parse.{several-begins, several-ended}
-use Rattle.interface.specs.Format.{indexFiled, contents}
-use Rattle.pack_check.specs.inner.Walks.{marked}
+use Rattle.interface.specs.Format.{indexWellFormed, contents}
+use Rattle.pack_check.specs.inner.Walks.{rolesOf}
 use Rattle.pack_check.proofs.CheckSteps.{words-lack, words-stop, words-go}
 use Rattle.pack_check.proofs.CheckPairs.{marks-begin, index-past, index-told, marks-go, marks-end}
 use Rattle.pack_check.proofs.check_entry.indexes_next.Statement.{statement}
@@ -13,8 +13,8 @@ use Rattle.pack_check.proofs.check_entry.indexes_next.Tie as tie
 
 abbrev Inv-loop : tie.InvT-loop
 Inv-loop body from n count roles table₀ at₀ i₀ table at i =
-    (1 ≤ at) × (i ≤ n) × (at ≡ from + i) × (restAt body at ≡ behind (several i (one (indexFiled count)) (drop from body)))
-    × (table ≡ marked roles (contents (take i (drop from body))) table₀)
+    (1 ≤ at) × (i ≤ n) × (at ≡ from + i) × (restAt body at ≡ behind (several i (one (indexWellFormed count)) (drop from body)))
+    × (table ≡ rolesOf roles (contents (take i (drop from body))) table₀)
 
 abbrev μ-loop : tie.MeasureT-loop
 μ-loop body from n count roles table₀ at₀ i₀ table at i = n - i

@@ -1,4 +1,4 @@
-use Rattle.interface.specs.Format.{topologyFiled}
+use Rattle.interface.specs.Format.{topologyWellFormed}
 use Rattle.pack_check.proofs.CheckSteps.{steps, word-in, rest-behind}
 use Rattle.pack_check.proofs.CheckWalks.{mesh-absent, mesh-present}
 use borrow.Author.Needs.{needs}
@@ -13,7 +13,7 @@ mesh-next-spec =
     (λ c κs. search needs)  -- kinds-next-requires
     (λ c. (search (mesh-present, steps), search needs))  -- returns-2
     (λ c κs. search needs)  -- word-requires
-    (λ c κs. search needs)  -- topology-filed-requires
+    (λ c κs. search needs)  -- topology-well-formed-requires
     (λ c. (search (mesh-present, steps), search needs))  -- returns-3
     (λ c. search needs)  -- add-result
-    (λ c. (search (mesh-present, steps, rest-behind), search (word-in topologyFiled))))  -- returns-4
+    (λ c. (search (mesh-present, steps, rest-behind), search (word-in topologyWellFormed))))  -- returns-4

@@ -4,7 +4,7 @@ use lib.ListN.{drop}
 use borrow.Author.Needs.{needs}
 use Rattle.word.specs.Parse.{one, several, behind, restAt}
 use Rattle.word.proofs.Parse.{several-begins, several-ended}
-use Rattle.pack_check.specs.inner.Walks.{pairMarked}
+use Rattle.pack_check.specs.inner.Walks.{pairByRoles}
 use Rattle.pack_check.proofs.CheckSteps.{words-lack, words-stop, words-go}
 use Rattle.word.proofs.Truth.{told-false, told-true}
 use Rattle.pack_check.proofs.check_entry.pairs_next.Statement.{statement}
@@ -12,7 +12,7 @@ use Rattle.pack_check.proofs.check_entry.pairs_next.Tie as tie
 
 abbrev Inv-loop : tie.InvT-loop
 Inv-loop body from n table at₀ i₀ at i =
-    (1 ≤ at) × (i ≤ n) × (at ≡ from + i) × (restAt body at ≡ behind (several i (one (pairMarked table)) (drop from body)))
+    (1 ≤ at) × (i ≤ n) × (at ≡ from + i) × (restAt body at ≡ behind (several i (one (pairByRoles table)) (drop from body)))
 
 abbrev μ-loop : tie.MeasureT-loop
 μ-loop body from n table at₀ i₀ at i = n - i
@@ -26,9 +26,9 @@ pairs-next-spec =
     (λ c. search needs)  -- sub-if1
     (λ c. (search words-lack, search needs))  -- returns
     (λ c. (search needs, search needs, search needs, search several-begins))  -- loop-holds
-    (λ c. search needs)  -- mul-pair-filed
-    (λ c. search needs)  -- shared-slice-read-pair-filed
-    (λ c κs. search needs)  -- pair-filed-requires
+    (λ c. search needs)  -- mul-pair-well-formed
+    (λ c. search needs)  -- shared-slice-read-pair-well-formed
+    (λ c κs. search needs)  -- pair-well-formed-requires
     (λ c. (search (words-stop, told-false), search needs))  -- returns-2
     (λ c. search needs)  -- add-at
     (λ c. search needs)  -- add-i

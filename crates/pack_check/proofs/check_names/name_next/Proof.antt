@@ -23,7 +23,7 @@ name-next-spec =
     μ-loop
     (λ c. search needs)  -- loop-holds
     (λ c κs. search needs)  -- word-requires
-    (λ c κs. search needs)  -- name-word-filed-requires
+    (λ c κs. search needs)  -- name-word-well-formed-requires
     (λ c. (search name-stops, search needs))  -- returns
     (λ c. search needs)  -- add-at
     (λ c κs. search needs)  -- behind-word-requires

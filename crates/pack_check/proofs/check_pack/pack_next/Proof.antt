@@ -10,10 +10,10 @@ pack-next-spec =
     tie.close
     (tie.spec
     (λ c κs. search needs)  -- word-requires
-    (λ c κs. search needs)  -- edition-filed-requires
+    (λ c κs. search needs)  -- edition-well-formed-requires
     (λ c. (search edition-stop, (search needs, (λ n. absurd (n refl), λ n. absurd (n refl)))))  -- returns
     (λ c κs. search needs)  -- word-requires-2
-    (λ c κs. search needs)  -- totals-filed-requires
+    (λ c κs. search needs)  -- totals-well-formed-requires
     (λ c. (search totals-stop, (search needs, (λ n. absurd (n refl), λ n. absurd (n refl)))))  -- returns-2
     (λ c κs. search needs)  -- limits-next-requires
     (λ c. (search limits-stop, (search needs, (λ n. absurd (n refl), λ n. absurd (n refl)))))  -- returns-3

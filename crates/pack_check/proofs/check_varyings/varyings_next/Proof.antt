@@ -3,7 +3,7 @@ use mathlib.Core.Path.{_≡_}
 use mathlib.Core.Bool.{true}
 use lib.ListN.{length, drop}
 use borrow.Author.Needs.{needs}
-use Rattle.varying.specs.Format.{varFiled}
+use Rattle.varying.specs.Format.{varWellFormed}
 use Rattle.pack_check.specs.inner.Walks.{varyingsBehind}
 use Rattle.varying.proofs.Ways.{var-vector}
 use Rattle.pack_check.proofs.CheckVaryings.{local-stop, local-in, local-good, local-go, built-in-stop, built-in-in, built-in-go, codes-stay, varyings-ended}
@@ -12,7 +12,7 @@ use Rattle.pack_check.proofs.check_varyings.varyings_next.Tie as tie
 
 abbrev Inv-loop : tie.InvT-loop
 Inv-loop body from n codes at₀ left₀ below₀ good₀ at left below good =
-    (1 ≤ at) × (at ≤ length body) × (4 ≤ below) × (below ≤ 5) × (varyingsBehind n codes (drop from body) ≡ varyingsBehind left below (drop at body)) × (varFiled good ≡ true)
+    (1 ≤ at) × (at ≤ length body) × (4 ≤ below) × (below ≤ 5) × (varyingsBehind n codes (drop from body) ≡ varyingsBehind left below (drop at body)) × (varWellFormed good ≡ true)
 
 abbrev μ-loop : tie.MeasureT-loop
 μ-loop body from n codes at₀ left₀ below₀ good₀ at left below good = left
@@ -25,7 +25,7 @@ varyings-next-spec =
     μ-loop
     (λ c. (search needs, search needs, search needs, search needs, search needs, search var-vector))  -- loop-holds
     (λ c κs. search needs)  -- word-requires
-    (λ c κs. search needs)  -- location-filed-requires
+    (λ c κs. search needs)  -- location-well-formed-requires
     (λ c. search needs)  -- add-second
     (λ c κs. search needs)  -- word-requires-2
     (λ c κs. search needs)  -- var-good-requires
@@ -34,7 +34,7 @@ varyings-next-spec =
     (λ c. search needs)  -- sub-left
     (λ c. search needs)  -- loop-less
     (λ c. (search needs, search local-in, search needs, search needs, search local-go, search local-good))  -- loop-again
-    (λ c κs. search needs)  -- built-in-filed-requires
+    (λ c κs. search needs)  -- built-in-well-formed-requires
     (λ c. (search built-in-stop, search needs))  -- returns-2
     (λ c. search needs)  -- sub-below
     (λ c. search needs)  -- add-at-2

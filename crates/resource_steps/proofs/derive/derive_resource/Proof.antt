@@ -1,5 +1,5 @@
 use Rattle.resource_steps.proofs.ResourceParts.{position-there}
-use Rattle.resource_steps.proofs.ResourceWalk.{held-there, place-inside, type-inside, size-inside}
+use Rattle.resource_steps.proofs.ResourceWalk.{encodable-there, place-inside, type-inside, size-inside}
 use Rattle.resource_steps.proofs.DeriveLaws.{derive-nth}
 use borrow.Author.Needs.{needs}
 use Rattle.resource_steps.proofs.derive.derive_resource.Statement.{statement}
@@ -19,6 +19,6 @@ derive-resource-spec =
     (λ c. search needs)  -- add-size-at
     (λ c κs. search size-inside)  -- size-at-requires
     (λ c κs. search needs)  -- named-sampled-requires
-    (λ c κs. (search needs, search held-there))  -- derive-step-requires
+    (λ c κs. (search needs, search encodable-there))  -- derive-step-requires
     (λ c. search needs)  -- same-length
     (λ c. (search derive-nth, search needs)))  -- returns

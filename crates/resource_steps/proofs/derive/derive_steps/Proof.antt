@@ -2,7 +2,7 @@ use Prim.Native.Nat.{_+_, _-_, _≤_}
 use mathlib.Core.Path.{_≡_}
 use lib.ListN.{length, take, drop}
 use mathlib.Core.Bool.{true}
-use Rattle.layouts.specs.Format.{layoutFiled, decodeLayout}
+use Rattle.layouts.specs.Format.{layoutWellFormed, decodeLayout}
 use Rattle.interface.specs.Format.{contents, pairsOf}
 use Rattle.resource_steps.specs.inner.Given.{resourceTable, eachBelow}
 use Rattle.resource_steps.specs.Resources.{deriveSteps}
@@ -14,7 +14,7 @@ use Rattle.resource_steps.proofs.derive.derive_steps.Tie as tie
 
 abbrev Inv-loop : tie.InvT-loop
 Inv-loop pack offsets from n pairs-at pairs-n stage layout₀ at₀ passed₀ layout at passed =
-    (passed ≤ n) × (at + (n - passed) ≤ length pack) × (length layout ≡ length layout₀) × (layoutFiled layout ≡ true)
+    (passed ≤ n) × (at + (n - passed) ≤ length pack) × (length layout ≡ length layout₀) × (layoutWellFormed layout ≡ true)
     × (eachBelow (length (resourceTable pack offsets)) (contents (take (n - passed) (drop at pack))) ≡ true)
     × (deriveSteps stage (resourceTable pack offsets) (pairsOf (take pairs-n (drop pairs-at pack))) (contents (take n (drop from pack))) (decodeLayout layout₀)
     ≡ deriveBehind passed (deriveSteps stage (resourceTable pack offsets) (pairsOf (take pairs-n (drop pairs-at pack))) (contents (take (n - passed) (drop at pack))) (decodeLayout layout)))

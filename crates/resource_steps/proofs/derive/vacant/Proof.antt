@@ -1,4 +1,4 @@
-use Rattle.resource_steps.proofs.DeriveLaws.{new-filed, new-fits, new-lacks, vacant-pushed, vacant-full, new-small}
+use Rattle.resource_steps.proofs.DeriveLaws.{new-well-formed, new-fits, new-lacks, vacant-pushed, vacant-full, new-small}
 use borrow.Author.Needs.{needs}
 use Rattle.resource_steps.proofs.derive.vacant.Statement.{statement}
 use Rattle.resource_steps.proofs.derive.vacant.Tie as tie
@@ -13,7 +13,7 @@ vacant-spec =
     (λ c κs. search needs)  -- content-requires
     (λ c. search needs)  -- add-push-words
     (λ c κs. search new-small)  -- size-word-requires
-    (λ c κs. (search needs, (search new-filed, (search new-fits, search new-lacks))))  -- push-words-requires
+    (λ c κs. (search needs, (search new-well-formed, (search new-fits, search new-lacks))))  -- push-words-requires
     (λ c κs. search needs)  -- accepted-requires
     (λ c. search needs)  -- same-length
     (λ c. (search vacant-pushed, search needs))  -- returns

@@ -1,5 +1,5 @@
 use Rattle.resource_steps.proofs.ResourceParts.{position-there}
-use Rattle.resource_steps.proofs.ResourceWalk.{held-there, place-inside, type-inside, size-inside}
+use Rattle.resource_steps.proofs.ResourceWalk.{encodable-there, place-inside, type-inside, size-inside}
 use Rattle.resource_steps.proofs.ProvideLaws.{provide-ended, provide-went}
 use borrow.Author.Needs.{needs}
 use Rattle.resource_steps.proofs.provide.provide_step.Statement.{statement}
@@ -18,7 +18,7 @@ provide-step-spec =
     (λ c. search type-inside)  -- shared-slice-read-w
     (λ c. search needs)  -- add-size-at
     (λ c κs. search size-inside)  -- size-at-requires
-    (λ c κs. (search needs, search held-there))  -- record-size-requires
+    (λ c κs. (search needs, search encodable-there))  -- record-size-requires
     (λ c. search needs)  -- same-length
     (λ c. (search provide-ended, search needs))  -- returns
     (λ c κs. search needs)  -- provided-use-requires

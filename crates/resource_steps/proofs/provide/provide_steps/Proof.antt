@@ -2,7 +2,7 @@ use Prim.Native.Nat.{_+_, _-_, _≤_}
 use mathlib.Core.Path.{_≡_}
 use lib.ListN.{length, take, drop}
 use mathlib.Core.Bool.{true}
-use Rattle.sizes.specs.Format.{sizesFiled, decodeSizes}
+use Rattle.sizes.specs.Format.{sizesWellFormed, decodeSizes}
 use Rattle.layouts.specs.Format.{decodeLayout}
 use Rattle.interface.specs.Format.{contents}
 use Rattle.resource_steps.specs.inner.Given.{resourceTable, eachBelow}
@@ -15,7 +15,7 @@ use Rattle.resource_steps.proofs.provide.provide_steps.Tie as tie
 
 abbrev Inv-loop : tie.InvT-loop
 Inv-loop pack offsets from n stage entries₀ layout sizes₀ at₀ passed₀ near₀ next₀ entries sizes at passed near next =
-    (passed ≤ n) × (at + (n - passed) ≤ length pack) × (length sizes ≡ length sizes₀) × (sizesFiled sizes ≡ true)
+    (passed ≤ n) × (at + (n - passed) ≤ length pack) × (length sizes ≡ length sizes₀) × (sizesWellFormed sizes ≡ true)
     × (eachBelow (length (resourceTable pack offsets)) (contents (take (n - passed) (drop at pack))) ≡ true)
     × (provideSteps stage (decodeLayout layout) (resourceTable pack offsets) (contents (take n (drop from pack))) (decodeSizes sizes₀)
     ≡ provideBehind passed (provideSteps stage (decodeLayout layout) (resourceTable pack offsets) (contents (take (n - passed) (drop at pack))) (decodeSizes sizes)))

@@ -1,4 +1,4 @@
-use Rattle.stage.proofs.CheckLaws.{table-held, resources-below, resources-in, pairs-in, resources-derived, resources-provided}
+use Rattle.stage.proofs.CheckLaws.{table-encodable, resources-below, resources-in, pairs-in, resources-derived, resources-provided}
 use borrow.Author.Needs.{needs}
 use Rattle.stage.proofs.check.check_resources.Statement.{statement}
 use Rattle.stage.proofs.check.check_resources.Tie as tie
@@ -13,10 +13,10 @@ check-resources-spec =
     (λ c. search needs)  -- cast-n
     (λ c κs. search needs)  -- stage-at-requires
     (λ c κs. search needs)  -- pairs-counted-requires
-    (λ c κs. (search needs, ((search table-held, search needs), (search resources-below, (search resources-in, search pairs-in)))))  -- derive-steps-requires
+    (λ c κs. (search needs, ((search table-encodable, search needs), (search resources-below, (search resources-in, search pairs-in)))))  -- derive-steps-requires
     (λ c. search needs)  -- same-length
     (λ c. (search resources-derived, search needs))  -- returns
-    (λ c κs. (search needs, ((search table-held, search needs), (search resources-below, search resources-in))))  -- provide-steps-requires
+    (λ c κs. (search needs, ((search table-encodable, search needs), (search resources-below, search resources-in))))  -- provide-steps-requires
     (λ c. search needs)  -- same-length-2
     (λ c. search needs)  -- same-length-3
     (λ c. (search resources-provided, search needs)))  -- returns-2

@@ -9,9 +9,9 @@ unfolding listsGood
 lists-good-spec =
     tie.close
     (tie.spec
-    (λ c κs. search needs)  -- layout-filed-requires
-    (λ c κs. search needs)  -- sizes-filed-requires
-    (λ c κs. search needs)  -- stage-filed-requires
+    (λ c κs. search needs)  -- layout-well-formed-requires
+    (λ c κs. search needs)  -- sizes-well-formed-requires
+    (λ c κs. search needs)  -- stage-well-formed-requires
     (λ c. search tests-on)  -- returns
     (λ c. search tests-on)  -- returns-2
     (λ c. search tests-on))  -- returns-3

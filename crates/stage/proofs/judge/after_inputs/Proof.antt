@@ -8,7 +8,7 @@ after-inputs-spec =
     tie.close
     (tie.spec
     (λ c κs. search needs)  -- limits-requires
-    (λ c κs. search needs)  -- places-step-requires
+    (λ c κs. search needs)  -- slots-step-requires
     (λ c. search behind-refused)  -- returns
     (λ c κs. search needs)  -- mesh-of-requires
     (λ c κs. search needs)  -- payload-of-requires

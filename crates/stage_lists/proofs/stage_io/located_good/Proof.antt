@@ -7,9 +7,9 @@ pub located-good-spec : {M : Type 1} → statement M
 located-good-spec =
     tie.close
     (tie.spec
-    (λ c. search needs)  -- mul-location-filed
-    (λ c. search needs)  -- shared-slice-read-location-filed
-    (λ c κs. search needs)  -- location-filed-requires
+    (λ c. search needs)  -- mul-location-well-formed
+    (λ c. search needs)  -- shared-slice-read-location-well-formed
+    (λ c κs. search needs)  -- location-well-formed-requires
     (λ c. search needs)  -- add-var-good
     (λ c. search needs)  -- mul-var-good
     (λ c. search needs)  -- shared-slice-read-var-good

@@ -18,5 +18,5 @@ stage-head-spec =
     (λ c. search needs)  -- add-if5
     (λ c. search (head-word, tests))  -- returns-5
     (λ c κs. search needs)  -- word-requires-2
-    (λ c κs. search needs)  -- payload-filed-requires
+    (λ c κs. search needs)  -- payload-well-formed-requires
     (λ c. search (head-word, payload-word, tests)))  -- returns-6

@@ -2,7 +2,7 @@ use Prim.Native.Nat.{_≤_, _+_, _*_}
 use mathlib.Core.Path.{_≡_}
 use mathlib.Core.Bool.{true}
 use lib.ListN.{length, drop}
-use Rattle.varying.specs.Format.{varFiled}
+use Rattle.varying.specs.Format.{varWellFormed}
 use Rattle.places.specs.Records.{countOf, each}
 use Rattle.stage_lists.specs.Format.{locatedGood}
 use Rattle.places.proofs.Ways.{each-begins, each-fails, each-onward, each-ended}
@@ -14,7 +14,7 @@ use Rattle.stage_lists.proofs.stage_io.varyings_good.Tie as tie
 
 abbrev Inv-loop : tie.InvT-loop
 Inv-loop l good₀ at₀ left₀ good at left =
-    (at + 2 * left ≤ length l) × (varFiled good ≡ true) × (each 2 locatedGood (countOf l) (drop 2 l) ≡ each 2 locatedGood left (drop at l))
+    (at + 2 * left ≤ length l) × (varWellFormed good ≡ true) × (each 2 locatedGood (countOf l) (drop 2 l) ≡ each 2 locatedGood left (drop at l))
 
 abbrev μ-loop : tie.MeasureT-loop
 μ-loop l good₀ at₀ left₀ good at left = left

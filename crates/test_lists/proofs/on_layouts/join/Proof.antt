@@ -8,7 +8,7 @@ pub join-spec : {M : Type 1} → statement M
 join-spec =
     tie.close
     (tie.spec
-    (λ c κs. search needs)  -- layout-filed-requires
+    (λ c κs. search needs)  -- layout-well-formed-requires
     (λ c κs. search needs)  -- nothing-requires
     (λ c. search needs)  -- same-length
     (λ c. search needs)  -- returns

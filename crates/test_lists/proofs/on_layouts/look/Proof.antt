@@ -7,7 +7,7 @@ pub look-spec : {M : Type 1} → statement M
 look-spec =
     tie.close
     (tie.spec
-    (λ c κs. search needs)  -- layout-filed-requires
+    (λ c κs. search needs)  -- layout-well-formed-requires
     (λ c κs. search needs)  -- nothing-requires
     (λ c. search needs)  -- returns
     (λ c κs. search needs)  -- group-count-requires

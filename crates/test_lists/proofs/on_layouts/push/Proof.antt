@@ -7,11 +7,11 @@ pub push-spec : {M : Type 1} → statement M
 push-spec =
     tie.close
     (tie.spec
-    (λ c κs. search needs)  -- layout-filed-requires
+    (λ c κs. search needs)  -- layout-well-formed-requires
     (λ c κs. search needs)  -- nothing-requires
     (λ c. search needs)  -- same-length
     (λ c. search needs)  -- returns
-    (λ c κs. search needs)  -- words-filed-requires
+    (λ c κs. search needs)  -- words-well-formed-requires
     (λ c κs. search needs)  -- nothing-requires-2
     (λ c. search needs)  -- same-length-2
     (λ c. search needs)  -- returns-2

@@ -8,7 +8,7 @@ pub record-spec : {M : Type 1} → statement M
 record-spec =
     tie.close
     (tie.spec
-    (λ c κs. search needs)  -- sizes-filed-requires
+    (λ c κs. search needs)  -- sizes-well-formed-requires
     (λ c κs. search needs)  -- nothing-requires
     (λ c. search needs)  -- same-length
     (λ c. search needs)  -- returns

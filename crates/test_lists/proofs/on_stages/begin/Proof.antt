@@ -9,7 +9,7 @@ begin-spec =
     (tie.spec
     (λ c κs. search needs)  -- nothing-requires
     (λ c. search needs)  -- returns
-    (λ c κs. search needs)  -- payload-filed-requires
+    (λ c κs. search needs)  -- payload-well-formed-requires
     (λ c κs. search needs)  -- nothing-requires-2
     (λ c. search needs)  -- returns-2
     (λ c κs. search needs)  -- primitive-of-requires

@@ -7,7 +7,7 @@ pub has-room-spec : {M : Type 1} → statement M
 has-room-spec =
     tie.close
     (tie.spec
-    (λ c κs. search needs)  -- out-filed-requires
+    (λ c κs. search needs)  -- out-well-formed-requires
     (λ c. search no-list)  -- returns
     (λ c κs. search out-there)  -- counted-requires
     (λ c. search needs)  -- mul-result

@@ -14,7 +14,7 @@ insert-spec =
     (λ c κs. search needs)  -- nothing-requires-2
     (λ c. search needs)  -- same-length-2
     (λ c. search needs)  -- returns-2
-    (λ c κs. search needs)  -- var-filed-requires
+    (λ c κs. search needs)  -- var-well-formed-requires
     (λ c κs. search needs)  -- nothing-requires-3
     (λ c. search needs)  -- same-length-3
     (λ c. search needs)  -- returns-3
