@@ -18,7 +18,7 @@ use Rattle.bindings.specs.declared.types.Resource.{Resource}
 use Rattle.bindings.specs.declared.types.ResourceType.{ResourceType}
 use Rattle.bindings.specs.declared.types.ResourceType.the-variants as Res
 use Rattle.varying.specs.declared.Payload.the-variants as Pay
-use Rattle.interface.specs.Meaning.{Interface, entryPointNth as interface-entryNth, entryPointNth}
+use Rattle.interface.specs.Meaning.{Interface, entryPointNth}
 use Rattle.interface.specs.Format.{stageCode, readVarying, clips, bytesOf, noZero, allZero, readName, readWorkgroup, readMesh, contents, ofType, pairsOf}
 use Rattle.interface.specs.declared.types.ShaderStage.{ShaderStage}
 use Rattle.interface.specs.declared.types.ShaderStage.the-variants as Stage
@@ -44,7 +44,7 @@ use Rattle.bindings.specs.Format.{resourceTypeWellFormed, resourceTypeOf, readR
 use Rattle.bindings.specs.Format.{bindingCode, entryWords}
 use Rattle.varying.specs.Format.{varWellFormed, varOf, varWord, payloadWellFormed, payloadOf, payloadWord}
 use Rattle.places.specs.Places.{placeFrom, placeIn, distinctPlaces}
-use Rattle.layouts.specs.Meaning.{pushed, joinAt, joined}
+use Rattle.layouts.specs.Meaning.{pushed, joinAt, joined, entryNth}
 use Rattle.sizes.specs.Meaning.{raiseAt, recorded}
 use Rattle.stage_lists.specs.Meaning.{varyingAt, rising, insert}
 use Rattle.places.specs.Records.{past, each, put, countOf, records}
@@ -164,11 +164,11 @@ pub record Met : Type 0 where
 pub met : Met
 unfolding yes sumOf closingSum several typeWellFormed typeOf typeWord sameSpace bufferUse samplerUse viewFits sampledFits storageFits textureUse checkBindingUse
     derivedTexture deriveBindingType resourceReusable resourceTypeWellFormed resourceTypeOf readResource resourceWords bindingTypeWellFormed bindingTypeOf entryWellFormed
-    entryOf bindingCode entryWords varWellFormed varOf varWord payloadWellFormed payloadOf payloadWord placeFrom placeIn distinctPlaces entryPointNth pushed joinAt
+    entryOf bindingCode entryWords varWellFormed varOf varWord payloadWellFormed payloadOf payloadWord placeFrom placeIn distinctPlaces entryNth pushed joinAt
     joined raiseAt recorded varyingAt rising insert past records each flat put groupsOf countOf layoutHead layoutWellFormed decodeLayout encodeLayout
     sizesHead sizesWellFormed decodeSizes encodeSizes stageHead outWellFormed decodeStage encodeStage readVarying clips bytesOf noZero allZero readName
     readWorkgroup readMesh contents among ofType pairsOf readEntryPoint sameBytes hasName distinctNames readPack damaged decode packName
-    entryPointWords recordWords encode interface-entryNth findFrom workgroupUse workgroupStep inputStep inputSteps clipSlots builtInSlots localCount
+    entryPointWords recordWords encode entryPointNth findFrom workgroupUse workgroupStep inputStep inputSteps clipSlots builtInSlots localCount
     locationUses vertexOutputs anyOf attachmentUse fragmentSlots fragmentOutputs slotsStep meshUse payloadMatch primitiveUse drawUse perVertexUse
     lastStep localsOf stageOut resourceNth recordSize providedUse provideStep provideSteps occupied vacant deriveStep namedTexture deriveSteps resourceSteps
     pairNumber pairUse pairUses behindInputs judgement stageBody listsGood callGood finish runBody checkStage runOver pairsReusable entryPointsReusable resourcesReusable lacking
@@ -255,11 +255,11 @@ cases =
 pub cases-right : allRight cases ≡ true
 unfolding allRight cases yes sumOf closingSum several typeWellFormed typeOf typeWord sameSpace bufferUse samplerUse viewFits sampledFits storageFits textureUse checkBindingUse
     derivedTexture deriveBindingType resourceReusable resourceTypeWellFormed resourceTypeOf readResource resourceWords bindingTypeWellFormed bindingTypeOf entryWellFormed
-    entryOf bindingCode entryWords varWellFormed varOf varWord payloadWellFormed payloadOf payloadWord placeFrom placeIn distinctPlaces entryPointNth pushed joinAt
+    entryOf bindingCode entryWords varWellFormed varOf varWord payloadWellFormed payloadOf payloadWord placeFrom placeIn distinctPlaces entryNth pushed joinAt
     joined raiseAt recorded varyingAt rising insert past records each flat put groupsOf countOf layoutHead layoutWellFormed decodeLayout encodeLayout
     sizesHead sizesWellFormed decodeSizes encodeSizes stageHead outWellFormed decodeStage encodeStage readVarying clips bytesOf noZero allZero readName
     readWorkgroup readMesh contents among ofType pairsOf readEntryPoint sameBytes hasName distinctNames readPack damaged decode packName
-    entryPointWords recordWords encode interface-entryNth findFrom workgroupUse workgroupStep inputStep inputSteps clipSlots builtInSlots localCount
+    entryPointWords recordWords encode entryPointNth findFrom workgroupUse workgroupStep inputStep inputSteps clipSlots builtInSlots localCount
     locationUses vertexOutputs anyOf attachmentUse fragmentSlots fragmentOutputs slotsStep meshUse payloadMatch primitiveUse drawUse perVertexUse
     lastStep localsOf stageOut resourceNth recordSize providedUse provideStep provideSteps occupied vacant deriveStep namedTexture deriveSteps resourceSteps
     pairNumber pairUse pairUses behindInputs judgement stageBody listsGood callGood finish runBody checkStage runOver pairsReusable entryPointsReusable resourcesReusable lacking

@@ -35,7 +35,7 @@ fn quarters(size: u32) -> u32
 }
 
 // The summary of a built-in that takes inter-stage slots.
-fn taking(places: u32, depth: bool, primitive: bool) -> Summary
+fn taking(slots: u32, depth: bool, primitive: bool) -> Summary
     ensures { λ r. ⌜ r ≡ record { locals = 0; «clip_slots» = 0; «built_in_slots» = slots; reach = 0; depth = depth; primitive = primitive } ⌝ }
 {
     Summary {
@@ -177,7 +177,7 @@ pub(crate) fn location_uses(
     Answer::accepted()
 }
 
-fn count_use(number: u32, count: u32, places: u32, limit: u32) -> Answer
+fn count_use(number: u32, count: u32, slots: u32, limit: u32) -> Answer
     ensures { λ r. ⌜ r ≡ countUse number count slots limit ⌝ }
 {
     if slots < count {
@@ -186,7 +186,7 @@ fn count_use(number: u32, count: u32, places: u32, limit: u32) -> Answer
     Answer::accepted()
 }
 
-// A point list takes one place.
+// A point list takes one slot.
 fn point_part(topology: u32) -> u32
     ensures { λ r. ⌜ r ≡ pointPart topology ⌝ }
     ensures { λ r. ⌜ r ≤ 1 ⌝ }

@@ -1,7 +1,7 @@
 use Rattle.resource_steps.proofs.ResourceLaws.{least-there}
 use borrow.Author.Needs.{needs}
-use Rattle.stage.proofs.resources.entry_least.Statement.{statement}
-use Rattle.stage.proofs.resources.entry_least.Tie as tie
+use Rattle.resource_steps.proofs.resources.entry_least.Statement.{statement}
+use Rattle.resource_steps.proofs.resources.entry_least.Tie as tie
 
 pub entry-least-spec : {M : Type 1} → statement M
 entry-least-spec =
