@@ -80,10 +80,10 @@ enum bokwingi_number {
     BOKWINGI_ACCEPTED = 0,
 
     /* the pack and the call */
-    BOKWINGI_TORN_PACK = 1,     /* not 16 to 4,096 words, or total or sum wrong */
-    BOKWINGI_MISFILED_PACK = 2, /* a word, code, index or rule of the pack is bad */
-    BOKWINGI_BAD_CALL = 3,      /* a lent list is bad, or stage, topology, mode or flag */
-    BOKWINGI_SHORT_OUT = 4,     /* out has under 2 + 2 * (outputs with a location) words */
+    BOKWINGI_DAMAGED_PACK = 1,   /* not 16 to 4,096 words, or total or sum wrong */
+    BOKWINGI_MALFORMED_PACK = 2, /* a word, code, index or rule of the pack is bad */
+    BOKWINGI_BAD_CALL = 3,       /* a lent list is bad, or stage, topology, mode or flag */
+    BOKWINGI_SHORT_OUT = 4,      /* out has under 2 + 2 * (outputs with a location) words */
     BOKWINGI_FULL_LIST = 5,     /* no free words for a new record: group, binding */
 
     /* the choice of an entry point */

@@ -103,7 +103,7 @@ int main(int argc, char **argv)
     fclose(file);
     /* The choice of an entry point looks at the whole pack first. */
     uint32_t number = bokwingi_entry_point(pack, pack_len, BOKWINGI_VERTEX, details, 3);
-    if (number == BOKWINGI_TORN_PACK || number == BOKWINGI_MISFILED_PACK) {
+    if (number == BOKWINGI_DAMAGED_PACK || number == BOKWINGI_MALFORMED_PACK) {
         print_answer(9, number);
         return 0;
     }

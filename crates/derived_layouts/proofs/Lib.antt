@@ -8,5 +8,5 @@ pub mod Bodies
 pub mod Calls
 pub mod Runs
 pub mod Again
-pub mod DerivedServes
 pub mod Instances
+pub mod Theorem

@@ -1,1 +1,1 @@
-pub mod DerivedServes
+pub mod Theorem

@@ -284,7 +284,7 @@ count-known n count slots limit k = either Step (ltb slots count) (answer n coun
 
 slots-known : (stage : ShaderStage) (q : Request) (l : Limits) (e : EntryPoint) (n : ℕ) → Step (slotsStep stage q l e n)
 unfolding slotsStep vertexOutputs fragmentOutputs fragmentSlots attachmentUse among
-places-known Stage.Vertex q l e n =
+slots-known Stage.Vertex q l e n =
     let limit = l .«max_inter_stage_shader_variables» in
     let clip = clipSlots (e .outputs) in
     let point = pointPart (q .topology) in
@@ -292,7 +292,7 @@ places-known Stage.Vertex q l e n =
     (step-both (locationUses 60 (limit - clip) limit (e .outputs)) (countUse 61 (localCount (e .outputs)) (limit - (point + clip)) limit)
     (locations-known 60 (limit - clip) limit (e .outputs) (lit 60 refl))
     (count-known 61 (localCount (e .outputs)) (limit - (point + clip)) limit (lit 61 refl)))
-places-known Stage.Fragment q l e n =
+slots-known Stage.Fragment q l e n =
     let limit = l .«max_inter_stage_shader_variables» in
     let most = l .«max_color_attachments» in
     let built = builtInSlots (e .inputs) in
@@ -304,9 +304,9 @@ places-known Stage.Fragment q l e n =
     (locations-known 64 most most (e .outputs) (lit 64 refl))
     (either Step (yes (q .«dual_source») && not (e .dual)) (refused 66) _ (ans 66 0 0 0 (lit 66 refl))
     (either Step (anyOf isDepth (e .outputs) && not (q .depth)) (refused 67) accepted (ans 67 0 0 0 (lit 67 refl)) none)))
-places-known Stage.Compute q l e n = none
-places-known Stage.Task q l e n = none
-places-known Stage.Mesh q l e n = none
+slots-known Stage.Compute q l e n = none
+slots-known Stage.Task q l e n = none
+slots-known Stage.Mesh q l e n = none
 
 value-known : (n value limit : ℕ) → Known n → Step (valueUse n value limit)
 value-known n value limit k = either Step (ltb limit value) (answer n value limit 0) accepted (ans n value limit 0 k) none

@@ -17,6 +17,7 @@ use Rattle.interface.specs.Format.{Decoded, Damaged, Malformed, Pack, decode, s
 use Rattle.stage.specs.Meaning.{codes, lent, Call, call, Outcome}
 use Rattle.stage.specs.Stage.{checkStage}
 use Rattle.report.specs.Text.{wordsOf, line, hexLines}
+use Rattle.bindings.specs.Format.{entryWidth}
 
 -- 'over one list of 8 groups and 1,024 words'
 abbrev pub emptyLayout : List ℕ
@@ -71,7 +72,7 @@ startRun = ran emptyLayout emptyStage []
 
 -- 'at the end the used layout words in lower-case hex'
 abbrev pub usedWords : List ℕ → List ℕ
-usedWords layout = take (1 + 4 * countOf layout) layout
+usedWords layout = take (1 + entryWidth * countOf layout) layout
 
 -- the lines of the stages, then the layout's words
 abbrev pub runText : Run → List ℕ

@@ -1,9 +1,4 @@
 // What the program that checks a pack prints: a line for each entry point and the layout words, or why the pack is refused.
-pub mod names;
-pub mod run;
-pub mod text;
-pub mod words;
-
 ghost use mathlib.Core.Path.{_≡_};
 ghost use mathlib.Core.List.{_++_};
 ghost use Prim.Native.Nat.{_+_, _*_, _≤_, _<_};
