@@ -22,8 +22,8 @@ use Rattle.places.proofs.PlaceLaws.{same-place-eq, found-nth}
 
 -- ---- a place sought
 
-pub sought-begins : (place : ResourceBinding) (width n : ℕ) (ws : List ℕ) → placeFrom place (places width n ws) 0 ≡ placeFrom place (places width (n - 0) ws) 0
-sought-begins place width n ws = let e : n - 0 ≡ n = omega arith in rw e
+pub sought-begins : (place : ResourceBinding) (width n : ℕ) (ws : List ℕ) → placeFrom place (places width n ws) 0 ≡ placeFrom place (places width n ws) (n - n)
+sought-begins place width n ws = let e : n - n ≡ 0 = omega arith in rw e
 
 -- ---- a place sought by the content of its word
 
@@ -50,39 +50,33 @@ module _ (w content : ℕ) (h : content < 2 ^ 27) where
       absurd (n (omega arith)))
       (λ f. f)
 
-module _ (width : ℕ) (l : List ℕ) (n i at content : ℕ) (goal : Found) (inv : goal ≡ placeFrom (placeOf content) (places width (n - i) (drop at l)) i) where
-  module _ (h : i < n) (encodable : content < 2 ^ 27) where
-    some-left : n - i ≡ 0 → ⊥
-    some-left e = omega arith
-
-    pub content-found : wordAt l at % 0x800_0000 ≡ content → At i ≡ goal
+module _ (width : ℕ) (l : List ℕ) (n left at content : ℕ) (goal : Found) (inv : goal ≡ placeFrom (placeOf content) (places width left (drop at l)) (n - left)) where
+  module _ (h : left ≡ 0 → ⊥) (encodable : content < 2 ^ 27) where
+    pub content-found : wordAt l at % 0x800_0000 ≡ content → At (n - left) ≡ goal
     unfolding placeFrom
-    content-found e = sym (inv ∙ rw (left-cons width readPlace l (n - i) at some-left, here l at, content-same (wordAt l at) content encodable e))
+    content-found e = sym (inv ∙ rw (left-cons width readPlace l left at h, here l at, content-same (wordAt l at) content encodable e))
 
-    pub content-onward : (wordAt l at % 0x800_0000 ≡ content → ⊥) → goal ≡ placeFrom (placeOf content) (places width (n - (i + 1)) (drop (at + width) l)) (i + 1)
+    pub content-onward : left ≤ n → (wordAt l at % 0x800_0000 ≡ content → ⊥)
+        → goal ≡ placeFrom (placeOf content) (places width (left - 1) (drop (at + width) l)) (n - (left - 1))
     unfolding placeFrom
-    content-onward e =
-        let k : n - i - 1 ≡ n - (i + 1) = omega arith in
-        inv ∙ rw (left-cons width readPlace l (n - i) at some-left, here l at, content-other (wordAt l at) content encodable e, k)
+    content-onward m e =
+        let k : n - left + 1 ≡ n - (left - 1) = omega arith in
+        inv ∙ rw (left-cons width readPlace l left at h, here l at, content-other (wordAt l at) content encodable e, k)
 
-  pub content-nowhere : n ≤ i → Nothing ≡ goal
+  pub content-nowhere : left ≡ 0 → Nothing ≡ goal
   unfolding placeFrom
-  content-nowhere h = let z : n - i ≡ 0 = omega arith in sym (inv ∙ rw (left-none width readPlace (n - i) (drop at l) z))
+  content-nowhere z = sym (inv ∙ rw (left-none width readPlace left (drop at l) z))
 
--- the records lie within the words
-module _ (width n m : ℕ) where
-  pub within-begins : (from : ℕ) → from + width * n ≤ m → from + width * (n - 0) ≤ m
-  within-begins from h = let e : n - 0 ≡ n = omega arith in rw e h
+-- the records that are left lie within the words
+module _ (width left at m : ℕ) (h : at + width * left ≤ m) (k : left ≡ 0 → ⊥) where
+  pub within : 0 < width → at < m
+  within o = omega (arith, one-less width left k)
 
-  module _ (at i : ℕ) (h : at + width * (n - i) ≤ m) (k : i < n) where
-    pub within : 0 < width → at < m
-    within o = omega (arith, one-less width (n - i) (λ e. omega arith))
+  pub within-onward : at + width + width * (left - 1) ≤ m
+  within-onward = omega (arith, one-less width left k)
 
-    pub within-onward : at + width + width * (n - (i + 1)) ≤ m
-    within-onward =
-        let e : n - i - 1 ≡ n - (i + 1) = omega arith in
-        let s : width * (n - i) ≡ width * (n - (i + 1)) + width = rw e at (one-less width (n - i) (λ z. omega arith)) in
-        omega arith
+pub found-below : (n left : ℕ) → left ≤ n → (left ≡ 0 → ⊥) → n - left < n
+found-below n left h k = omega arith
 
 -- a word tells the place that its content tells
 pub content-tells : (ps : List ResourceBinding) (r : Found) (w c : ℕ) → c ≡ contentOf w → r ≡ placeFrom (placeOf c) ps 0 → r ≡ placeFrom (placeOf w) ps 0

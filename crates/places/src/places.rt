@@ -19,13 +19,13 @@ pub fn find_within(l: &[u32], from: usize, n: usize, width: usize, content: u32)
     ensures { λ r. ⌜ foundBelow n r ≡ true ⌝ }
 {
     let mut at = from;
-    let mut i: usize = 0;
-    while i < n {
+    let mut left = n;
+    while left != 0 {
         if l[at] % 0x800_0000 == content {
-            return Found::At { index: i };
+            return Found::At { index: n - left };
         }
         at += width;
-        i += 1;
+        left -= 1;
     }
     Found::Nothing
 }
