@@ -7,16 +7,19 @@ use mathlib.Core.Bool.{Bool, true, false}
 use mathlib.Core.List.{List, [], _∷_}
 use lib.ListN.{drop, getD}
 use lib.Seq.{drop-drop}
-use borrow.Author.Tests.{eq-eqb, ltb-true}
+use borrow.Author.Tests.{eq-eqb, eqb-true, ltb-true}
 use Rattle.word.specs.Choice.{pick}
-use Rattle.word.specs.Words.{wordAt, contentOf, bits}
+use Rattle.word.specs.Words.{wordAt, contentOf, kindOf, bits}
 use Rattle.word.proofs.Truth.{by-test}
 use Rattle.bindings.specs.Format.{placeOf}
 use Rattle.bindings.specs.declared.types.ResourceBinding.{ResourceBinding}
 use Rattle.places.specs.Places.{samePlace, placeFrom, placeIn, distinctPlaces, foundBelow, readPlace, places}
 use Rattle.places.specs.declared.found.Found.{Found}
 use Rattle.places.specs.declared.found.Found.the-variants.{At, Nothing}
-use Rattle.places.proofs.Records.{one-less, read-length, nth-record, left-cons, left-none}
+use Rattle.word.proofs.Lists.{first-passes, rest-passes}
+use Rattle.places.specs.Records.{each}
+use Rattle.places.specs.inner.Begins.{placeFirst}
+use Rattle.places.proofs.Records.{each-cons, one-less, read-length, nth-record, left-cons, left-none}
 use Rattle.places.proofs.Words.{here}
 use Rattle.places.proofs.PlaceLaws.{same-place-eq, found-nth}
 
@@ -66,6 +69,51 @@ module _ (width : ℕ) (l : List ℕ) (n left at content : ℕ) (goal : Found) (
   pub content-nowhere : left ≡ 0 → Nothing ≡ goal
   unfolding placeFrom
   content-nowhere z = sym (inv ∙ rw (left-none width readPlace left (drop at l) z))
+
+-- ---- a place sought by its word, among records that begin with a place's word
+
+module _ (width : ℕ) (l : List ℕ) (left at : ℕ) (h : left ≡ 0 → ⊥) (t : each width placeFirst left (drop at l) ≡ true) where
+  first-is-place : kindOf (wordAt l at) ≡ 4
+  first-is-place = rw (here l at) at (eqb-true (kindOf (wordAt (drop at l) 0)) 4 (first-passes (placeFirst (drop at l)) (each width placeFirst (left - 1) (drop (at + width) l)) (rw (each-cons width placeFirst l left at h) at t)))
+
+  pub places-onward : each width placeFirst (left - 1) (drop (at + width) l) ≡ true
+  places-onward = rest-passes (placeFirst (drop at l)) (each width placeFirst (left - 1) (drop (at + width) l)) (rw (each-cons width placeFirst l left at h) at t)
+
+module _ (w place : ℕ) (k : kindOf w ≡ 4) (m : kindOf place ≡ 4) where
+  word-other : (w ≡ place → ⊥) → samePlace (placeOf w) (placeOf place) ≡ false
+  word-other n =
+      ap (λ p. samePlace (placeOf w) p) (sym (content-place place)) ∙ content-other w (place % 0x800_0000) (omega arith) (λ e. n (omega arith))
+
+same-itself : (p : ResourceBinding) → samePlace p p ≡ true
+same-itself p = rw (eq-eqb (p .group) (p .group) refl, eq-eqb (p .binding) (p .binding) refl)
+
+module _ (width : ℕ) (l : List ℕ) (n left at place : ℕ) (goal : Found) (inv : goal ≡ placeFrom (placeOf place) (places width left (drop at l)) (n - left)) where
+  module _ (h : left ≡ 0 → ⊥) where
+    pub word-found : wordAt l at ≡ place → At (n - left) ≡ goal
+    unfolding placeFrom
+    word-found e = sym (inv ∙ rw (left-cons width readPlace l left at h, here l at, e, same-itself (placeOf place)))
+
+    pub word-onward : kindOf place ≡ 4 → each width placeFirst left (drop at l) ≡ true → left ≤ n → (wordAt l at ≡ place → ⊥)
+        → goal ≡ placeFrom (placeOf place) (places width (left - 1) (drop (at + width) l)) (n - (left - 1))
+    unfolding placeFrom
+    word-onward m t b e =
+        let k : n - left + 1 ≡ n - (left - 1) = omega arith in
+        inv ∙ rw (left-cons width readPlace l left at h, here l at, word-other (wordAt l at) place (first-is-place width l left at h t) m e, k)
+
+  pub word-nowhere : left ≡ 0 → Nothing ≡ goal
+  unfolding placeFrom
+  word-nowhere z = sym (inv ∙ rw (left-none width readPlace left (drop at l) z))
+
+-- the word of a content is a place's, and tells the same place
+module _ (content : ℕ) (h : content < 2 ^ 27) where
+  pub content-kind : kindOf (0x20000000 + content) ≡ 4
+  content-kind = omega arith
+
+  pub content-word : (ps : List ResourceBinding) (r : Found) → r ≡ placeFrom (placeOf (0x20000000 + content)) ps 0 → r ≡ placeFrom (placeOf content) ps 0
+  content-word ps r f =
+      let g : bits 26 23 (0x20000000 + content) ≡ bits 26 23 content = omega arith in
+      let n : bits 22 0 (0x20000000 + content) ≡ bits 22 0 content = omega arith in
+      rw (g, n) at f
 
 -- the records that are left lie within the words
 module _ (width left at m : ℕ) (h : at + width * left ≤ m) (k : left ≡ 0 → ⊥) where

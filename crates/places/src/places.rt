@@ -6,13 +6,15 @@ ghost use lib.ListN.{length, drop};
 ghost use Rattle.bindings.specs.Format.{placeOf};
 ghost use Rattle.places.specs.Places.{placeFrom, placeIn, distinctPlaces, foundBelow, places};
 ghost use Rattle.word.specs.Lists.{every};
-ghost use Rattle.places.specs.Records.{countOf};
+ghost use Rattle.word.specs.Words.{kindOf};
+ghost use Rattle.places.specs.Records.{countOf, each};
+ghost use Rattle.places.specs.inner.Begins.{placeFirst};
 ghost use Rattle.places.specs.inner.Marks.{slot, marked, bitOf};
 use crate::found::Found;
 use crate::heads::counted;
 
 // Which of the records has the place that a word's content tells, where all lie within the slice.
-pub fn find_within(l: &[u32], from: usize, n: usize, width: usize, content: u32) -> Found
+fn find_within(l: &[u32], from: usize, n: usize, width: usize, content: u32) -> Found
     requires { ⌜ (from < 2 ^ 32) × (n < 2 ^ 32) × (width ≤ 4) ⌝ }
     requires { ⌜ (0 < width) × (from + width * n ≤ length (now l)) × (content < 2 ^ 27) ⌝ }
     ensures { λ r. ⌜ r ≡ placeFrom (placeOf content) (places width n (drop from (now (l .entry)))) 0 ⌝ }
@@ -30,10 +32,29 @@ pub fn find_within(l: &[u32], from: usize, n: usize, width: usize, content: u32)
     Found::Nothing
 }
 
-// The same among distinct places from the second word on. The record at a likely position is tried first.
+// The same from the second word on, where each record begins with a place's word: whole words are compared.
+pub fn find_word(l: &[u32], n: usize, width: usize, place: u32) -> Found
+    requires { ⌜ (n < 2 ^ 32) × (0 < width) × (width ≤ 4) × (1 + width * n ≤ length (now l)) × (kindOf place ≡ 4) ⌝ }
+    requires { ⌜ each width placeFirst n (drop 1 (now l)) ≡ true ⌝ }
+    ensures { λ r. ⌜ r ≡ placeFrom (placeOf place) (places width n (drop 1 (now (l .entry)))) 0 ⌝ }
+    ensures { λ r. ⌜ foundBelow n r ≡ true ⌝ }
+{
+    let mut at: usize = 1;
+    let mut left = n;
+    while left != 0 {
+        if l[at] == place {
+            return Found::At { index: n - left };
+        }
+        at += width;
+        left -= 1;
+    }
+    Found::Nothing
+}
+
+// The same among distinct places. The record at a likely position is tried first.
 pub fn find_near(l: &[u32], n: usize, width: usize, content: u32, near: usize) -> Found
     requires { ⌜ (n < 2 ^ 32) × (0 < width) × (width ≤ 4) × (1 + width * n ≤ length (now l)) × (content < 2 ^ 27) ⌝ }
-    requires { ⌜ distinctPlaces (places width n (drop 1 (now l))) ≡ true ⌝ }
+    requires { ⌜ (each width placeFirst n (drop 1 (now l)) ≡ true) × (distinctPlaces (places width n (drop 1 (now l))) ≡ true) ⌝ }
     ensures { λ r. ⌜ r ≡ placeFrom (placeOf content) (places width n (drop 1 (now (l .entry)))) 0 ⌝ }
     ensures { λ r. ⌜ foundBelow n r ≡ true ⌝ }
 {
@@ -42,7 +63,7 @@ pub fn find_near(l: &[u32], n: usize, width: usize, content: u32, near: usize) -
             return Found::At { index: near };
         }
     }
-    find_within(l, 1, n, width, content)
+    find_word(l, n, width, 0x2000_0000 + content)
 }
 
 // Whether one of the records has the place that a word's content tells, where all lie within the slice.

@@ -1,5 +1,5 @@
 use borrow.Author.Tests.{lt-ltb}
-use Rattle.places.proofs.PlaceWays.{near-inside, near-scaled, near-placed, near-bytes, near-record}
+use Rattle.places.proofs.PlaceWays.{near-inside, near-scaled, near-placed, near-bytes, near-record, content-kind, content-word}
 use borrow.Author.Needs.{needs}
 use Rattle.places.proofs.places.find_near.Statement.{statement}
 use Rattle.places.proofs.places.find_near.Tie as tie
@@ -13,5 +13,6 @@ find-near-spec =
     (λ c. search (near-bytes, needs))  -- mul-if2-2
     (λ c. search near-inside)  -- shared-slice-read-if2
     (λ c. (search near-record, search lt-ltb))  -- returns
-    (λ c κs. search needs)  -- find-within-requires
-    (λ c. search needs))  -- returns-2
+    (λ c. search needs)  -- add-find-word
+    (λ c κs. (search (content-kind, needs), search needs))  -- find-word-requires
+    (λ c. (search content-word, search needs)))  -- returns-2
