@@ -28,9 +28,6 @@ use Rattle.bindings.specs.declared.types.BindingUse.{BindingUse}
 use Rattle.bindings.specs.declared.types.BindingUse.the-variants as Use
 use Rattle.bindings.specs.declared.types.Derived.{Derived}
 use Rattle.bindings.specs.declared.types.Derived.the-variants as Der
-use Rattle.bindings.specs.Rules.{storable, sameBool, spaceOf, sameSpace, sizeUse, bufferUse, samplerUse, viewFits, classOf, sampledFits, storageFits, accessOf}
-use Rattle.bindings.specs.Rules.{textureUse, accelerationUse, checkBindingUse, useNumber, derivedView, derivedSample, derivedAccess, derivedTexture, deriveBindingType}
-use Rattle.bindings.specs.Rules.{arrayReusable, plain2D, resourceReusable}
 use Rattle.word.proofs.Truth.{first, second, by-test, never}
 
 -- ---- ranges

@@ -22,8 +22,7 @@ use Rattle.bindings.specs.declared.types.ImageClass.the-variants as Clas
 use Rattle.bindings.specs.declared.types.ResourceType.{ResourceType}
 use Rattle.bindings.specs.declared.types.ResourceType.the-variants as Res
 use Rattle.bindings.specs.declared.types.Resource.{Resource}
-use Rattle.bindings.specs.Format.{flag, bitSet, typeCode, isBufferWord, dimensionAt, dimensionCode, sampleKindAt, spaceAt, spaceCode, spaceEncodable, resourceTypeWellFormed}
-use Rattle.bindings.specs.Format.{sizeLimit, resourceWordWellFormed, sizeWellFormed, resourceTypeOf, readResource, resourceCode, sizeWords, resourceWords, placeWord, placeEncodable, typeEncodable, resourceEncodable}
+use Rattle.bindings.specs.Format.{sizeLimit}
 use Rattle.word.proofs.Truth.{first, second, by-test, codes-back}
 use Rattle.bindings.proofs.CodeLaws.{flag-most}
 use Rattle.bindings.proofs.ReadLaws.{read-cases, by-resource, type-cases, storage-parts}

@@ -1,5 +1,5 @@
 -- The code's ways through the reader of resources.
-use Prim.Native.Nat.{ℕ, zero, suc, _+_, _-_, _*_, _^_, _<_, _≤_}
+use Prim.Native.Nat.{ℕ, zero, suc, _+_, _-_, _<_, _≤_}
 use native.Mathlib.Omega.{arith}
 use native.Mathlib.Numerals.{add-one, add-two}
 use mathlib.Core.Path.{_≡_, refl, _∙_}
@@ -13,7 +13,7 @@ use Rattle.word.specs.Choice.{pick, yes}
 use Rattle.word.specs.Words.{wordAt, contentOf, bits, bit}
 use Rattle.word.specs.Parse.{Parsed, fault, got, next, one, nowhere, from, behind, restAt}
 use Rattle.bindings.specs.Rules.{storable}
-use Rattle.bindings.specs.Format.{placeWellFormed, placeOf, placeEncodable, typeCode, spaceAt, sampleKindAt, storageWellFormed, resourceWordWellFormed}
+use Rattle.bindings.specs.Format.{placeWellFormed, placeOf, typeCode, spaceAt, sampleKindAt, storageWellFormed, resourceWordWellFormed}
 use Rattle.bindings.specs.Format.{sizeWellFormed, bitSet, texture, resourceTypeOf, isBufferWord, resource, readResource, resourceAt}
 use Rattle.bindings.specs.declared.types.ResourceBinding.{ResourceBinding}
 use Rattle.bindings.specs.declared.types.AddressSpace.{AddressSpace}
@@ -22,15 +22,7 @@ use Rattle.bindings.specs.declared.types.ImageClass.the-variants as Clas
 use Rattle.bindings.specs.declared.types.ResourceType.{ResourceType}
 use Rattle.bindings.specs.declared.types.ResourceType.the-variants as Res
 use Rattle.bindings.specs.declared.types.Resource.{Resource}
-use Rattle.word.proofs.Truth.{first, second, by-test}
-
--- ---- places
-
-pub place-fits : (bind : ResourceBinding) → placeEncodable bind ≡ true → 2 ^ 23 * bind .group + bind .binding < 2 ^ 27
-place-fits bind h =
-    let g : bind .group < 16 = search (ltb-true, first) in
-    let b : bind .binding < 2 ^ 23 = search (ltb-true, second) in
-    omega arith
+use Rattle.word.proofs.Truth.{by-test}
 
 -- ---- types
 

@@ -2,15 +2,15 @@
 use Prim.{Unit, tt}
 use Prim.Native.Nat.{ℕ, _+_, _*_, _^_, _<_}
 use native.Mathlib.Omega.{arith}
-use mathlib.Core.Path.{_≡_, refl, sym}
-use mathlib.Core.Bool.{Bool, true, _&&_, _||_}
+use mathlib.Core.Path.{_≡_, refl}
+use mathlib.Core.Bool.{Bool, true}
 use lib.Dec.{eqb}
-use borrow.Author.Tests.{eqb-true, eqb-false, eq-eqb, ne-eqb}
+use borrow.Author.Tests.{eqb-true, ne-eqb}
 use Rattle.word.specs.Choice.{pick, yes}
-use Rattle.word.specs.Words.{kindOf, contentOf, bits, bit, ofKind}
+use Rattle.word.specs.Words.{bits, bit, ofKind}
 use Rattle.bindings.specs.Rules.{viewCode, derivedView, derivedSample, derivedAccess, derivedTexture, derivedBuffer, deriveBindingType}
 use Rattle.bindings.specs.Format.{bitSet, isBufferWord, typeCode, dimensionAt, sampleKindAt, spaceAt, samplerCode, sampleCode, accessCode, resourceTypeOf}
-use Rattle.bindings.specs.Format.{bindingTypeWellFormed, bindingTypeOf, bindingCode, leastSize, sameBinding}
+use Rattle.bindings.specs.Format.{bindingCode, leastSize}
 use Rattle.bindings.specs.Answers.{derivedWord}
 use Rattle.bindings.specs.declared.types.ImageDimension.the-variants as Dim
 use Rattle.bindings.specs.declared.types.SamplerBindingType.the-variants as Samp
@@ -19,7 +19,7 @@ use Rattle.bindings.specs.declared.types.Derived.{Derived}
 use Rattle.bindings.specs.declared.types.Derived.the-variants as Der
 use Rattle.word.proofs.Truth.{by-test, allBelow, below-all}
 use Rattle.bindings.proofs.ReadLaws.{by-resource}
-use Rattle.bindings.proofs.EntryFormat.{flag-back, type-back, least-back}
+use Rattle.bindings.proofs.EntryFormat.{flag-back}
 
 -- ---- the numbers of a derived type
 
@@ -110,16 +110,3 @@ least-derived w size named =
 pub derived-least : (w size : ℕ) (named : Bool) (ty : BindingType) → deriveBindingType (resourceTypeOf w size) named ≡ Der.Binding ty
     → leastSize ty ≡ pick (isBufferWord w) size 0
 derived-least w size named ty d = rw d at (least-derived w size named)
-
--- ---- the words of an entry against a type
-
-word-agrees : (kind n w : ℕ) → kindOf w ≡ kind → eqb n (contentOf w) ≡ eqb w (ofKind kind n)
-word-agrees kind n w k =
-    by-test (eqb n (contentOf w))
-    (λ t. let e : n ≡ contentOf w = eqb-true n (contentOf w) t in rw t (sym (eq-eqb w (ofKind kind n) (omega arith))))
-    (λ f. let d : n ≡ contentOf w → ⊥ = eqb-false n (contentOf w) f in rw f (sym (ne-eqb w (ofKind kind n) (λ e. d (omega arith)))))
-
--- the type word and the least size of a well formed entry mean a type where they are that type's
-pub same-by-words : (entry least : ℕ) (ty : BindingType) → kindOf entry ≡ 18 → bindingTypeWellFormed entry ≡ true → isBufferWord entry || eqb least 0 ≡ true
-    → sameBinding ty (bindingTypeOf entry least) ≡ (eqb entry (ofKind 18 (bindingCode ty)) && eqb (leastSize ty) least)
-same-by-words entry least ty ke well-formed sized = rw (type-back entry least well-formed, least-back entry least sized, word-agrees 18 (bindingCode ty) entry ke)

@@ -289,6 +289,13 @@ unfoldable pub entryOf : ℕ → ℕ → ℕ → ℕ → BindGroupLayoutEntry
 entryOf place type least visibility =
     record { bind = placeOf place; ty = bindingTypeOf type (contentOf least); visibility = contentOf visibility }
 
+-- an entry by its parts: the words of its place, type and visibility, and its least size
+abbrev pub partsWellFormed : ℕ → ℕ → ℕ → ℕ → Bool
+partsWellFormed place type least visibility = entryWellFormed place type (sizeWord least) visibility
+
+abbrev pub entryOfParts : ℕ → ℕ → ℕ → ℕ → BindGroupLayoutEntry
+entryOfParts place type least visibility = entryOf place type (sizeWord least) visibility
+
 -- the type's bits, and the least size, of a binding type
 unfoldable pub bindingCode : BindingType → ℕ
 bindingCode (Bind.Buffer ty dynamic least) = bufferCode ty + 4 * flag dynamic

@@ -120,7 +120,7 @@ fn fields_well_formed(code: u32, w: u32) -> bool
 }
 
 // What a type word and a least size mean.
-fn binding_type_of(w: u32, least: u64) -> BindingType
+pub fn binding_type_of(w: u32, least: u64) -> BindingType
     ensures { λ r. ⌜ r ≡ bindingTypeOf w least ⌝ }
 {
     let code = w / 0x80_0000 % 16;

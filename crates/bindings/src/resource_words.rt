@@ -6,9 +6,7 @@ ghost use lib.ListN.{length, drop};
 ghost use Rattle.word.specs.Choice.{pick};
 ghost use Rattle.word.specs.Parse.{one, from, behind, restAt};
 ghost use Rattle.bindings.specs.Rules.{storable};
-ghost use Rattle.bindings.specs.Format.{placeWellFormed, placeOf, placeWord, placeEncodable, dimensionAt, sampleKindAt, spaceAt, bufferWellFormed, storageWellFormed};
-ghost use Rattle.bindings.specs.Format.{resourceTypeWellFormed, resourceWordWellFormed, sizeWellFormed, isBufferWord, texture, resourceTypeOf, resource, readResource, resourceAt};
-ghost use Rattle.bindings.specs.Format.{placeWellFormed, placeOf, placeWord, placeEncodable, dimensionAt, sampleKindAt, spaceAt, bufferWellFormed, storageWellFormed};
+ghost use Rattle.bindings.specs.Format.{placeWellFormed, placeOf, placeEncodable, dimensionAt, sampleKindAt, spaceAt, bufferWellFormed, storageWellFormed};
 ghost use Rattle.bindings.specs.Format.{resourceTypeWellFormed, resourceWordWellFormed, sizeWellFormed, isBufferWord, texture, resourceTypeOf, resource, readResource, resourceAt};
 use crate::sizes::word_size;
 use crate::types::AddressSpace;
@@ -37,14 +35,6 @@ pub fn place_of(w: u32) -> ResourceBinding
         group: w / 0x80_0000 % 16,
         binding: w % 0x80_0000,
     }
-}
-
-// The word of a place that words can hold.
-pub(crate) fn place_word(bind: ResourceBinding) -> u32
-    requires { ⌜ placeEncodable bind ≡ true ⌝ }
-    ensures { λ r. ⌜ r ≡ placeWord bind ⌝ }
-{
-    0x2000_0000 + (0x80_0000 * bind.group + bind.binding)
 }
 
 fn dimension_at(code: u32) -> ImageDimension

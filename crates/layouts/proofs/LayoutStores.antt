@@ -8,10 +8,10 @@ use lib.ListN.{length, drop, getD, set}
 use lib.Seq.{drop-drop}
 use borrow.Author.Tests.{leb-true}
 use Rattle.word.specs.Words.{wordAt, kindOf, contentOf, bits, ofKind}
-use Rattle.bindings.specs.Format.{entryWellFormed, entryWords, entryOf, entryWellFormedAt, entryAt}
+use Rattle.bindings.specs.Format.{placeOf, sizeWidth, sizeWord, sizeStanding, bindingTypeOf, bindingCode, leastSize, entryWellFormed, entryWords, entryOf, partsWellFormed, entryOfParts, entryWellFormedAt, entryAt}
 use Rattle.bindings.specs.declared.types.BindGroupLayoutEntry.{BindGroupLayoutEntry}
-use Rattle.bindings.proofs.EntryFormat.{entry-back}
-use Rattle.word.proofs.Truth.{first}
+use Rattle.bindings.proofs.EntryFormat.{entry-back, least-back}
+use Rattle.word.proofs.Truth.{first, second}
 use Rattle.layouts.specs.Meaning.{entryHas, entryNth, emptyEntry, pushed, joinBit, seenBy, joinAt, joined}
 use Rattle.places.specs.Records.{roomFor, put, past, each, countOf}
 use Rattle.word.specs.Lists.{flat}
@@ -24,9 +24,9 @@ use Rattle.layouts.proofs.LayoutWays.{entries-counted, nth-read, entry-
 
 -- ---- an entry stored
 
-pub entry-stored : (l m : List ℕ) (at p t s v : ℕ) → entryWellFormed p t s v ≡ true → m ≡ put l at (p ∷ t ∷ s ∷ v ∷ [])
-    → m ≡ put l at (entryWords (entryOf p t s v))
-entry-stored l m at p t s v f h = rw (entry-back p t s v f) h
+pub entry-stored : (l m : List ℕ) (at p t least s v : ℕ) → partsWellFormed p t least v ≡ true → s ≡ sizeWord least → m ≡ put l at (p ∷ t ∷ s ∷ v ∷ [])
+    → m ≡ put l at (entryWords (entryOfParts p t least v))
+entry-stored l m at p t least s v f e h = rw (entry-back p t (sizeWord least) v f, ← e) h
 
 -- ---- a new entry
 
@@ -96,6 +96,41 @@ module _ (l : List ℕ) (i : ℕ) (h : i < length (decodeLayout l .entries)) whe
       let q : entryWellFormedAt (drop (4 * i) (drop 1 l)) 0 ≡ true = search first in
       rw (drop-drop (4 * i) 1 l, here l (1 + 4 * i), there l (1 + 4 * i) 1, there l (1 + 4 * i) 2, there l (1 + 4 * i) 3) at q
 
+module _ (l : List ℕ) (i : ℕ) (f : layoutWellFormed l ≡ true) (h : i < length (decodeLayout l .entries)) where
+  abbrev entry : BindGroupLayoutEntry
+  entry = entryNth (decodeLayout l .entries) i
+
+  words-there : entryWords entry ≡ wordAt l (1 + 4 * i) ∷ wordAt l (1 + 4 * i + 1) ∷ wordAt l (1 + 4 * i + 2) ∷ wordAt l (1 + 4 * i + 3) ∷ []
+  words-there =
+      rw (entry-there l i h)
+      (entry-back (wordAt l (1 + 4 * i)) (wordAt l (1 + 4 * i + 1)) (wordAt l (1 + 4 * i + 2)) (wordAt l (1 + 4 * i + 3)) (entry-well-formed-there l i h f))
+
+  least-word : leastSize (entry .ty) ≡ contentOf (wordAt l (1 + 4 * i + 2))
+  unfolding entryWellFormed entryOf
+  least-word =
+      let d : entryWellFormedAt l (1 + 4 * i) ≡ true = entry-well-formed-there l i h f in
+      rw (entry-there l i h) (least-back (wordAt l (1 + 4 * i + 1)) (contentOf (wordAt l (1 + 4 * i + 2))) (search (first, second) depth 8))
+
+  pub least-there : (r : ℕ) → r ≡ sizeStanding l (1 + 4 * i + 2) → r ≡ leastSize (entry .ty)
+  least-there r e = rw least-word e
+
+  pub place-there : (x : ℕ) → x ≡ wordAt l (1 + 4 * i + 0) → placeOf x ≡ entry .bind
+  unfolding entryOf
+  place-there x e = let z : 1 + 4 * i + 0 ≡ 1 + 4 * i = omega arith in rw (entry-there l i h, e, z)
+
+  module _ (x : ℕ) (e : x ≡ wordAt l (1 + 4 * i + 1)) where
+    pub type-there : x ≡ ofKind 18 (bindingCode (entry .ty))
+    unfolding entryWords
+    type-there = e ∙ sym (ap (λ (ws : List ℕ). wordAt ws 1) words-there)
+
+    pub type-means : bindingTypeOf x (leastSize (entry .ty)) ≡ entry .ty
+    unfolding entryOf
+    type-means = rw (least-word, e) (sym (ap (λ (e : BindGroupLayoutEntry). e .ty) (entry-there l i h)))
+
+  pub visibility-there : (x r : ℕ) → x ≡ wordAt l (1 + 4 * i + 3) → r ≡ contentOf x → r ≡ entry .visibility
+  unfolding entryOf
+  visibility-there x r e q = rw (entry-there l i h, ← e) q
+
 -- ---- positions of an entry's words
 
 module _ (l : List ℕ) (i : ℕ) (f : layoutWellFormed l ≡ true) (h : i < length (decodeLayout l .entries)) where
@@ -117,6 +152,9 @@ module _ (l : List ℕ) (i : ℕ) (f : layoutWellFormed l ≡ true) (h : i < len
 
     pub word-inside : 1 + 4 * i + k < length l
     word-inside = omega (arith, entry-low)
+
+  pub size-inside : 1 + 4 * i + 2 + sizeWidth ≤ length l
+  size-inside = omega (arith, entry-low)
 
 -- ---- a stage joined
 

@@ -4,14 +4,16 @@ ghost use mathlib.Core.Bool.{true, false};
 ghost use Prim.Native.Nat.{_+_, _*_, _<_, _≤_};
 ghost use lib.ListN.{length, drop};
 ghost use Rattle.word.specs.Choice.{pick};
-ghost use Rattle.word.specs.Words.{wordAt};
-ghost use Rattle.bindings.specs.Format.{placeOf, entryWellFormed, entryOf};
-ghost use Rattle.layouts.specs.Meaning.{findEntry, entryHas, pushed, joined};
+ghost use Rattle.word.specs.Words.{wordAt, ofKind};
+ghost use Rattle.bindings.specs.Format.{placeOf, sizeLimit, bindingTypeOf, bindingCode, leastSize, entryWidth, partsWellFormed, entryOfParts};
+ghost use Rattle.layouts.specs.Meaning.{findEntry, entryHas, entryNth, roomForEntry, pushed, joined};
 ghost use Rattle.places.specs.Places.{foundBelow};
-ghost use Rattle.places.specs.Records.{roomFor, countOf, each};
+ghost use Rattle.places.specs.Records.{countOf, each};
 ghost use Rattle.layouts.specs.Format.{groupsOf, entryGood, entryFits, layoutHead, layoutWellFormed, decodeLayout, encodeLayout};
 use crate::visibility::join_bit;
 use bindings::entry_words::words_well_formed;
+use bindings::sizes::size_at;
+use bindings::sizes::size_word;
 use places::found::Found;
 use places::heads::counted;
 use places::places::distinct_places;
@@ -20,6 +22,12 @@ use places::places::find_within;
 use places::stores::store_four;
 use word::content;
 use word::word;
+
+// How many words an entry has.
+const ENTRY_WIDTH: usize = 4;
+
+// How many words a list has at most.
+const MOST_LIST_WORDS: usize = 1024;
 
 fn layout_head(l: &[u32]) -> bool
     ensures { λ r. ⌜ r ≡ layoutHead (now (l .entry)) ⌝ }
@@ -32,12 +40,12 @@ fn layout_head(l: &[u32]) -> bool
         return false;
     }
     let n = (w % 0x1_0000) as usize;
-    1 + 4 * n <= l.len()
+    1 + ENTRY_WIDTH * n <= l.len()
 }
 
 // Whether an entry stands at a position, with its group below the count.
 fn entry_good(l: &[u32], at: usize, groups: u32) -> bool
-    requires { ⌜ at + 4 ≤ length (now l) ⌝ }
+    requires { ⌜ at + entryWidth ≤ length (now l) ⌝ }
     ensures { λ r. ⌜ r ≡ entryGood groups (drop at (now (l .entry))) ⌝ }
 {
     let place = l[at];
@@ -48,8 +56,8 @@ fn entry_good(l: &[u32], at: usize, groups: u32) -> bool
 }
 
 fn entries_good(l: &[u32]) -> bool
-    requires { ⌜ 1 + 4 * countOf (now l) ≤ length (now l) ⌝ }
-    ensures { λ r. ⌜ r ≡ each 4 (entryGood (groupsOf (now (l .entry)))) (countOf (now (l .entry))) (drop 1 (now (l .entry))) ⌝ }
+    requires { ⌜ 1 + entryWidth * countOf (now l) ≤ length (now l) ⌝ }
+    ensures { λ r. ⌜ r ≡ each entryWidth (entryGood (groupsOf (now (l .entry)))) (countOf (now (l .entry))) (drop 1 (now (l .entry))) ⌝ }
 {
     let bound = l[0] / 0x1_0000 % 0x800;
     let mut at: usize = 1;
@@ -58,7 +66,7 @@ fn entries_good(l: &[u32]) -> bool
         if !entry_good(l, at, bound) {
             return false;
         }
-        at += 4;
+        at += ENTRY_WIDTH;
         left -= 1;
     }
     true
@@ -68,7 +76,7 @@ fn entries_good(l: &[u32]) -> bool
 pub fn layout_well_formed(l: &[u32]) -> bool
     ensures { λ r. ⌜ r ≡ layoutWellFormed (now (l .entry)) ⌝ }
 {
-    if 1024 < l.len() {
+    if MOST_LIST_WORDS < l.len() {
         return false;
     }
     if !layout_head(l) {
@@ -77,7 +85,7 @@ pub fn layout_well_formed(l: &[u32]) -> bool
     if !entries_good(l) {
         return false;
     }
-    distinct_places(l, 4)
+    distinct_places(l, ENTRY_WIDTH)
 }
 
 pub fn group_count(l: &[u32]) -> u32
@@ -92,7 +100,7 @@ pub fn find_entry_word(l: &[u32], place: u32) -> Found
     ensures { λ r. ⌜ r ≡ findEntry (placeOf place) (decodeLayout (now (l .entry))) ⌝ }
     ensures { λ r. ⌜ foundBelow (length (decodeLayout (now (l .entry)) .entries)) r ≡ true ⌝ }
 {
-    find_within(l, 1, counted(l), 4, content(place))
+    find_within(l, 1, counted(l), ENTRY_WIDTH, content(place))
 }
 
 // The same where a position is likely to have the entry: that one is tried first.
@@ -101,38 +109,76 @@ pub fn find_entry_near(l: &[u32], place: u32, near: usize) -> Found
     ensures { λ r. ⌜ r ≡ findEntry (placeOf place) (decodeLayout (now (l .entry))) ⌝ }
     ensures { λ r. ⌜ foundBelow (length (decodeLayout (now (l .entry)) .entries)) r ≡ true ⌝ }
 {
-    find_near(l, counted(l), 4, content(place), near)
+    find_near(l, counted(l), ENTRY_WIDTH, content(place), near)
 }
 
-// One of the four words of the entry at a position.
-pub fn entry_word(l: &[u32], index: usize, k: usize) -> u32
+// A word of the entry at a position.
+fn entry_word(l: &[u32], index: usize, k: usize) -> u32
     requires { ⌜ layoutWellFormed (now l) ≡ true ⌝ }
-    requires { ⌜ (index < length (decodeLayout (now l) .entries)) × (k < 4) ⌝ }
-    ensures { λ r. ⌜ r ≡ wordAt (now (l .entry)) (1 + 4 * index + k) ⌝ }
+    requires { ⌜ (index < length (decodeLayout (now l) .entries)) × (k < entryWidth) ⌝ }
+    ensures { λ r. ⌜ r ≡ wordAt (now (l .entry)) (1 + entryWidth * index + k) ⌝ }
 {
-    l[1 + 4 * index + k]
+    l[1 + ENTRY_WIDTH * index + k]
 }
 
-// A new entry of four words at the end, or nothing where the free room is too small.
-pub fn push_words(l: &mut [u32], place: u32, ty: u32, least: u32, visibility: u32) -> bool
+// The word of the place of the entry at a position.
+pub fn entry_place(l: &[u32], index: usize) -> u32
     requires { ⌜ layoutWellFormed (now l) ≡ true ⌝ }
-    requires { ⌜ entryWellFormed place ty least visibility ≡ true ⌝ }
-    requires { ⌜ entryFits (decodeLayout (now l) .groups) (entryOf place ty least visibility) ≡ true ⌝ }
-    requires { ⌜ entryHas (entryOf place ty least visibility .bind) (decodeLayout (now l) .entries) ≡ false ⌝ }
-    ensures { λ r. ⌜ r ≡ roomFor 4 (decodeLayout (now (l .entry)) .room) ⌝ }
+    requires { ⌜ index < length (decodeLayout (now l) .entries) ⌝ }
+    ensures { λ r. ⌜ placeOf r ≡ entryNth (decodeLayout (now (l .entry)) .entries) index .bind ⌝ }
+{
+    entry_word(l, index, 0)
+}
+
+// The type word of the entry at a position: with the entry's least size it means the entry's type.
+pub fn entry_type(l: &[u32], index: usize) -> u32
+    requires { ⌜ layoutWellFormed (now l) ≡ true ⌝ }
+    requires { ⌜ index < length (decodeLayout (now l) .entries) ⌝ }
+    ensures { λ r. ⌜ r ≡ ofKind 18 (bindingCode (entryNth (decodeLayout (now (l .entry)) .entries) index .ty)) ⌝ }
+    ensures { λ r. ⌜ bindingTypeOf r (leastSize (entryNth (decodeLayout (now (l .entry)) .entries) index .ty))
+        ≡ entryNth (decodeLayout (now (l .entry)) .entries) index .ty ⌝ }
+{
+    entry_word(l, index, 1)
+}
+
+// The least size of the entry at a position.
+pub fn entry_least(l: &[u32], index: usize) -> u64
+    requires { ⌜ layoutWellFormed (now l) ≡ true ⌝ }
+    requires { ⌜ index < length (decodeLayout (now l) .entries) ⌝ }
+    ensures { λ r. ⌜ r ≡ leastSize (entryNth (decodeLayout (now (l .entry)) .entries) index .ty) ⌝ }
+{
+    size_at(l, 1 + ENTRY_WIDTH * index + 2)
+}
+
+// The visibility of the entry at a position.
+pub fn entry_visibility(l: &[u32], index: usize) -> u32
+    requires { ⌜ layoutWellFormed (now l) ≡ true ⌝ }
+    requires { ⌜ index < length (decodeLayout (now l) .entries) ⌝ }
+    ensures { λ r. ⌜ r ≡ entryNth (decodeLayout (now (l .entry)) .entries) index .visibility ⌝ }
+{
+    content(entry_word(l, index, 3))
+}
+
+// A new entry at the end, by the words of its place, type and visibility and its least size, or nothing where the free room is too small.
+pub fn push_entry(l: &mut [u32], place: u32, ty: u32, least: u64, visibility: u32) -> bool
+    requires { ⌜ layoutWellFormed (now l) ≡ true ⌝ }
+    requires { ⌜ (least < sizeLimit) × (partsWellFormed place ty least visibility ≡ true) ⌝ }
+    requires { ⌜ entryFits (decodeLayout (now l) .groups) (entryOfParts place ty least visibility) ≡ true ⌝ }
+    requires { ⌜ entryHas (entryOfParts place ty least visibility .bind) (decodeLayout (now l) .entries) ≡ false ⌝ }
+    ensures { λ r. ⌜ r ≡ roomForEntry (decodeLayout (now (l .entry))) ⌝ }
     ensures { λ r. ⌜ now (l .exit)
-        ≡ encodeLayout (pick r (pushed (decodeLayout (now (l .entry))) (entryOf place ty least visibility)) (decodeLayout (now (l .entry)))) ⌝ }
+        ≡ encodeLayout (pick r (pushed (decodeLayout (now (l .entry))) (entryOfParts place ty least visibility)) (decodeLayout (now (l .entry)))) ⌝ }
     ensures { λ r. ⌜ decodeLayout (now (l .exit))
-        ≡ pick r (pushed (decodeLayout (now (l .entry))) (entryOf place ty least visibility)) (decodeLayout (now (l .entry))) ⌝ }
+        ≡ pick r (pushed (decodeLayout (now (l .entry))) (entryOfParts place ty least visibility)) (decodeLayout (now (l .entry))) ⌝ }
     ensures { λ r. ⌜ layoutWellFormed (now (l .exit)) ≡ true ⌝ }
 {
     let n = counted(l);
-    let at = 1 + 4 * n;
-    if l.len() < at + 4 {
+    let at = 1 + ENTRY_WIDTH * n;
+    if l.len() < at + ENTRY_WIDTH {
         return false;
     }
     let head = l[0];
-    store_four(l, at, place, ty, least, visibility);
+    store_four(l, at, place, ty, size_word(least), visibility);
     l[0] = head + 1;
     true
 }
@@ -145,7 +191,7 @@ pub fn join_visibility(l: &mut [u32], index: usize, stage: u32)
     ensures { λ _. ⌜ decodeLayout (now (l .exit)) ≡ joined stage (decodeLayout (now (l .entry))) index ⌝ }
     ensures { λ _. ⌜ layoutWellFormed (now (l .exit)) ≡ true ⌝ }
 {
-    let at = 1 + 4 * index + 3;
+    let at = 1 + ENTRY_WIDTH * index + 3;
     let visibility = join_bit(content(word(l, at)), stage);
     l[at] = 0x9800_0000 + visibility;
 }

@@ -1,19 +1,19 @@
 -- The ways of resources through a layout that is being derived.
-use Prim.Native.Nat.{ℕ, _+_, _-_, _*_, _^_, _<_, _≤_}
+use Prim.Native.Nat.{ℕ, _+_, _-_, _^_, _<_, _≤_}
 use native.Mathlib.Omega.{arith}
 use mathlib.Core.Path.{_≡_, refl, sym, ap, _∙_}
 use mathlib.Core.Bool.{Bool, true, false, _&&_}
 use mathlib.Core.List.{List}
 use lib.Dec.{eqb}
 use lib.ListN.{length, take, drop}
-use borrow.Author.Tests.{lt-ltb, le-ltb, eq-eqb, ne-eqb, eqb-true}
+use borrow.Author.Tests.{lt-ltb, le-ltb, eq-eqb, ne-eqb}
 use Rattle.word.specs.Choice.{pick}
 use Rattle.word.specs.Words.{wordAt, contentOf, bits, ofKind}
 use Rattle.word.specs.Answers.{accepted}
 use Rattle.word.specs.declared.answer.Answer.{Answer}
 use Rattle.bindings.specs.Rules.{derivedTexture, deriveBindingType}
 use Rattle.bindings.specs.Format.{placeOf, placeWord, typeCode, isBufferWord, resourceTypeOf, resource, typeEncodable}
-use Rattle.bindings.specs.Format.{bindingTypeOf, bindingCode, leastSize, sameBinding, formatEncodable, entryWellFormed, entryOf, entryEncodable, entryWellFormedAt}
+use Rattle.bindings.specs.Format.{bindingTypeOf, bindingCode, leastSize, sameBinding, formatEncodable, partsWellFormed, entryOfParts, entryEncodable}
 use Rattle.bindings.specs.Answers.{bindingAnswer, derivedWord}
 use Rattle.bindings.specs.declared.types.ResourceBinding.{ResourceBinding}
 use Rattle.bindings.specs.declared.types.Resource.{Resource}
@@ -21,16 +21,15 @@ use Rattle.bindings.specs.declared.types.BindingType.{BindingType}
 use Rattle.bindings.specs.declared.types.BindGroupLayoutEntry.{BindGroupLayoutEntry}
 use Rattle.bindings.specs.declared.types.Derived.{Derived}
 use Rattle.bindings.specs.declared.types.Derived.the-variants as Der
-use Rattle.word.proofs.Truth.{first, second, by-test}
+use Rattle.word.proofs.Truth.{by-test}
 use Rattle.bindings.proofs.CodeLaws.{least-fits}
 use Rattle.bindings.proofs.ReadLaws.{place-encodable}
 use Rattle.bindings.proofs.EntryFormat.{type-read, entry-well-formed, entry-read}
 use Rattle.bindings.proofs.DerivedServes.{derived-encodable}
-use Rattle.bindings.proofs.WordLaws.{derived-least, same-by-words}
+use Rattle.bindings.proofs.WordLaws.{derived-least}
 use Rattle.layouts.specs.Meaning.{Layout, entryPlaces, findEntry, entryHas, entryNth, pushed, joined, roomForEntry}
-use Rattle.layouts.specs.Format.{entryFits, layoutWellFormed, decodeLayout}
+use Rattle.layouts.specs.Format.{entryFits}
 use Rattle.places.proofs.PlaceWays.{place-lacks}
-use Rattle.layouts.proofs.LayoutStores.{entry-there, entry-well-formed-there}
 use Rattle.places.specs.declared.found.Found.{Found}
 use Rattle.places.specs.declared.found.Found.the-variants.{At, Nothing}
 use Rattle.interface.specs.Format.{stageCode, contents, pairsOf}
@@ -40,31 +39,17 @@ use Rattle.resource_steps.specs.inner.Given.{resourceTable, TypeWords}
 use Rattle.resource_steps.specs.Resources.{resourceNth, layoutAfter, occupied, vacant, placeStep, deriveStep, namedTexture, DeriveResult, deriveResult, deriveSteps}
 use Rattle.resource_steps.proofs.ResourceParts.{pairs-cons, pairs-none, nth-at}
 use Rattle.resource_steps.proofs.ResourceWalk.{index-next, index-none, one-more}
-use Rattle.bindings.specs.Format.{placeOf, placeWord, typeCode, isBufferWord, sizeLimit, sizeWord, sizeStanding, resourceTypeOf, resource, typeEncodable}
-use Rattle.bindings.specs.Format.{bindingTypeOf, bindingCode, leastSize, sameBinding, formatEncodable, entryWellFormed, entryOf, entryEncodable, entryWellFormedAt}
-use Rattle.resource_steps.proofs.ResourceLaws.{least-word}
+use Rattle.bindings.specs.Format.{sizeLimit, sizeStanding}
 
 -- ---- a type at its place
 
--- the entry at a position is of a type where its words are that type's
-module _ (ty least i : ℕ) (l : List ℕ) (b : BindingType) (f : layoutWellFormed l ≡ true) (t : TypeWords ty least b) (h : i < length (decodeLayout l .entries)) where
-  same-there : sameBinding b (entryNth (decodeLayout l .entries) i .ty) ≡ (eqb (wordAt l (1 + 4 * i + 1)) ty && eqb least (contentOf (wordAt l (1 + 4 * i + 2))))
-  unfolding entryWellFormed entryOf
-  same-there =
-      let d : entryWellFormedAt l (1 + 4 * i) ≡ true = entry-well-formed-there l i h f in
-      rw (entry-there l i h, t .type-word, t .least-size)
-      (same-by-words (wordAt l (1 + 4 * i + 1)) (contentOf (wordAt l (1 + 4 * i + 2))) b (search (eqb-true, first, second) depth 8) (search (first, second) depth 8)
-      (search (first, second) depth 8))
+-- a type is another where its word and its least size are that type's
+module _ (ty least : ℕ) (b e : BindingType) (t : TypeWords ty least b) (x : ℕ) (ex : x ≡ ofKind 18 (bindingCode e)) where
+  pub type-differs : (x ≡ ty → ⊥) → false ≡ sameBinding b e
+  type-differs n = rw (ne-eqb (bindingCode b) (bindingCode e) (λ q. n (omega (arith, t .type-word))))
 
-  module _ (x : ℕ) (ex : x ≡ wordAt l (1 + 4 * i + 1)) where
-    pub type-differs : (x ≡ ty → ⊥) → false ≡ sameBinding b (entryNth (decodeLayout l .entries) i .ty)
-    type-differs n = rw (same-there, ← ex, ne-eqb x ty n)
-
-    pub type-by-least : (y : ℕ) → x ≡ ty → y ≡ leastSize (entryNth (decodeLayout l .entries) i .ty)
-        → eqb least y ≡ sameBinding b (entryNth (decodeLayout l .entries) i .ty)
-    type-by-least y z ey =
-        let e : y ≡ contentOf (wordAt l (1 + 4 * i + 2)) = ey ∙ least-word l i f h in
-        rw (same-there, ← ex, ← e, eq-eqb x ty z)
+  pub type-by-least : (y : ℕ) → x ≡ ty → y ≡ leastSize e → eqb least y ≡ sameBinding b e
+  type-by-least y z ey = rw (eq-eqb (bindingCode b) (bindingCode e) (omega (arith, t .type-word)), ← ey, ← t .least-size)
 
 module _ (stage : ShaderStage) (place i : ℕ) (b : BindingType) (L : Layout) (a : Answer) (k : Bool) (q : k ≡ sameBinding b (entryNth (L .entries) i .ty)) where
   pub occupied-joined : (M : Layout) (c : ℕ) → k ≡ true → c ≡ stageCode stage → M ≡ joined c L i → a ≡ accepted
@@ -84,13 +69,13 @@ none-there place L h = sym (place-lacks place (entryPlaces (L .entries)) (findEn
 pub new-small : (ty least : ℕ) (b : BindingType) → TypeWords ty least b → least < sizeLimit
 new-small ty least b t = rw (t .least-size) (least-fits b (t .encodable))
 
--- the words of a new entry
-module _ (place ty least p s v : ℕ) (b : BindingType) (t : TypeWords ty least b) (ep : p ≡ contentOf place) (es : s ≡ sizeWord least) (hv : v ≤ 16) where
+-- the parts of a new entry
+module _ (place ty least p v : ℕ) (b : BindingType) (t : TypeWords ty least b) (ep : p ≡ contentOf place) (hv : v ≤ 16) where
   abbrev new : BindGroupLayoutEntry
   new = record { bind = placeOf place; ty = b; visibility = v }
 
-  abbrev words : BindGroupLayoutEntry
-  words = entryOf (0x20000000 + p) ty s (0x98000000 + v)
+  abbrev parts : BindGroupLayoutEntry
+  parts = entryOfParts (0x20000000 + p) ty least (0x98000000 + v)
 
   new-encodable : entryEncodable new ≡ true
   new-encodable = rw (place-encodable place, t .encodable, lt-ltb v 32 (omega arith))
@@ -98,23 +83,20 @@ module _ (place ty least p s v : ℕ) (b : BindingType) (t : TypeWords ty least 
   place-again : 0x20000000 + p ≡ placeWord (placeOf place)
   place-again = omega arith
 
-  size-again : s ≡ sizeWord (leastSize b)
-  size-again = es ∙ ap sizeWord (t .least-size)
+  pub new-well-formed : partsWellFormed (0x20000000 + p) ty least (0x98000000 + v) ≡ true
+  new-well-formed = rw (place-again, t .type-word, t .least-size) (entry-well-formed new new-encodable)
 
-  pub new-well-formed : entryWellFormed (0x20000000 + p) ty s (0x98000000 + v) ≡ true
-  new-well-formed = rw (place-again, t .type-word, size-again) (entry-well-formed new new-encodable)
+  new-mean : parts ≡ new
+  new-mean = rw (place-again, t .type-word, t .least-size) (entry-read new new-encodable)
 
-  new-mean : words ≡ new
-  new-mean = rw (place-again, t .type-word, size-again) (entry-read new new-encodable)
-
-  pub new-fits : (L : Layout) → placeOf place .group < L .groups → entryFits (L .groups) words ≡ true
+  pub new-fits : (L : Layout) → placeOf place .group < L .groups → entryFits (L .groups) parts ≡ true
   new-fits L g = rw (new-mean, new-encodable, lt-ltb (placeOf place .group) (L .groups) g)
 
-  pub new-lacks : (L : Layout) → findEntry (placeOf place) L ≡ Nothing → entryHas (words .bind) (L .entries) ≡ false
+  pub new-lacks : (L : Layout) → findEntry (placeOf place) L ≡ Nothing → entryHas (parts .bind) (L .entries) ≡ false
   new-lacks L n = rw new-mean (none-there (placeOf place) L n)
 
   module _ (stage : ShaderStage) (c : ℕ) (ec : c ≡ stageCode stage) (ev : v ≡ 2 ^ c) (L M : Layout) (a : Answer) (k : Bool) (q : k ≡ roomForEntry L)
-      (m : M ≡ pick k (pushed L words) L) where
+      (m : M ≡ pick k (pushed L parts) L) where
     pub vacant-pushed : k ≡ true → a ≡ accepted → layoutAfter a M ≡ vacant stage (placeOf place) b L
     unfolding vacant
     vacant-pushed y h = rw (← q, ← ec, ← ev, m, y, new-mean, h)

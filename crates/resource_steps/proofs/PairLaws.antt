@@ -1,5 +1,5 @@
 -- The ways through an entry point's pairs of textures and samplers.
-use Prim.Native.Nat.{ℕ, zero, suc, _+_, _-_, _*_, _%_, _<_, _≤_}
+use Prim.Native.Nat.{ℕ, zero, suc, _+_, _-_, _%_, _<_, _≤_}
 use native.Mathlib.Omega.{arith}
 use mathlib.Core.Path.{_≡_, refl, sym, ap, _∙_}
 use mathlib.Core.Bool.{Bool, true, false}
@@ -12,16 +12,13 @@ use Rattle.word.specs.Words.{wordAt, contentOf, bits}
 use Rattle.word.specs.Answers.{answer, accepted}
 use Rattle.word.specs.declared.answer.Answer.{Answer}
 use Rattle.word.specs.Lists.{every}
-use Rattle.bindings.specs.Format.{placeOf, placeWord, sampleAt, bindingTypeOf, entryOf}
+use Rattle.bindings.specs.Format.{placeOf, placeWord, sampleAt, bindingTypeOf, leastSize}
 use Rattle.bindings.specs.declared.types.Resource.{Resource}
 use Rattle.bindings.specs.declared.types.BindingType.{BindingType}
 use Rattle.bindings.specs.declared.types.BindingType.the-variants as Bind
-use Rattle.bindings.specs.declared.types.BindGroupLayoutEntry.{BindGroupLayoutEntry}
 use Rattle.word.proofs.Truth.{first, second, by-test}
 use Rattle.word.proofs.Lists.{first-passes, rest-passes}
-use Rattle.layouts.proofs.LayoutStores.{entry-there}
 use Rattle.layouts.specs.Meaning.{Layout, findEntry, entryNth}
-use Rattle.places.specs.Places.{foundBelow}
 use Rattle.layouts.specs.Format.{decodeLayout}
 use Rattle.places.specs.declared.found.Found.{Found}
 use Rattle.places.specs.declared.found.Found.the-variants.{At, Nothing}
@@ -30,7 +27,6 @@ use Rattle.interface.specs.declared.types.SamplingPair.{SamplingPair}
 use Rattle.resource_steps.specs.inner.Given.{resourceTable, pairBelow, pairsBelow, wordMeans}
 use Rattle.resource_steps.specs.Resources.{resourceNth, filtering, sampleNumber, pairNumber, typeAt, pairAnswer, pairUse, pairUses}
 use Rattle.resource_steps.proofs.ResourceParts.{pairs-cons, pairs-none, nth-at}
-use Rattle.places.proofs.PlaceWays.{found-inside}
 
 -- ---- type words
 
@@ -120,13 +116,10 @@ module _ (t s : ℕ) where
 
 -- ---- the type word at a place
 
-pub type-found : (l : List ℕ) (place : ℕ) (f : Found) (i w : ℕ) → foundBelow (length (decodeLayout l .entries)) f ≡ true → f ≡ At i
-    → f ≡ findEntry (placeOf place) (decodeLayout l) → w ≡ wordAt l (1 + 4 * i + 1) → wordMeans w (typeAt (decodeLayout l) (placeOf place))
-unfolding entryOf
-type-found l place f i w b n q e =
-    let t : entryNth (decodeLayout l .entries) i .ty ≡ bindingTypeOf (wordAt l (1 + 4 * i + 1)) (contentOf (wordAt l (1 + 4 * i + 2)))
-    = ap (λ (e : BindGroupLayoutEntry). e .ty) (entry-there l i (found-inside (length (decodeLayout l .entries)) i f b n)) in
-    (contentOf (wordAt l (1 + 4 * i + 2)), rw (← q, n, e) t)
+pub type-found : (l : List ℕ) (place : ℕ) (f : Found) (i w : ℕ) → f ≡ At i → f ≡ findEntry (placeOf place) (decodeLayout l)
+    → bindingTypeOf w (leastSize (entryNth (decodeLayout l .entries) i .ty)) ≡ entryNth (decodeLayout l .entries) i .ty
+    → wordMeans w (typeAt (decodeLayout l) (placeOf place))
+type-found l place f i w n q m = (leastSize (entryNth (decodeLayout l .entries) i .ty), rw (← q, n) (sym m))
 
 pub type-none : (l : List ℕ) (place : ℕ) (f : Found) → f ≡ findEntry (placeOf place) (decodeLayout l) → f ≡ Nothing
     → wordMeans 0x9300_0000 (typeAt (decodeLayout l) (placeOf place))

@@ -1,7 +1,7 @@
 -- The ways of resources through a provided layout.
-use Prim.Native.Nat.{ℕ, _+_, _-_, _*_, _^_, _<_, _≤_}
+use Prim.Native.Nat.{ℕ, _+_, _-_, _^_, _<_, _≤_}
 use native.Mathlib.Omega.{arith}
-use mathlib.Core.Path.{_≡_, refl, sym, _∙_}
+use mathlib.Core.Path.{_≡_, refl, sym, ap, _∙_}
 use mathlib.Core.Bool.{Bool, true, false, not, _&&_, true≢false}
 use mathlib.Core.List.{List}
 use lib.Dec.{eqb, ltb}
@@ -11,17 +11,16 @@ use Rattle.word.specs.Words.{wordAt, kindOf, contentOf, bits}
 use Rattle.word.specs.Answers.{accepted}
 use Rattle.word.specs.declared.answer.Answer.{Answer}
 use Rattle.bindings.specs.Rules.{checkBindingUse, useNumber}
-use Rattle.bindings.specs.Format.{placeWellFormed, placeOf, typeCode, isBufferWord, spaceAt, resourceTypeOf, sizeWellFormed, typeEncodable, spaceEncodable, bindingTypeOf, entryOf}
+use Rattle.bindings.specs.Format.{placeWellFormed, placeOf, typeCode, isBufferWord, spaceAt, resourceTypeOf, typeEncodable, spaceEncodable, bindingTypeOf}
 use Rattle.bindings.specs.Answers.{bindingAnswer}
 use Rattle.bindings.specs.declared.types.ResourceBinding.{ResourceBinding}
 use Rattle.bindings.specs.declared.types.Resource.{Resource}
 use Rattle.bindings.specs.declared.types.ResourceType.{ResourceType}
+use Rattle.bindings.specs.declared.types.BindGroupLayoutEntry.{BindGroupLayoutEntry}
 use Rattle.word.proofs.Truth.{second, by-test, first}
 use Rattle.layouts.specs.Meaning.{Layout, findEntry, entryNth, seesBit}
 use Rattle.sizes.specs.Meaning.{Sizes, sizeHas, sizeFits, recorded, sizeRecordWidth}
 use Rattle.places.specs.Records.{roomFor}
-use Rattle.layouts.specs.Format.{decodeLayout, layoutWellFormed}
-use Rattle.layouts.proofs.LayoutStores.{entry-there}
 use Rattle.places.specs.declared.found.Found.{Found}
 use Rattle.places.specs.declared.found.Found.the-variants.{At, Nothing}
 use Rattle.interface.specs.Format.{stageCode, contents}
@@ -30,25 +29,21 @@ use Rattle.resource_steps.specs.inner.Given.{resourceTable}
 use Rattle.resource_steps.specs.Resources.{resourceNth, sizesAfter, recordSize, entryUse, providedUse, provideStep, ProvideResult, provideResult, provideSteps}
 use Rattle.resource_steps.proofs.ResourceParts.{nth-at}
 use Rattle.resource_steps.proofs.ResourceWalk.{index-next, index-none, one-more}
-use Rattle.bindings.specs.Format.{placeWellFormed, placeOf, typeCode, isBufferWord, spaceAt, sizeLimit, sizeWord, sizeStanding, resourceTypeOf, resource, sizeWellFormed, typeEncodable, spaceEncodable}
-use Rattle.bindings.specs.Format.{bindingTypeOf, leastSize, entryOf}
-use Rattle.resource_steps.proofs.ResourceLaws.{least-word}
+use Rattle.bindings.specs.Format.{sizeLimit, sizeStanding, resource}
+use Rattle.bindings.specs.Format.{leastSize}
 
 -- ---- the entry of a resource
 
-module _ (stage : ShaderStage) (ty : ResourceType) (l : List ℕ) (i c x v : ℕ) (b : Bool) (h : i < length (decodeLayout l .entries)) (s : c ≡ stageCode stage)
-    (p : x ≡ wordAt l (1 + 4 * i + 3)) (e : v ≡ contentOf x) (q : b ≡ seesBit c v) where
-  pub entry-unseen : not b ≡ true → 21 ≡ entryUse stage ty (entryNth (decodeLayout l .entries) i)
-  unfolding entryOf
-  entry-unseen n = rw (entry-there l i h, ← s, ← p, ← e, ← q, not-true b n)
+module _ (stage : ShaderStage) (ty : ResourceType) (e : BindGroupLayoutEntry) (c v : ℕ) (b : Bool) (s : c ≡ stageCode stage) (p : v ≡ e .visibility)
+    (q : b ≡ seesBit c v) where
+  pub entry-unseen : not b ≡ true → 21 ≡ entryUse stage ty e
+  entry-unseen n = rw (← s, ← p, ← q, not-true b n)
 
-  pub entry-seen : (t least u : ℕ) → layoutWellFormed l ≡ true → not b ≡ false → t ≡ wordAt l (1 + 4 * i + 1)
-      → least ≡ leastSize (entryNth (decodeLayout l .entries) i .ty) → u ≡ useNumber (checkBindingUse ty (bindingTypeOf t least))
-      → u ≡ entryUse stage ty (entryNth (decodeLayout l .entries) i)
-  unfolding entryOf
-  entry-seen t least u d n f g k =
-      let z : least ≡ contentOf (wordAt l (1 + 4 * i + 2)) = g ∙ least-word l i d h in
-      rw (entry-there l i h, ← s, ← p, ← e, ← q, not-false b n, ← f, ← z) k
+  pub entry-seen : (t least u : ℕ) → not b ≡ false → least ≡ leastSize (e .ty) → bindingTypeOf t (leastSize (e .ty)) ≡ e .ty
+      → u ≡ useNumber (checkBindingUse ty (bindingTypeOf t least)) → u ≡ entryUse stage ty e
+  entry-seen t least u n g m k =
+      let z : bindingTypeOf t least ≡ e .ty = ap (bindingTypeOf t) g ∙ m in
+      rw (← s, ← p, ← q, not-false b n, ← z) k
 
 module _ (stage : ShaderStage) (L : Layout) (r : Resource) (f : Found) (a : Answer) (q : f ≡ findEntry (r .bind) L) where
   pub provided-none : f ≡ Nothing → a ≡ bindingAnswer 20 (r .bind) → a ≡ providedUse stage L r
@@ -95,33 +90,28 @@ module _ (w size : ℕ) (h : typeEncodable (resourceTypeOf w size) ≡ true) (z 
   pub size-fits : size < sizeLimit
   size-fits = ltb-true size sizeLimit (first (ltb size sizeLimit) (not (eqb size 0)) encodable-size)
 
-  pub size-well-formed : (x : ℕ) → x ≡ sizeWord size → sizeWellFormed x ≡ true
-  size-well-formed x e =
+  pub size-some : 1 ≤ size
+  size-some =
       let n : size ≡ 0 → ⊥ = eqb-false size 0 (not-true (eqb size 0) (second (ltb size sizeLimit) (not (eqb size 0)) encodable-size)) in
-      let l : size < sizeLimit = size-fits in
-      let k : kindOf x ≡ 6 = omega arith in
-      rw (k, ne-eqb (contentOf x) 0 (λ q. n (omega arith)))
+      omega arith
 
-  module _ (place : ℕ) (S T : Sizes) (a : Answer) (b : Bool) (p x : ℕ) (ep : p ≡ contentOf place) (ex : x ≡ sizeWord size)
-      (q : b ≡ sizeFits (placeOf (0x20000000 + p)) S) (r : T ≡ recorded (placeOf (0x20000000 + p)) (contentOf x) S) where
+  module _ (place : ℕ) (S T : Sizes) (a : Answer) (b : Bool) (p : ℕ) (ep : p ≡ contentOf place) (q : b ≡ sizeFits (placeOf (0x20000000 + p)) S)
+      (r : T ≡ recorded (placeOf (0x20000000 + p)) size S) where
     same-place : placeOf (0x20000000 + p) ≡ placeOf place
     same-place =
         let g : bits 26 23 (0x20000000 + p) ≡ bits 26 23 place = omega arith in
         let n : bits 22 0 (0x20000000 + p) ≡ bits 22 0 place = omega arith in
         rw (g, n)
 
-    same-size : contentOf x ≡ size
-    same-size = omega (arith, size-fits)
-
     pub size-recorded : b ≡ true → a ≡ accepted → sizesAfter a T ≡ recordSize (placeOf place) (resourceTypeOf w size) S
     unfolding recordSize resourceTypeOf
-    size-recorded t e = rw (eq-eqb (typeCode w) 0 z, ← same-place, ← q, t, r, same-size, e)
+    size-recorded t e = rw (eq-eqb (typeCode w) 0 z, ← same-place, ← q, t, r, e)
 
     pub size-full : b ≡ false → a ≡ bindingAnswer 5 (placeOf place) → sizesAfter a T ≡ recordSize (placeOf place) (resourceTypeOf w size) S
     unfolding recordSize resourceTypeOf
     size-full t e =
         let n : sizeFits (placeOf place) S ≡ false = rw (← same-place) (sym q ∙ t) in
-        rw (eq-eqb (typeCode w) 0 z, n, r, same-place, not-recorded (placeOf place) (contentOf x) S (sizeHas (placeOf place) (S .records)) (roomFor sizeRecordWidth (S .room)) refl refl n, e)
+        rw (eq-eqb (typeCode w) 0 z, n, r, same-place, not-recorded (placeOf place) size S (sizeHas (placeOf place) (S .records)) (roomFor sizeRecordWidth (S .room)) refl refl n, e)
 
 -- ---- one resource, by its index
 

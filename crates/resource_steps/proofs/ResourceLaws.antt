@@ -1,45 +1,28 @@
--- The answer of a place, the least size of an entry, and positions that were found.
-use Prim.Native.Nat.{ℕ, _+_, _*_, _^_, _<_}
+-- The answer of a place, and positions that were found.
+use Prim.Native.Nat.{ℕ, _^_, _<_}
 use native.Mathlib.Omega.{arith}
 use mathlib.Core.Path.{_≡_, refl, ap, _∙_}
 use mathlib.Core.Bool.{true}
 use mathlib.Core.List.{List}
 use lib.ListN.{length}
 use borrow.Author.Tests.{lt-ltb, ltb-true}
-use Rattle.word.specs.Words.{wordAt, contentOf}
 use Rattle.word.specs.declared.answer.Answer.{Answer}
-use Rattle.bindings.specs.Format.{placeOf, leastSize, entryWellFormed, entryOf, entryWellFormedAt}
+use Rattle.bindings.specs.Format.{placeOf}
 use Rattle.bindings.specs.Answers.{bindingAnswer}
 use Rattle.bindings.specs.declared.types.ResourceBinding.{ResourceBinding}
 use Rattle.places.specs.Places.{foundBelow}
 use Rattle.layouts.specs.Format.{layoutWellFormed, decodeLayout}
-use Rattle.layouts.proofs.LayoutStores.{layout-few, entry-there, entry-well-formed-there}
+use Rattle.layouts.proofs.LayoutStores.{layout-few}
 use Rattle.places.specs.declared.found.Found.{Found}
 use Rattle.places.specs.declared.found.Found.the-variants.{At, Nothing}
-use Rattle.places.specs.Records.{roomFor}
-use Rattle.word.proofs.Truth.{first, second}
-use Rattle.bindings.proofs.EntryFormat.{least-back}
-use Rattle.layouts.specs.Meaning.{entryNth}
 
 pub answer-there : (number place : ℕ) (bind : ResourceBinding) (a : Answer) → bind ≡ placeOf place → a ≡ bindingAnswer number bind
     → a ≡ bindingAnswer number (placeOf place)
 answer-there number place bind a e h = h ∙ ap (bindingAnswer number) e
 
--- ---- the least size of an entry
-
-module _ (l : List ℕ) (i : ℕ) (f : layoutWellFormed l ≡ true) (h : i < length (decodeLayout l .entries)) where
-  pub least-word : leastSize (entryNth (decodeLayout l .entries) i .ty) ≡ contentOf (wordAt l (1 + 4 * i + 2))
-  unfolding entryWellFormed entryOf
-  least-word =
-      let d : entryWellFormedAt l (1 + 4 * i) ≡ true = entry-well-formed-there l i h f in
-      rw (entry-there l i h) (least-back (wordAt l (1 + 4 * i + 1)) (contentOf (wordAt l (1 + 4 * i + 2))) (search (first, second) depth 8))
-
-  pub least-there : (x r : ℕ) → x ≡ wordAt l (1 + 4 * i + 2) → r ≡ contentOf x → r ≡ leastSize (entryNth (decodeLayout l .entries) i .ty)
-  least-there x r e q = rw (least-word, ← e) q
-
 -- ---- positions that were found
 
--- the position that was found roomFor into a byte
+-- the position that was found fits into a byte
 pub found-few : (l : List ℕ) (f : Found) → layoutWellFormed l ≡ true → foundBelow (length (decodeLayout l .entries)) f ≡ true → foundBelow 256 f ≡ true
 found-few l (At i) h b = lt-ltb i 256 (omega (arith, layout-few l h, ltb-true i (length (decodeLayout l .entries)) b))
 found-few l Nothing h b = refl

@@ -9,7 +9,7 @@ use lib.ListN.{length, take, drop}
 use borrow.Author.Tests.{ltb-true}
 use Rattle.word.specs.Words.{wordAt, contentOf}
 use Rattle.word.proofs.Truth.{second}
-use Rattle.bindings.specs.Format.{placeOf, placeEncodable, resourceTypeOf, typeEncodable, resource, sizeWidth, sizeStanding}
+use Rattle.bindings.specs.Format.{placeOf, placeEncodable, resourceTypeOf, typeEncodable, sizeWidth, sizeStanding}
 use Rattle.word.specs.Lists.{every}
 use Rattle.word.proofs.Lists.{first-passes, rest-passes}
 use Rattle.interface.specs.Format.{contents}

@@ -11,21 +11,20 @@ ghost use Rattle.layouts.specs.Format.{layoutWellFormed, decodeLayout};
 ghost use Rattle.interface.specs.Format.{contents, pairsOf};
 ghost use Rattle.resource_steps.specs.inner.Given.{resourceTable, Inside, eachEncodable, eachBelow, TypeWords};
 ghost use Rattle.resource_steps.specs.Resources.{resourceNth, layoutAfter, occupied, vacant, placeStep, deriveStep, namedTexture, deriveResult, deriveSteps};
-use crate::resources::entry_least;
 use crate::resources::place_answer;
 use crate::types::Checked;
 use bindings::sizes::size_at;
-use bindings::sizes::size_word;
 use bindings::word_derives::derived_least;
 use bindings::word_derives::derived_word;
 use interface::reads::position_at;
 use interface::reads::stage_code;
 use interface::types::ShaderStage;
-use layouts::layout::entry_word;
+use layouts::layout::entry_least;
+use layouts::layout::entry_type;
 use layouts::layout::find_entry_word;
 use layouts::layout::group_count;
 use layouts::layout::join_visibility;
-use layouts::layout::push_words;
+use layouts::layout::push_entry;
 use layouts::visibility::stage_bit;
 use places::found::Found;
 use word::answer::Answer;
@@ -38,7 +37,7 @@ fn same_type(layout: &[u32], index: usize, ty: u32, least: u64) -> bool
     requires { ⌜ index < length (decodeLayout (now layout) .entries) ⌝ }
     ensures { λ r. ⌜ r ≡ sameBinding (bindingTypeOf ty least) (entryNth (decodeLayout (now (layout .entry)) .entries) index .ty) ⌝ }
 {
-    if entry_word(layout, index, 1) != ty {
+    if entry_type(layout, index) != ty {
         return false;
     }
     least == entry_least(layout, index)
@@ -78,13 +77,7 @@ fn vacant(stage: ShaderStage, place: u32, ty: u32, least: u64, layout: &mut [u32
     ensures { λ a. ⌜ layoutWellFormed (now (layout .exit)) ≡ true ⌝ }
 {
     let visibility = 0x9800_0000 + stage_bit(stage_code(stage));
-    if push_words(
-        layout,
-        0x2000_0000 + content(place),
-        ty,
-        size_word(least),
-        visibility,
-    ) {
+    if push_entry(layout, 0x2000_0000 + content(place), ty, least, visibility) {
         return Answer::accepted();
     }
     place_answer(5, place)

@@ -12,7 +12,7 @@ ghost use Rattle.resource_steps.specs.Resources.{resourceNth, filtering,
 use crate::resources::noted;
 use interface::reads::pair_of;
 use interface::reads::position_at;
-use layouts::layout::entry_word;
+use layouts::layout::entry_type;
 use layouts::layout::find_entry_near;
 use places::found::Found;
 use word::answer::Answer;
@@ -62,7 +62,7 @@ fn type_word_at(layout: &[u32], place: u32, near: usize) -> u32
     ensures { λ r. ⌜ wordMeans r (typeAt (decodeLayout (now (layout .entry))) (placeOf place)) ⌝ }
 {
     match find_entry_near(layout, place, near) {
-        Found::At { index } => entry_word(layout, index, 1),
+        Found::At { index } => entry_type(layout, index),
         Found::Nothing => 0x9300_0000,
     }
 }

@@ -10,27 +10,27 @@ ghost use Rattle.sizes.specs.Format.{sizesWellFormed, decodeSizes};
 ghost use Rattle.interface.specs.Format.{contents};
 ghost use Rattle.resource_steps.specs.inner.Given.{resourceTable, Inside, eachEncodable, eachBelow};
 ghost use Rattle.resource_steps.specs.Resources.{resourceNth, sizesAfter, recordSize, entryUse, providedUse, provideStep, provideResult, provideSteps};
-use crate::resources::entry_least;
 use crate::resources::note;
 use crate::resources::noted;
 use crate::resources::place_answer;
 use crate::types::Checked;
 use bindings::sizes::size_at;
-use bindings::sizes::size_word;
 use bindings::word_uses::words_use;
 use interface::reads::position_at;
 use interface::reads::stage_code;
 use interface::types::ShaderStage;
-use layouts::layout::entry_word;
+use layouts::layout::entry_least;
+use layouts::layout::entry_type;
+use layouts::layout::entry_visibility;
 use layouts::layout::find_entry_near;
 use layouts::visibility::sees;
 use places::found::Found;
-use sizes::sizes::record_words;
+use sizes::sizes::record_size;
 use word::answer::Answer;
 use word::content;
 
 // Records the size that a buffer asks for; a list without room is 5.
-fn record_size(place: u32, w: u32, size: u64, next: &mut [u16; 1], sizes: &mut [u32]) -> Answer
+fn record_buffer(place: u32, w: u32, size: u64, next: &mut [u16; 1], sizes: &mut [u32]) -> Answer
     requires { ⌜ sizesWellFormed (now sizes) ≡ true ⌝ }
     requires { ⌜ typeEncodable (resourceTypeOf w size) ≡ true ⌝ }
     ensures { λ r. ⌜ sizesAfter r (decodeSizes (now (sizes .exit)))
@@ -40,7 +40,7 @@ fn record_size(place: u32, w: u32, size: u64, next: &mut [u16; 1], sizes: &mut [
     if w / 0x80_0000 % 16 != 0 {
         return Answer::accepted();
     }
-    if record_words(sizes, 0x2000_0000 + content(place), size_word(size), next) {
+    if record_size(sizes, 0x2000_0000 + content(place), size, next) {
         return Answer::accepted();
     }
     place_answer(5, place)
@@ -52,10 +52,10 @@ fn entry_use(stage: ShaderStage, w: u32, size: u64, layout: &[u32], index: usize
     requires { ⌜ index < length (decodeLayout (now layout) .entries) ⌝ }
     ensures { λ r. ⌜ r ≡ entryUse stage (resourceTypeOf w size) (entryNth (decodeLayout (now (layout .entry)) .entries) index) ⌝ }
 {
-    if !sees(content(entry_word(layout, index, 3)), stage_code(stage)) {
+    if !sees(entry_visibility(layout, index), stage_code(stage)) {
         return 21;
     }
-    let ty = entry_word(layout, index, 1);
+    let ty = entry_type(layout, index);
     words_use(w, size, ty, entry_least(layout, index))
 }
 
@@ -105,7 +105,7 @@ fn provide_step(
     let place = pack[at];
     let w = pack[at + 1];
     let size = size_at(pack, at + 2);
-    let recorded = record_size(place, w, size, next, sizes);
+    let recorded = record_buffer(place, w, size, next, sizes);
     if recorded.number != 0 {
         return recorded;
     }

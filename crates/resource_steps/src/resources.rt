@@ -1,19 +1,13 @@
-// What resources need in either mode: the answer of a place, the least size of an entry, and where entries stand.
+// What resources need in either mode: the answer of a place, and where entries stand.
 ghost use mathlib.Core.Path.{_≡_};
 ghost use mathlib.Core.Bool.{true};
 ghost use Prim.Native.Nat.{_<_};
-ghost use Rattle.bindings.specs.Format.{placeOf, leastSize};
+ghost use Rattle.bindings.specs.Format.{placeOf};
 ghost use Rattle.bindings.specs.Answers.{bindingAnswer};
 ghost use Rattle.places.specs.Places.{foundBelow};
 use bindings::answers::binding_answer;
-use places::found::Found;
-ghost use Rattle.places.specs.declared.found.Found.the-variants.{Nothing};
 use bindings::resource_words::place_of;
-ghost use lib.ListN.{length};
-ghost use Rattle.layouts.specs.Meaning.{entryNth};
-ghost use Rattle.layouts.specs.Format.{layoutWellFormed, decodeLayout};
-use bindings::sizes::word_size;
-use layouts::layout::entry_word;
+use places::found::Found;
 use word::answer::Answer;
 
 // The answer of a number that names the place of a word.
@@ -21,15 +15,6 @@ pub(crate) fn place_answer(number: u32, place: u32) -> Answer
     ensures { λ r. ⌜ r ≡ bindingAnswer number (placeOf place) ⌝ }
 {
     binding_answer(number, place_of(place))
-}
-
-// The least size of the entry at a position.
-pub(crate) fn entry_least(layout: &[u32], index: usize) -> u64
-    requires { ⌜ layoutWellFormed (now layout) ≡ true ⌝ }
-    requires { ⌜ index < length (decodeLayout (now layout) .entries) ⌝ }
-    ensures { λ r. ⌜ r ≡ leastSize (entryNth (decodeLayout (now (layout .entry)) .entries) index .ty) ⌝ }
-{
-    word_size(entry_word(layout, index, 2))
 }
 
 // ---- where the entries of resources stand: positions to try first, which need not be right

@@ -22,7 +22,7 @@ use Rattle.sizes.specs.declared.size_record.SizeRecord.{SizeRecord}
 
 -- ---- the two words of a record
 
-pub size-written : (w : ℕ) → sizeWellFormed w ≡ true → ofKind 6 (contentOf w) ≡ w
+size-written : (w : ℕ) → sizeWellFormed w ≡ true → ofKind 6 (contentOf w) ≡ w
 size-written w h = let k : kindOf w ≡ 6 = search (eqb-true, first) in omega arith
 
 size-kept : (ws : List ℕ) → sizeGood ws ≡ true → sizeEncodable (readSize ws) ≡ true

@@ -5,10 +5,9 @@ use mathlib.Core.Path.{_≡_, sym, ap, _∙_}
 use mathlib.Core.Bool.{true, false}
 use mathlib.Core.List.{List, [], _∷_, _++_}
 use lib.ListN.{length, drop, getD, set}
-use lib.Dec.{eqb}
-use borrow.Author.Tests.{eqb-true, eqb-false, not-true}
+use borrow.Author.Tests.{eqb-true}
 use Rattle.word.specs.Words.{wordAt, kindOf, contentOf, bits, ofKind}
-use Rattle.bindings.specs.Format.{placeWellFormed, placeOf, sizeWellFormed}
+use Rattle.bindings.specs.Format.{placeWellFormed, placeOf, sizeLimit, sizeWord}
 use Rattle.word.specs.Lists.{flat}
 use Rattle.bindings.specs.declared.types.ResourceBinding.{ResourceBinding}
 use Rattle.bindings.proofs.ReadLaws.{place-encodable}
@@ -24,7 +23,7 @@ use Rattle.places.specs.declared.found.Found.the-variants.{At, Nothing}
 use Rattle.places.proofs.Words.{there}
 use Rattle.places.proofs.Records.{read-length, room-lacks, room-fits, nth-record, each-nth, put-more, count-more, set-read}
 use Rattle.places.proofs.PlaceWays.{place-found, place-lacks, found-inside}
-use Rattle.sizes.proofs.SizeLists.{size-written, size-form, WellFormed, well-formed, encode-decode, decode-encode, well-formed-encode, good-decode}
+use Rattle.sizes.proofs.SizeLists.{size-form, WellFormed, well-formed, encode-decode, decode-encode, well-formed-encode, good-decode}
 use Rattle.sizes.proofs.SizeLaws.{raised, noRecord, raised-set, length-raised, good-recorded}
 use Rattle.sizes.proofs.SizeWays.{size-places}
 
@@ -111,13 +110,13 @@ size-kind s i f k =
     let z : 1 + (2 * i + 1) ≡ 2 * i + 2 = omega arith in
     rw (there (drop 1 s) (2 * i) 1, there s 1 (2 * i + 1), z) at q
 
-pub size-raised : (s s′ : List ℕ) (p z n i : ℕ) (r : Found) → sizesWellFormed s ≡ true → sizeWellFormed z ≡ true → n ≡ countOf s
+pub size-raised : (s s′ : List ℕ) (p size z n i : ℕ) (r : Found) → sizesWellFormed s ≡ true → size < sizeLimit → z ≡ sizeWord size → n ≡ countOf s
     → r ≡ placeFrom (placeOf p) (places 2 n (drop 1 s)) 0 → foundBelow n r ≡ true → r ≡ At i → s′ ≡ set s (2 * i + 2) (max (wordAt s (2 * i + 2)) z)
-    → s′ ≡ encodeSizes (recorded (placeOf p) (contentOf z) (decodeSizes s))
-size-raised s s′ p z n i r f fz en er below h e =
+    → s′ ≡ encodeSizes (recorded (placeOf p) size (decodeSizes s))
+size-raised s s′ p size z n i r f l ez en er below h e =
     let b : i < countOf s = rw (← en) (found-inside n i r below h) in
-    let m : max (wordAt s (2 * i + 2)) z ≡ ofKind 6 (max (contentOf (wordAt s (2 * i + 2))) (contentOf z)) = omega (arith, size-kind s i f b, size-written z fz) in
-    e ∙ rw m (raised-words s (placeOf p) i (contentOf z) f (size-there s (placeOf p) n r en er i h) b (size-has s (placeOf p) n r en er i h))
+    let m : max (wordAt s (2 * i + 2)) z ≡ sizeWord (max (contentOf (wordAt s (2 * i + 2))) size) = omega (arith, size-kind s i f b) in
+    e ∙ rw m (raised-words s (placeOf p) i size f (size-there s (placeOf p) n r en er i h) b (size-has s (placeOf p) n r en er i h))
 
 -- ---- a new record
 
@@ -164,30 +163,28 @@ pushed-words (w ∷ ws) place size f h =
     let head : ofKind 20 (n + 1) ≡ w + 1 = omega arith in
     put-more size-form n ws fit (t .good) w (w + 1) (sizeRecord place size) ∙ rw (count-more size-form n ws fit (t .good) (sizeRecord place size), head)
 
-pub push-stored : (s s′ : List ℕ) (p z n w : ℕ) → sizesWellFormed s ≡ true → n ≡ countOf s → placeWellFormed p ≡ true → sizeWellFormed z ≡ true
+pub push-stored : (s s′ : List ℕ) (p size z n w : ℕ) → sizesWellFormed s ≡ true → n ≡ countOf s → placeWellFormed p ≡ true → z ≡ sizeWord size
     → sizeHas (placeOf p) (decodeSizes s .records) ≡ false → w ≡ wordAt s 0 → 1 + 2 * n + 2 ≤ length s → s′ ≡ put s (1 + 2 * n) (p ∷ z ∷ [])
-    → set s′ 0 (w + 1) ≡ encodeSizes (recorded (placeOf p) (contentOf z) (decodeSizes s))
+    → set s′ 0 (w + 1) ≡ encodeSizes (recorded (placeOf p) size (decodeSizes s))
 unfolding recorded
-push-stored s s′ p z n w f en fp fz new ew h e =
-    let q : s′ ≡ put s (1 + 2 * countOf s) (sizeRecordWords (sizeRecord (placeOf p) (contentOf z))) = rw (place-back p fp, size-written z fz, ← en) e in
-    rw (new, room-there s (placeOf p) (contentOf z) n f en new h, q, ew)
-    (pushed-words s (placeOf p) (contentOf z) f (rw en at h))
+push-stored s s′ p size z n w f en fp ez new ew h e =
+    let q : s′ ≡ put s (1 + 2 * countOf s) (sizeRecordWords (sizeRecord (placeOf p) size)) = rw (place-back p fp, ← ez, ← en) e in
+    rw (new, room-there s (placeOf p) size n f en new h, q, ew)
+    (pushed-words s (placeOf p) size f (rw en at h))
 
 -- ---- what holds of the words after either
 
-module _ (s s′ : List ℕ) (p z : ℕ) (f : sizesWellFormed s ≡ true) (fz : sizeWellFormed z ≡ true)
-    (e : s′ ≡ encodeSizes (recorded (placeOf p) (contentOf z) (decodeSizes s))) where
-  record-good : sizesGood (recorded (placeOf p) (contentOf z) (decodeSizes s)) ≡ true
-  record-good =
-      let n : contentOf z ≡ 0 → ⊥ = eqb-false (contentOf z) 0 (not-true (eqb (contentOf z) 0) (search second)) in
-      good-recorded (placeOf p) (contentOf z) (decodeSizes s) (good-decode s f) (place-encodable p) (omega arith) (omega arith)
+module _ (s s′ : List ℕ) (p size : ℕ) (f : sizesWellFormed s ≡ true) (o : 1 ≤ size) (l : size < sizeLimit)
+    (e : s′ ≡ encodeSizes (recorded (placeOf p) size (decodeSizes s))) where
+  record-good : sizesGood (recorded (placeOf p) size (decodeSizes s)) ≡ true
+  record-good = good-recorded (placeOf p) size (decodeSizes s) (good-decode s f) (place-encodable p) o l
 
-  pub record-decoded : decodeSizes s′ ≡ recorded (placeOf p) (contentOf z) (decodeSizes s)
-  record-decoded = rw e (decode-encode (recorded (placeOf p) (contentOf z) (decodeSizes s)) record-good)
+  pub record-decoded : decodeSizes s′ ≡ recorded (placeOf p) size (decodeSizes s)
+  record-decoded = rw e (decode-encode (recorded (placeOf p) size (decodeSizes s)) record-good)
 
   pub record-well-formed : sizesWellFormed s′ ≡ true
-  record-well-formed = rw e (well-formed-encode (recorded (placeOf p) (contentOf z) (decodeSizes s)) record-good)
+  record-well-formed = rw e (well-formed-encode (recorded (placeOf p) size (decodeSizes s)) record-good)
 
-pub raised-well-formed : (s s′ : List ℕ) (p z n i : ℕ) (r : Found) → sizesWellFormed s ≡ true → sizeWellFormed z ≡ true → n ≡ countOf s
+pub raised-well-formed : (s s′ : List ℕ) (p size z n i : ℕ) (r : Found) → sizesWellFormed s ≡ true → 1 ≤ size → size < sizeLimit → z ≡ sizeWord size → n ≡ countOf s
     → r ≡ placeFrom (placeOf p) (places 2 n (drop 1 s)) 0 → foundBelow n r ≡ true → r ≡ At i → s′ ≡ set s (2 * i + 2) (max (wordAt s (2 * i + 2)) z) → sizesWellFormed s′ ≡ true
-raised-well-formed s s′ p z n i r f fz en er below h e = record-well-formed s s′ p z f fz (size-raised s s′ p z n i r f fz en er below h e)
+raised-well-formed s s′ p size z n i r f o l ez en er below h e = record-well-formed s s′ p size f o l (size-raised s s′ p size z n i r f l ez en er below h e)

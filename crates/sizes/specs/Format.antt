@@ -4,8 +4,8 @@ use mathlib.Core.Bool.{Bool, _&&_, not}
 use mathlib.Core.List.{List, [], _∷_, _++_}
 use lib.Dec.{eqb, leb, ltb}
 use lib.ListN.{length, drop}
-use Rattle.word.specs.Words.{wordAt, kindOf, contentOf, bits, ofKind}
-use Rattle.bindings.specs.Format.{placeWellFormed, placeWord, placeEncodable, sizeWellFormed, sizeLimit}
+use Rattle.word.specs.Words.{wordAt, kindOf, bits, ofKind}
+use Rattle.bindings.specs.Format.{placeWellFormed, placeWord, placeEncodable, sizeWellFormed, sizeLimit, sizeWord, sizeStanding}
 use Rattle.places.specs.Records.{shortEnough, countOf, past, records, each, mostListWords}
 use Rattle.word.specs.Lists.{every, flat}
 use Rattle.places.specs.Places.{readPlace}
@@ -14,15 +14,15 @@ use Rattle.sizes.specs.declared.size_record.SizeRecord.{SizeRecord}
 
 -- 'place and size'
 abbrev pub readSize : List ℕ → SizeRecord
-readSize ws = record { bind = readPlace ws; size = contentOf (wordAt ws 1) }
+readSize ws = record { bind = readPlace ws; size = sizeStanding ws 1 }
 
 -- 'size (at least 1)'
 abbrev pub sizeGood : List ℕ → Bool
 sizeGood ws = placeWellFormed (wordAt ws 0) && sizeWellFormed (wordAt ws 1)
 
--- the two words of a record
+-- the words of a record
 abbrev pub sizeRecordWords : SizeRecord → List ℕ
-sizeRecordWords s = placeWord (s .bind) ∷ ofKind 6 (s .size) ∷ []
+sizeRecordWords s = placeWord (s .bind) ∷ sizeWord (s .size) ∷ []
 
 -- as many records
 abbrev pub readSizes : ℕ → List ℕ → List SizeRecord

@@ -3,11 +3,12 @@ ghost use mathlib.Core.Path.{_≡_};
 ghost use mathlib.Core.Bool.{true, false};
 ghost use Prim.Native.Nat.{_+_, _*_, _<_, _≤_, max};
 ghost use lib.ListN.{length, drop, set};
-ghost use Rattle.word.specs.Words.{contentOf, wordAt};
-ghost use Rattle.bindings.specs.Format.{placeWellFormed, placeOf, sizeWellFormed};
-ghost use Rattle.sizes.specs.Meaning.{sizeHas, sizeFits, recorded};
+ghost use Rattle.word.specs.Words.{wordAt};
+ghost use Rattle.bindings.specs.Format.{placeWellFormed, placeOf, sizeLimit};
+ghost use Rattle.sizes.specs.Meaning.{sizeHas, sizeFits, recorded, sizeRecordWidth};
 ghost use Rattle.places.specs.Records.{countOf, each};
 ghost use Rattle.sizes.specs.Format.{sizeGood, sizesHead, sizesWellFormed, decodeSizes, encodeSizes};
+use bindings::sizes::size_word;
 use places::found::Found;
 use places::heads::counted;
 use places::places::distinct_places;
@@ -15,6 +16,12 @@ use places::places::find_near;
 use places::stores::store_two;
 use word::content;
 use word::word;
+
+// How many words a record has.
+const SIZE_RECORD_WIDTH: usize = 2;
+
+// How many words a list has at most.
+const MOST_LIST_WORDS: usize = 1024;
 
 fn sizes_head(l: &[u32]) -> bool
     ensures { λ r. ⌜ r ≡ sizesHead (now (l .entry)) ⌝ }
@@ -27,12 +34,12 @@ fn sizes_head(l: &[u32]) -> bool
         return false;
     }
     let n = (w % 0x1_0000) as usize;
-    1 + 2 * n <= l.len()
+    1 + SIZE_RECORD_WIDTH * n <= l.len()
 }
 
 // Whether a place and a size of at least 1 stand at a position.
 fn size_good(l: &[u32], at: usize) -> bool
-    requires { ⌜ at + 2 ≤ length (now l) ⌝ }
+    requires { ⌜ at + sizeRecordWidth ≤ length (now l) ⌝ }
     ensures { λ r. ⌜ r ≡ sizeGood (drop at (now (l .entry))) ⌝ }
 {
     if l[at] / 0x800_0000 != 4 {
@@ -43,8 +50,8 @@ fn size_good(l: &[u32], at: usize) -> bool
 }
 
 fn sizes_good(l: &[u32]) -> bool
-    requires { ⌜ 1 + 2 * countOf (now l) ≤ length (now l) ⌝ }
-    ensures { λ r. ⌜ r ≡ each 2 sizeGood (countOf (now (l .entry))) (drop 1 (now (l .entry))) ⌝ }
+    requires { ⌜ 1 + sizeRecordWidth * countOf (now l) ≤ length (now l) ⌝ }
+    ensures { λ r. ⌜ r ≡ each sizeRecordWidth sizeGood (countOf (now (l .entry))) (drop 1 (now (l .entry))) ⌝ }
 {
     let mut at: usize = 1;
     let mut left = counted(l);
@@ -52,7 +59,7 @@ fn sizes_good(l: &[u32]) -> bool
         if !size_good(l, at) {
             return false;
         }
-        at += 2;
+        at += SIZE_RECORD_WIDTH;
         left -= 1;
     }
     true
@@ -62,7 +69,7 @@ fn sizes_good(l: &[u32]) -> bool
 pub fn sizes_well_formed(l: &[u32]) -> bool
     ensures { λ r. ⌜ r ≡ sizesWellFormed (now (l .entry)) ⌝ }
 {
-    if 1024 < l.len() {
+    if MOST_LIST_WORDS < l.len() {
         return false;
     }
     if !sizes_head(l) {
@@ -71,24 +78,24 @@ pub fn sizes_well_formed(l: &[u32]) -> bool
     if !sizes_good(l) {
         return false;
     }
-    distinct_places(l, 2)
+    distinct_places(l, SIZE_RECORD_WIDTH)
 }
 
 // A new record at the end, or nothing where the free room is too small.
-fn push_size(s: &mut [u32], place: u32, size: u32) -> bool
+fn push_size(s: &mut [u32], place: u32, size: u64) -> bool
     requires { ⌜ sizesWellFormed (now s) ≡ true ⌝ }
-    requires { ⌜ (placeWellFormed place ≡ true) × (sizeWellFormed size ≡ true) ⌝ }
+    requires { ⌜ (placeWellFormed place ≡ true) × (size < sizeLimit) ⌝ }
     requires { ⌜ sizeHas (placeOf place) (decodeSizes (now s) .records) ≡ false ⌝ }
     ensures { λ r. ⌜ r ≡ sizeFits (placeOf place) (decodeSizes (now (s .entry))) ⌝ }
-    ensures { λ r. ⌜ now (s .exit) ≡ encodeSizes (recorded (placeOf place) (contentOf size) (decodeSizes (now (s .entry)))) ⌝ }
+    ensures { λ r. ⌜ now (s .exit) ≡ encodeSizes (recorded (placeOf place) size (decodeSizes (now (s .entry)))) ⌝ }
 {
     let n = counted(s);
-    let at = 1 + 2 * n;
-    if s.len() < at + 2 {
+    let at = 1 + SIZE_RECORD_WIDTH * n;
+    if s.len() < at + SIZE_RECORD_WIDTH {
         return false;
     }
     let head = s[0];
-    store_two(s, at, place, size);
+    store_two(s, at, place, size_word(size));
     s[0] = head + 1;
     true
 }
@@ -108,20 +115,26 @@ fn noted(next: &[u16; 1]) -> u16 {
     next[0]
 }
 
-// A size recorded at a place, by the words of both: the larger where the place has a record, else a new one where there is room.
+// A size recorded at the place of a word: the larger where the place has a record, else a new one where there is room.
 // Records mostly stand in the order in which they are asked for: the position behind the last is noted and tried first.
-pub fn record_words(s: &mut [u32], place: u32, size: u32, next: &mut [u16; 1]) -> bool
+pub fn record_size(s: &mut [u32], place: u32, size: u64, next: &mut [u16; 1]) -> bool
     requires { ⌜ sizesWellFormed (now s) ≡ true ⌝ }
-    requires { ⌜ (placeWellFormed place ≡ true) × (sizeWellFormed size ≡ true) ⌝ }
+    requires { ⌜ (placeWellFormed place ≡ true) × (1 ≤ size) × (size < sizeLimit) ⌝ }
     ensures { λ r. ⌜ r ≡ sizeFits (placeOf place) (decodeSizes (now (s .entry))) ⌝ }
-    ensures { λ r. ⌜ now (s .exit) ≡ encodeSizes (recorded (placeOf place) (contentOf size) (decodeSizes (now (s .entry)))) ⌝ }
-    ensures { λ r. ⌜ decodeSizes (now (s .exit)) ≡ recorded (placeOf place) (contentOf size) (decodeSizes (now (s .entry))) ⌝ }
+    ensures { λ r. ⌜ now (s .exit) ≡ encodeSizes (recorded (placeOf place) size (decodeSizes (now (s .entry)))) ⌝ }
+    ensures { λ r. ⌜ decodeSizes (now (s .exit)) ≡ recorded (placeOf place) size (decodeSizes (now (s .entry))) ⌝ }
     ensures { λ r. ⌜ sizesWellFormed (now (s .exit)) ≡ true ⌝ }
 {
-    match find_near(s, counted(s), 2, content(place), noted(next) as usize) {
+    match find_near(
+        s,
+        counted(s),
+        SIZE_RECORD_WIDTH,
+        content(place),
+        noted(next) as usize,
+    ) {
         Found::At { index } => {
             next[0] = (index + 1) as u16;
-            raise_word(s, 2 * index + 2, size);
+            raise_word(s, SIZE_RECORD_WIDTH * index + 2, size_word(size));
             true
         }
         Found::Nothing => push_size(s, place, size),

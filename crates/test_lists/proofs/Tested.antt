@@ -7,9 +7,9 @@ use mathlib.Core.List.{List, [], _∷_}
 use lib.Dec.{leb, ltb}
 use lib.ListN.{length, take, drop, set, length-drop}
 use lib.Seq.{length-take-le}
-use borrow.Author.Tests.{not-true, not-false, eq-eqb, ne-eqb, lt-ltb, le-ltb, ltb-true, leb-true}
+use borrow.Author.Tests.{eqb-true, not-true, not-false, eq-eqb, lt-ltb, le-ltb, ltb-true, leb-true}
 use Rattle.word.specs.Words.{wordAt, kindOf, contentOf, bits}
-use Rattle.bindings.specs.Format.{placeWellFormed, placeOf, sizeWellFormed, entryEncodable, entryWellFormed, entryOf}
+use Rattle.bindings.specs.Format.{placeWellFormed, placeOf, sizeLimit, sizeWord, entryEncodable, entryWellFormed, entryOf, partsWellFormed, entryOfParts}
 use Rattle.bindings.specs.declared.types.ResourceBinding.{ResourceBinding}
 use Rattle.bindings.proofs.EntryFormat.{entry-encodable}
 use Rattle.varying.specs.Format.{varWellFormed, varOf, locatedEncodable, payloadOf, payloadEncodable}
@@ -43,25 +43,33 @@ group-fits p g m e h = omega arith
 pub found-none : (place : ResourceBinding) (L : Layout) (f : Found) → f ≡ findEntry place L → f ≡ Nothing → findEntry place L ≡ Nothing
 found-none place L f q e = sym q ∙ e
 
-module _ (p t s v : ℕ) (L : Layout) where
-  pub entry-fits : entryWellFormed p t s v ≡ true → bits 26 23 p < L .groups → entryFits (L .groups) (entryOf p t s v) ≡ true
-  unfolding entryOf
-  entry-fits h n =
-      both (entryEncodable (entryOf p t s v)) (ltb (bits 26 23 p) (L .groups)) (entry-encodable p t s v h) (lt-ltb (bits 26 23 p) (L .groups) n)
+-- well formed words are the parts of an entry, by the size that the third carries
+module _ (p t s v least : ℕ) (q : least ≡ contentOf s) where
+  pub least-small : least < sizeLimit
+  least-small = omega arith
 
-  pub place-new : findEntry (placeOf p) L ≡ Nothing → entryHas (entryOf p t s v .bind) (L .entries) ≡ false
-  unfolding entryOf
-  place-new h = sym (place-lacks (placeOf p) (entryPlaces (L .entries)) (findEntry (placeOf p) L) refl h)
+  module _ (h : entryWellFormed p t s v ≡ true) where
+    size-again : sizeWord least ≡ s
+    unfolding entryWellFormed
+    size-again = let k : kindOf s ≡ 6 = search (eqb-true, first, second) depth 8 in omega arith
+
+    pub parts-passed : partsWellFormed p t least v ≡ true
+    parts-passed = rw size-again h
+
+    pub entry-fits : (L : Layout) → bits 26 23 p < L .groups → entryFits (L .groups) (entryOfParts p t least v) ≡ true
+    unfolding entryOf
+    entry-fits L n =
+        rw size-again
+        (both (entryEncodable (entryOf p t s v)) (ltb (bits 26 23 p) (L .groups)) (entry-encodable p t s v h) (lt-ltb (bits 26 23 p) (L .groups) n))
+
+pub place-new : (p t least v : ℕ) (L : Layout) → findEntry (placeOf p) L ≡ Nothing → entryHas (entryOfParts p t least v .bind) (L .entries) ≡ false
+unfolding entryOf
+place-new p t least v L h = sym (place-lacks (placeOf p) (entryPlaces (L .entries)) (findEntry (placeOf p) L) refl h)
 
 -- ---- sizes
 
 pub place-passed : (place : ℕ) → placeWellFormed (0x20000000 + place % 0x800_0000) ≡ true
 place-passed place = eq-eqb (kindOf (0x20000000 + place % 0x800_0000)) 4 (omega arith)
-
-pub size-passed : (size : ℕ) → (size ≡ 0 → ⊥) → size < 0x800_0000 → sizeWellFormed (0x30000000 + size) ≡ true
-size-passed size n h =
-    let k : kindOf (0x30000000 + size) ≡ 6 = omega arith in
-    rw (k, ne-eqb (contentOf (0x30000000 + size)) 0 (λ z. n (omega arith)))
 
 -- ---- the list out
 

@@ -10,16 +10,21 @@ ghost use Rattle.places.specs.declared.found.Found.the-variants.{Nothing};
 use crate::print;
 use bindings::binding_codes::binding_code;
 use bindings::binding_codes::least_size;
-use bindings::entry_words::entry_of;
+use bindings::entry_words::binding_type_of;
 use bindings::entry_words::words_well_formed;
+use bindings::resource_words::place_of;
+use bindings::sizes::word_size;
 use bindings::types::BindGroupLayoutEntry;
-use layouts::layout::entry_word;
+use layouts::layout::entry_least;
+use layouts::layout::entry_place;
+use layouts::layout::entry_type;
+use layouts::layout::entry_visibility;
 use layouts::layout::find_entry_near;
 use layouts::layout::find_entry_word;
 use layouts::layout::group_count;
 use layouts::layout::join_visibility;
 use layouts::layout::layout_well_formed;
-use layouts::layout::push_words;
+use layouts::layout::push_entry;
 use layouts::visibility::sees;
 use places::found::Found;
 use places::heads::counted;
@@ -44,17 +49,20 @@ fn position(found: Found) {
     }
 }
 
-// The entry at a position, from its words.
+// The entry at a position, part by part.
 fn show_at(l: &[u32], index: usize)
     requires { ⌜ layoutWellFormed (now l) ≡ true ⌝ }
 {
     if counted(l) <= index {
         return print::nothing();
     }
-    let place = entry_word(l, index, 0);
-    let ty = entry_word(l, index, 1);
-    let least = entry_word(l, index, 2);
-    show(entry_of(place, ty, least, entry_word(l, index, 3)))
+    let bind = place_of(entry_place(l, index));
+    let ty = binding_type_of(entry_type(l, index), entry_least(l, index));
+    show(BindGroupLayoutEntry {
+        bind,
+        ty,
+        visibility: entry_visibility(l, index),
+    })
 }
 
 // The groups, the position of a place, sought at another first, and the entry at that one.
@@ -91,7 +99,7 @@ fn push_new(l: &mut [u32], place: u32, ty: u32, least: u32, visibility: u32)
     requires { ⌜ bits 26 23 place < decodeLayout (now l) .groups ⌝ }
     requires { ⌜ findEntry (placeOf place) (decodeLayout (now l)) ≡ Nothing ⌝ }
 {
-    print::yes_no(push_words(l, place, ty, least, visibility))
+    print::yes_no(push_entry(l, place, ty, word_size(least), visibility))
 }
 
 // The same where no entry has its place.

@@ -1,6 +1,6 @@
 // What is asked of size lists.
 use crate::print;
-use sizes::sizes::record_words;
+use sizes::sizes::record_size;
 use sizes::sizes::sizes_well_formed;
 
 // A size recorded at a place, where it is one, with a position noted; then whether there was room.
@@ -16,10 +16,5 @@ pub(crate) fn record(l: &mut [u32], place: u32, size: u32, near: u32) {
     }
     let mut next: [u16; 1] = [0; 1];
     next[0] = (near % 0x1_0000) as u16;
-    print::yes_no(record_words(
-        l,
-        0x2000_0000 + place % 0x800_0000,
-        0x3000_0000 + size,
-        &mut next,
-    ))
+    print::yes_no(record_size(l, 0x2000_0000 + place % 0x800_0000, size as u64, &mut next))
 }

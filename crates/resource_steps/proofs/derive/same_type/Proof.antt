@@ -7,7 +7,7 @@ pub same-type-spec : {M : Type 1} → statement M
 same-type-spec =
     tie.close
     (tie.spec
-    (λ c κs. search needs)  -- entry-word-requires
+    (λ c κs. search needs)  -- entry-type-requires
     (λ c. search type-differs)  -- returns
     (λ c κs. search needs)  -- entry-least-requires
     (λ c. search type-by-least))  -- returns-2

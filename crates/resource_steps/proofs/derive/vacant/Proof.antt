@@ -11,9 +11,8 @@ vacant-spec =
     (λ c κs. search needs)  -- stage-bit-requires
     (λ c. search needs)  -- add-visibility
     (λ c κs. search needs)  -- content-requires
-    (λ c. search needs)  -- add-push-words
-    (λ c κs. search new-small)  -- size-word-requires
-    (λ c κs. (search needs, (search new-well-formed, (search new-fits, search new-lacks))))  -- push-words-requires
+    (λ c. search needs)  -- add-push-entry
+    (λ c κs. (search needs, ((search new-small, search new-well-formed), (search new-fits, search new-lacks))))  -- push-entry-requires
     (λ c κs. search needs)  -- accepted-requires
     (λ c. search needs)  -- same-length
     (λ c. (search vacant-pushed, search needs))  -- returns

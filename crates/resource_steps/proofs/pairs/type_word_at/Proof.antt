@@ -10,7 +10,7 @@ type-word-at-spec =
     (tie.spec
     (λ c κs. search needs)  -- find-entry-near-requires
     (λ c. search needs)  -- enum-known-index
-    (λ c κs. (search needs, (search found-inside, search needs)))  -- entry-word-requires
+    (λ c κs. (search needs, search found-inside))  -- entry-type-requires
     (λ c. search needs)  -- enum-told
     (λ c. search type-found)  -- returns
     (λ c. search type-none))  -- returns-2

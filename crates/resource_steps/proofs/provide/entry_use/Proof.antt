@@ -7,12 +7,11 @@ pub entry-use-spec : {M : Type 1} → statement M
 entry-use-spec =
     tie.close
     (tie.spec
-    (λ c κs. search needs)  -- entry-word-requires
-    (λ c κs. search needs)  -- content-requires
+    (λ c κs. search needs)  -- entry-visibility-requires
     (λ c κs. search needs)  -- stage-code-requires
     (λ c κs. search needs)  -- sees-requires
     (λ c. search entry-unseen)  -- returns
-    (λ c κs. search needs)  -- entry-word-requires-2
+    (λ c κs. search needs)  -- entry-type-requires
     (λ c κs. search needs)  -- entry-least-requires
     (λ c κs. search needs)  -- words-use-requires
     (λ c. search entry-seen))  -- returns-2

@@ -18,7 +18,7 @@ provide-step-spec =
     (λ c. search type-inside)  -- shared-slice-read-w
     (λ c. search needs)  -- add-size-at
     (λ c κs. search size-inside)  -- size-at-requires
-    (λ c κs. (search needs, search encodable-there))  -- record-size-requires
+    (λ c κs. (search needs, search encodable-there))  -- record-buffer-requires
     (λ c. search needs)  -- same-length
     (λ c. (search provide-ended, search needs))  -- returns
     (λ c κs. search needs)  -- provided-use-requires

@@ -14,6 +14,7 @@ push-size-spec =
     (λ c. search needs)  -- same-length
     (λ c. (search push-lacks, search push-refused))  -- returns
     (λ c. search needs)  -- slice-read-head
+    (λ c κs. search needs)  -- size-word-requires
     (λ c κs. search needs)  -- store-two-requires
     (λ c. search head-more)  -- add-s
     (λ c. search needs)  -- slice-write-s

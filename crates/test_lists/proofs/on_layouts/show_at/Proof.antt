@@ -11,10 +11,11 @@ show-at-spec =
     (λ c κs. search head-there)  -- counted-requires
     (λ c κs. search needs)  -- nothing-requires
     (λ c. search needs)  -- returns
-    (λ c κs. (search needs, (search entry-there, search needs)))  -- entry-word-requires
-    (λ c κs. (search needs, (search entry-there, search needs)))  -- entry-word-requires-2
-    (λ c κs. (search needs, (search entry-there, search needs)))  -- entry-word-requires-3
-    (λ c κs. (search needs, (search entry-there, search needs)))  -- entry-word-requires-4
-    (λ c κs. search needs)  -- entry-of-requires
+    (λ c κs. (search needs, search entry-there))  -- entry-place-requires
+    (λ c κs. search needs)  -- place-of-requires
+    (λ c κs. (search needs, search entry-there))  -- entry-type-requires
+    (λ c κs. (search needs, search entry-there))  -- entry-least-requires
+    (λ c κs. search needs)  -- binding-type-of-requires
+    (λ c κs. (search needs, search entry-there))  -- entry-visibility-requires
     (λ c κs. search needs)  -- show-requires
     (λ c. search needs))  -- returns-2

@@ -1,4 +1,4 @@
-use Rattle.test_lists.proofs.Tested.{place-passed, size-passed}
+use Rattle.test_lists.proofs.Tested.{place-passed}
 use Rattle.word.proofs.Truth.{told-true}
 use borrow.Author.Needs.{needs}
 use Rattle.test_lists.proofs.on_sizes.record.Statement.{statement}
@@ -20,9 +20,8 @@ record-spec =
     (λ c. search needs)  -- returns-3
     (λ c. search needs)  -- cast-next
     (λ c. search needs)  -- array-write-next
-    (λ c. search needs)  -- add-record-words
-    (λ c. search needs)  -- add-record-words-2
-    (λ c κs. (search told-true, (search place-passed, search size-passed)))  -- record-words-requires
+    (λ c. search needs)  -- add-record-size
+    (λ c κs. (search told-true, (search place-passed, search needs, search needs)))  -- record-size-requires
     (λ c κs. search needs)  -- yes-no-requires
     (λ c. search needs)  -- same-length-4
     (λ c. search needs))  -- returns-4

@@ -1,11 +1,11 @@
 use Rattle.places.proofs.PlaceWays.{content-tells}
 use Rattle.sizes.proofs.SizeStores.{head-there, records-within, sizes-differ, index-inside, index-scaled, index-placed, index-next, size-lacks, size-fits, size-raised, record-decoded, record-well-formed, raised-well-formed}
 use borrow.Author.Needs.{needs}
-use Rattle.sizes.proofs.sizes.record_words.Statement.{statement}
-use Rattle.sizes.proofs.sizes.record_words.Tie as tie
+use Rattle.sizes.proofs.sizes.record_size.Statement.{statement}
+use Rattle.sizes.proofs.sizes.record_size.Tie as tie
 
-pub record-words-spec : {M : Type 1} → statement M
-record-words-spec =
+pub record-size-spec : {M : Type 1} → statement M
+record-size-spec =
     tie.close
     (tie.spec
     (λ c κs. search head-there)  -- counted-requires
@@ -19,6 +19,7 @@ record-words-spec =
     (λ c. search needs)  -- element-write-next
     (λ c. search index-scaled)  -- mul-raise-word
     (λ c. search index-placed)  -- add-raise-word
+    (λ c κs. search needs)  -- size-word-requires
     (λ c κs. search index-inside)  -- raise-word-requires
     (λ c. search needs)  -- enum-told
     (λ c κs. (search needs, (search needs, search (size-lacks, content-tells))))  -- push-size-requires

@@ -1,10 +1,10 @@
 use Rattle.layouts.proofs.LayoutStores.{head-there, entry-stored, room-lacking, room-there, words-kept, head-more, push-stored, push-decoded, push-well-formed}
 use borrow.Author.Needs.{needs}
-use Rattle.layouts.proofs.layout.push_words.Statement.{statement}
-use Rattle.layouts.proofs.layout.push_words.Tie as tie
+use Rattle.layouts.proofs.layout.push_entry.Statement.{statement}
+use Rattle.layouts.proofs.layout.push_entry.Tie as tie
 
-pub push-words-spec : {M : Type 1} → statement M
-push-words-spec =
+pub push-entry-spec : {M : Type 1} → statement M
+push-entry-spec =
     tie.close
     (tie.spec
     (λ c κs. search head-there)  -- counted-requires
@@ -14,6 +14,7 @@ push-words-spec =
     (λ c. search needs)  -- same-length
     (λ c. (search room-lacking, (search words-kept, (search needs, search needs))))  -- returns
     (λ c. search needs)  -- slice-read-head
+    (λ c κs. search needs)  -- size-word-requires
     (λ c κs. search needs)  -- store-four-requires
     (λ c. search head-more)  -- add-l
     (λ c. search needs)  -- slice-write-l
