@@ -12,7 +12,7 @@ use Rattle.word.specs.Words.{kindOf, contentOf, bits, bit, ofKind}
 use Rattle.bindings.specs.Rules.{viewCode}
 use Rattle.bindings.specs.Format.{flag, bitSet, typeCode, isBufferWord, viewAt, sampleAt, sampleCode, accessAt, accessCode, samplerAt, samplerCode, bufferAt, bufferCode}
 use Rattle.bindings.specs.Format.{bindingTypeWellFormed, bindingTypeOf, bindingCode, leastSize, formatEncodable, placeWellFormed, placeOf, placeWord, placeEncodable}
-use Rattle.bindings.specs.Format.{entryWellFormed, entryOf, entryWords, entryEncodable}
+use Rattle.bindings.specs.Format.{entryWellFormed, entryOf, entryWords, entryEncodable, sizeLimit}
 use Rattle.bindings.specs.declared.types.ResourceBinding.{ResourceBinding}
 use Rattle.bindings.specs.declared.types.BufferBindingType.the-variants as Buf
 use Rattle.bindings.specs.declared.types.SamplerBindingType.the-variants as Samp
@@ -25,7 +25,6 @@ use Rattle.bindings.specs.declared.types.StorageTextureAccess.the-varian
 use Rattle.bindings.specs.declared.types.BindingType.{BindingType}
 use Rattle.bindings.specs.declared.types.BindingType.the-variants as Bind
 use Rattle.bindings.specs.declared.types.BindGroupLayoutEntry.{BindGroupLayoutEntry}
-use Rattle.bindings.specs.Format.{sizeLimit}
 use Rattle.word.proofs.Truth.{first, second, or-right, by-test, never, codes-back}
 use Rattle.bindings.proofs.CodeLaws.{flag-most, sample-most, view-most, access-most, buffer-most, code-fits, least-fits}
 use Rattle.bindings.proofs.ReadLaws.{place-encodable}

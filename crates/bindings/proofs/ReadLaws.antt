@@ -10,12 +10,11 @@ use Rattle.word.specs.Words.{wordAt, kindOf, contentOf, bits, bit}
 use Rattle.word.specs.Parse.{fault, got}
 use Rattle.bindings.specs.Rules.{storable}
 use Rattle.bindings.specs.Format.{placeWellFormed, placeOf, placeEncodable, typeCode, bitSet, sampleKindAt, texture, spaceAt, spaceEncodable, bufferWellFormed, storageWellFormed, resourceTypeWellFormed, resourceWordWellFormed}
-use Rattle.bindings.specs.Format.{sizeWellFormed, isBufferWord, resource, resourceTypeOf, readResource, resourceAt, typeEncodable, resourceEncodable}
+use Rattle.bindings.specs.Format.{sizeWellFormed, isBufferWord, resource, resourceTypeOf, readResource, resourceAt, typeEncodable, resourceEncodable, sizeLimit}
 use Rattle.bindings.specs.declared.types.ImageClass.the-variants as Class
 use Rattle.bindings.specs.declared.types.ResourceType.{ResourceType}
 use Rattle.bindings.specs.declared.types.ResourceType.the-variants as Res
 use Rattle.bindings.specs.declared.types.Resource.{Resource}
-use Rattle.bindings.specs.Format.{sizeLimit}
 use Rattle.word.proofs.Truth.{first, second, by-test, never}
 
 -- a fault is no resource

@@ -9,16 +9,17 @@ use lib.ListN.{length, drop}
 use lib.Seq.{drop-drop}
 use borrow.Author.Tests.{not-false, leb-true}
 use Rattle.word.specs.Words.{wordAt, kindOf, bits}
-use Rattle.bindings.specs.Format.{entryWellFormedAt, entryAt, entryOf}
+use Rattle.bindings.specs.Format.{entryWellFormed, entryWellFormedAt, entryAt, entryOf}
 use Rattle.bindings.specs.declared.types.ResourceBinding.{ResourceBinding}
 use Rattle.bindings.specs.declared.types.BindGroupLayoutEntry.{BindGroupLayoutEntry}
-use Rattle.word.proofs.Truth.{second}
+use Rattle.word.proofs.Truth.{first, second}
+use Rattle.places.specs.inner.Begins.{placeFirst}
 use Rattle.places.specs.Places.{placeFrom, distinctPlaces, foundBelow, places}
 use Rattle.layouts.specs.Meaning.{distinctEntries, entryPlaces, findEntry, entryNth, emptyEntry}
 use Rattle.places.specs.Records.{each, countOf}
 use Rattle.layouts.specs.Format.{groupsOf, readEntry, entryGood, readEntries, layoutHead, layoutWellFormed, decodeLayout}
 use Rattle.places.specs.declared.found.Found.{Found}
-use Rattle.places.proofs.Records.{read-length, read-mapped, nth-record}
+use Rattle.places.proofs.Records.{each-weaker, read-length, read-mapped, nth-record}
 use Rattle.layouts.proofs.LayoutLists.{well-formed}
 use Rattle.layouts.proofs.LayoutLaws.{nth-getD}
 use Rattle.places.proofs.Words.{here, there}
@@ -62,6 +63,12 @@ pub entry-found : (l : List ℕ) (n : ℕ) (place : ResourceBinding) (r : Found)
     → r ≡ findEntry place (decodeLayout l)
 unfolding decodeLayout
 entry-found l n place r e h = rw (← e, entry-places n (drop 1 l)) h
+
+-- entries begin with a place's word
+pub entries-begin : (l : List ℕ) (n : ℕ) → layoutWellFormed l ≡ true → n ≡ countOf l → each 4 placeFirst n (drop 1 l) ≡ true
+unfolding entryWellFormed
+entries-begin l n f e =
+    rw e (each-weaker 4 (entryGood (groupsOf l)) placeFirst (λ ws t. first (placeFirst ws) _ (first (entryWellFormedAt ws 0) _ t)) (countOf l) (drop 1 l) (well-formed l f .good))
 
 -- no two entries have one place
 pub entries-differ : (l : List ℕ) (n : ℕ) → layoutWellFormed l ≡ true → n ≡ countOf l → distinctPlaces (places 4 n (drop 1 l)) ≡ true

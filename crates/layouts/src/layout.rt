@@ -18,7 +18,7 @@ use places::found::Found;
 use places::heads::counted;
 use places::places::distinct_places;
 use places::places::find_near;
-use places::places::find_within;
+use places::places::find_word;
 use places::stores::store_four;
 use word::content;
 use word::word;
@@ -100,7 +100,7 @@ pub fn find_entry_word(l: &[u32], place: u32) -> Found
     ensures { λ r. ⌜ r ≡ findEntry (placeOf place) (decodeLayout (now (l .entry))) ⌝ }
     ensures { λ r. ⌜ foundBelow (length (decodeLayout (now (l .entry)) .entries)) r ≡ true ⌝ }
 {
-    find_within(l, 1, counted(l), ENTRY_WIDTH, content(place))
+    find_word(l, counted(l), ENTRY_WIDTH, 0x2000_0000 + content(place))
 }
 
 // The same where a position is likely to have the entry: that one is tried first.

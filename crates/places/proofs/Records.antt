@@ -88,6 +88,14 @@ module _ (width : ℕ) (test : List ℕ → Bool) where
       rw (← e, ← drop-drop (width * i) width ws)
       (each-nth n i (drop width ws) (rest-passes (test ws) (each width test n (drop width ws)) t) (omega arith))
 
+  pub each-weaker : (other : List ℕ → Bool) → ((ws : List ℕ) → test ws ≡ true → other ws ≡ true) → (n : ℕ) (ws : List ℕ) → each width test n ws ≡ true
+      → each width other n ws ≡ true
+  unfolding each
+  each-weaker other w zero ws t = refl
+  each-weaker other w (suc n) ws t =
+      rw (w ws (first-passes (test ws) (each width test n (drop width ws)) t))
+      (each-weaker other w n (drop width ws) (rest-passes (test ws) (each width test n (drop width ws)) t))
+
   pub each-none : (k : ℕ) (ws : List ℕ) → k ≡ 0 → each width test k ws ≡ true
   unfolding each
   each-none k ws h = rw h

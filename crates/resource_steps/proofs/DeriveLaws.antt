@@ -13,7 +13,7 @@ use Rattle.word.specs.Answers.{accepted}
 use Rattle.word.specs.declared.answer.Answer.{Answer}
 use Rattle.bindings.specs.Rules.{derivedTexture, deriveBindingType}
 use Rattle.bindings.specs.Format.{placeOf, placeWord, typeCode, isBufferWord, resourceTypeOf, resource, typeEncodable}
-use Rattle.bindings.specs.Format.{bindingTypeOf, bindingCode, leastSize, sameBinding, formatEncodable, partsWellFormed, entryOfParts, entryEncodable}
+use Rattle.bindings.specs.Format.{bindingTypeOf, bindingCode, leastSize, sameBinding, formatEncodable, partsWellFormed, entryOfParts, entryEncodable, sizeLimit, sizeStanding}
 use Rattle.bindings.specs.Answers.{bindingAnswer, derivedWord}
 use Rattle.bindings.specs.declared.types.ResourceBinding.{ResourceBinding}
 use Rattle.bindings.specs.declared.types.Resource.{Resource}
@@ -39,7 +39,6 @@ use Rattle.resource_steps.specs.inner.Given.{resourceTable, TypeWords}
 use Rattle.resource_steps.specs.Resources.{resourceNth, layoutAfter, occupied, vacant, placeStep, deriveStep, namedTexture, DeriveResult, deriveResult, deriveSteps}
 use Rattle.resource_steps.proofs.ResourceParts.{pairs-cons, pairs-none, nth-at}
 use Rattle.resource_steps.proofs.ResourceWalk.{index-next, index-none, one-more}
-use Rattle.bindings.specs.Format.{sizeLimit, sizeStanding}
 
 -- ---- a type at its place
 

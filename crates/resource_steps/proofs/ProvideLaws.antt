@@ -29,8 +29,7 @@ use Rattle.resource_steps.specs.inner.Given.{resourceTable}
 use Rattle.resource_steps.specs.Resources.{resourceNth, sizesAfter, recordSize, entryUse, providedUse, provideStep, ProvideResult, provideResult, provideSteps}
 use Rattle.resource_steps.proofs.ResourceParts.{nth-at}
 use Rattle.resource_steps.proofs.ResourceWalk.{index-next, index-none, one-more}
-use Rattle.bindings.specs.Format.{sizeLimit, sizeStanding, resource}
-use Rattle.bindings.specs.Format.{leastSize}
+use Rattle.bindings.specs.Format.{sizeLimit, sizeStanding, resource, leastSize}
 
 -- ---- the entry of a resource
 

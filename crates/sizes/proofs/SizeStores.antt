@@ -21,11 +21,16 @@ use Rattle.sizes.specs.declared.size_record.SizeRecord.{SizeRecord}
 use Rattle.places.specs.declared.found.Found.{Found}
 use Rattle.places.specs.declared.found.Found.the-variants.{At, Nothing}
 use Rattle.places.proofs.Words.{there}
-use Rattle.places.proofs.Records.{read-length, room-lacks, room-fits, nth-record, each-nth, put-more, count-more, set-read}
+use Rattle.places.specs.inner.Begins.{placeFirst}
+use Rattle.places.proofs.Records.{each-weaker, read-length, room-lacks, room-fits, nth-record, each-nth, put-more, count-more, set-read}
 use Rattle.places.proofs.PlaceWays.{place-found, place-lacks, found-inside}
 use Rattle.sizes.proofs.SizeLists.{size-form, WellFormed, well-formed, encode-decode, decode-encode, well-formed-encode, good-decode}
 use Rattle.sizes.proofs.SizeLaws.{raised, noRecord, raised-set, length-raised, good-recorded}
 use Rattle.sizes.proofs.SizeWays.{size-places}
+
+-- records begin with a place's word
+pub sizes-begin : (s : List ℕ) (n : ℕ) → sizesWellFormed s ≡ true → n ≡ countOf s → each 2 placeFirst n (drop 1 s) ≡ true
+sizes-begin s n f e = rw e (each-weaker 2 sizeGood placeFirst (λ ws t. first (placeFirst ws) _ t) (countOf s) (drop 1 s) (well-formed s f .good))
 
 -- no two records have one place
 pub sizes-differ : (s : List ℕ) (n : ℕ) → sizesWellFormed s ≡ true → n ≡ countOf s → distinctPlaces (places 2 n (drop 1 s)) ≡ true

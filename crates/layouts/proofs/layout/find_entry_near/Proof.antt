@@ -1,5 +1,5 @@
 use Rattle.places.proofs.PlaceWays.{content-tells}
-use Rattle.layouts.proofs.LayoutWays.{entry-found, entries-differ, entry-below}
+use Rattle.layouts.proofs.LayoutWays.{entry-found, entries-begin, entries-differ, entry-below}
 use Rattle.layouts.proofs.LayoutStores.{head-there, entries-within}
 use borrow.Author.Needs.{needs}
 use Rattle.layouts.proofs.layout.find_entry_near.Statement.{statement}
@@ -11,5 +11,5 @@ find-entry-near-spec =
     (tie.spec
     (λ c κs. search head-there)  -- counted-requires
     (λ c κs. search needs)  -- content-requires
-    (λ c κs. ((search needs, search needs, search needs, search entries-within, search needs), search entries-differ))  -- find-near-requires
+    (λ c κs. ((search needs, search needs, search needs, search entries-within, search needs), (search entries-begin, search entries-differ)))  -- find-near-requires
     (λ c. (search (entry-found, content-tells), search entry-below)))  -- returns

@@ -1,5 +1,5 @@
-use Rattle.places.proofs.PlaceWays.{content-tells}
-use Rattle.layouts.proofs.LayoutWays.{entry-found, entry-below}
+use Rattle.places.proofs.PlaceWays.{content-tells, content-kind, content-word}
+use Rattle.layouts.proofs.LayoutWays.{entry-found, entries-begin, entry-below}
 use Rattle.layouts.proofs.LayoutStores.{head-there, entries-within}
 use borrow.Author.Needs.{needs}
 use Rattle.layouts.proofs.layout.find_entry_word.Statement.{statement}
@@ -11,5 +11,6 @@ find-entry-word-spec =
     (tie.spec
     (λ c κs. search head-there)  -- counted-requires
     (λ c κs. search needs)  -- content-requires
-    (λ c κs. (search needs, (search needs, search entries-within, search needs)))  -- find-within-requires
-    (λ c. (search (entry-found, content-tells), search entry-below)))  -- returns
+    (λ c. search needs)  -- add-find-word
+    (λ c κs. ((search needs, search needs, search needs, search entries-within, search (content-kind, needs)), search entries-begin))  -- find-word-requires
+    (λ c. (search (entry-found, content-tells, content-word), search entry-below)))  -- returns

@@ -1,5 +1,5 @@
 use Rattle.places.proofs.PlaceWays.{content-tells}
-use Rattle.sizes.proofs.SizeStores.{head-there, records-within, sizes-differ, index-inside, index-scaled, index-placed, index-next, size-lacks, size-fits, size-raised, record-decoded, record-well-formed, raised-well-formed}
+use Rattle.sizes.proofs.SizeStores.{head-there, records-within, sizes-begin, sizes-differ, index-inside, index-scaled, index-placed, index-next, size-lacks, size-fits, size-raised, record-decoded, record-well-formed, raised-well-formed}
 use borrow.Author.Needs.{needs}
 use Rattle.sizes.proofs.sizes.record_size.Statement.{statement}
 use Rattle.sizes.proofs.sizes.record_size.Tie as tie
@@ -12,7 +12,7 @@ record-size-spec =
     (λ c κs. search needs)  -- content-requires
     (λ c κs. search needs)  -- noted-requires
     (λ c. search needs)  -- cast-find-near
-    (λ c κs. ((search needs, search needs, search needs, search records-within, search needs), search sizes-differ))  -- find-near-requires
+    (λ c κs. ((search needs, search needs, search needs, search records-within, search needs), (search sizes-begin, search sizes-differ)))  -- find-near-requires
     (λ c. search needs)  -- enum-known-index
     (λ c. search (index-next, needs))  -- add-next
     (λ c. search (index-next, needs))  -- cast-next
