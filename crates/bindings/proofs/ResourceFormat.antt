@@ -78,7 +78,7 @@ type-word t size h =
     let k : kindOf t ≡ 16 = search (eqb-true, first) in
     rw (code-back t size (second (eqb (kindOf t) 16) (resourceTypeWellFormed t) h)) (omega arith)
 
-size-word : (s : ℕ) → sizeWellFormed s ≡ true → ofKind 6 (contentOf s) ≡ s
+pub size-word : (s : ℕ) → sizeWellFormed s ≡ true → ofKind 6 (contentOf s) ≡ s
 size-word s h = let k : kindOf s ≡ 6 = search (eqb-true, first) in omega arith
 
 -- the words of what was read, with those behind it, are those that were there

@@ -2,8 +2,8 @@
 ghost use mathlib.Core.Path.{_≡_};
 ghost use mathlib.Core.Bool.{true, _&&_, _||_};
 ghost use lib.Dec.{eqb, ltb};
-ghost use Rattle.word.specs.Words.{kindOf, contentOf};
 ghost use Prim.Native.Nat.{_<_, _^_};
+ghost use Rattle.word.specs.Words.{kindOf, contentOf};
 ghost use Rattle.bindings.specs.Format.{placeEncodable, isBufferWord, viewAt, sampleAt, accessAt, samplerAt, bufferAt, fieldsWellFormed, bindingTypeWellFormed, bindingTypeOf, entryWellFormed, entryOf, entryWellFormedAt, entryAt};
 use crate::resource_words::place_of;
 use crate::sizes::word_size;

@@ -1,4 +1,4 @@
-// Shader resources and layout entries: what they are, when a layout entry serves a resource, and the entry a resource asks for.
+// Shader resources and layout entries: what they are, their words, and the rules for both on words.
 pub mod answers;
 pub mod binding_codes;
 pub mod entry_words;

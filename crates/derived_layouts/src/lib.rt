@@ -1,1 +1,1 @@
-// What derived stage checks record is handed back: the theorem stands in proofs/Theorem.antt, and its words in specs/Theorem.antt.
+// What derived stage checks record serves them again where it is provided: the theorem stands in proofs/Theorem.antt, its words in specs/Theorem.antt.

@@ -7,7 +7,8 @@ use mathlib.Core.List.{List, [], _∷_}
 use lib.ListN.{length, drop}
 use lib.Seq.{drop-drop}
 use Rattle.word.specs.Words.{wordAt}
-use Rattle.places.proofs.Words.{here, there}
+use Rattle.places.proofs.Words.{there}
+use Rattle.word.proofs.Parse.{first-of}
 use Rattle.interface.specs.inner.Reads.{varying, varyingWidth, varyings}
 use Rattle.interface.specs.inner.Parts.{varyingsEnd}
 use Rattle.interface.proofs.ReadsParts.{varyings-past, varying-there, varyings-left as ends-left}
@@ -39,4 +40,4 @@ module _ (ws : List ℕ) (n at : ℕ) (i : Ahead ws n at) (h : n ≡ 0 → ⊥) 
   ahead-onward on x = rw x (ahead ws (n - 1) (at + varyingWidth (drop at ws)) (ends-left ws n at (i .ends) h (varyingWidth (drop at ws)) refl))
 
 pub varying-words : (ws : List ℕ) (at x y : ℕ) → x ≡ wordAt ws at → y ≡ wordAt ws (at + 1) → varying (x ∷ y ∷ []) ≡ varying (drop at ws)
-varying-words ws at x y e f = rw (here ws at, there ws at 1, ← e, ← f)
+varying-words ws at x y e f = rw (first-of ws at, there ws at 1, ← e, ← f)

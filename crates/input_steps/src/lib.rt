@@ -1,4 +1,4 @@
-// input_steps
+// The workgroup size and the inputs of an entry point.
 pub mod inputs;
 pub mod types;
 pub mod workgroup;

@@ -1,4 +1,4 @@
-// A module pack: its limits, resources and entry points, and the choice of an entry point.
+// A module pack: its limits, resources and entry points, and what stands where in its words.
 pub mod parts;
 pub mod reads;
 pub mod types;

@@ -16,7 +16,8 @@ use Rattle.layouts.specs.Meaning.{entryHas, entryNth, emptyEntry, pushed
 use Rattle.places.specs.Records.{roomFor, put, past, each, countOf}
 use Rattle.word.specs.Lists.{flat}
 use Rattle.layouts.specs.Format.{groupsOf, readEntry, readEntries, entryGood, entryFits, layoutWellFormed, decodeLayout, encodeLayout, layoutGood}
-use Rattle.places.proofs.Words.{here, there}
+use Rattle.places.proofs.Words.{there}
+use Rattle.word.proofs.Parse.{first-of}
 use Rattle.places.proofs.Records.{read-length, room-lacks, room-fits, each-nth, put-more, count-more, set-read}
 use Rattle.layouts.proofs.LayoutLists.{entry-form, WellFormed, well-formed, encode-decode, decode-encode, well-formed-encode, good-decode}
 use Rattle.layouts.proofs.LayoutLaws.{nth-getD, joined-set, length-join, good-pushed, good-joined}
@@ -94,7 +95,7 @@ module _ (l : List ℕ) (i : ℕ) (h : i < length (decodeLayout l .entries)) whe
   entry-well-formed-there f =
       let t : entryGood (groupsOf l) (drop (4 * i) (drop 1 l)) ≡ true = each-nth 4 (entryGood (groupsOf l)) (countOf l) i (drop 1 l) (well-formed l f .good) (rw entries-counted at h) in
       let q : entryWellFormedAt (drop (4 * i) (drop 1 l)) 0 ≡ true = search first in
-      rw (drop-drop (4 * i) 1 l, here l (1 + 4 * i), there l (1 + 4 * i) 1, there l (1 + 4 * i) 2, there l (1 + 4 * i) 3) at q
+      rw (drop-drop (4 * i) 1 l, first-of l (1 + 4 * i), there l (1 + 4 * i) 1, there l (1 + 4 * i) 2, there l (1 + 4 * i) 3) at q
 
 module _ (l : List ℕ) (i : ℕ) (f : layoutWellFormed l ≡ true) (h : i < length (decodeLayout l .entries)) where
   abbrev entry : BindGroupLayoutEntry

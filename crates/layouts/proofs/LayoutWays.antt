@@ -1,12 +1,12 @@
 -- The code's ways through a layout list.
-use Prim.Native.Nat.{ℕ, _+_, _*_, _<_, _≤_}
+use Prim.Native.Nat.{ℕ, _+_, _*_, _%_, _<_, _≤_}
 use native.Mathlib.Omega.{arith}
 use mathlib.Core.Path.{_≡_, sym, _∙_}
 use mathlib.Core.Bool.{Bool, true, false, not, _&&_}
 use mathlib.Core.List.{List}
 use lib.Dec.{eqb, leb, ltb}
-use lib.ListN.{length, drop}
-use lib.Seq.{drop-drop}
+use lib.ListN.{length, drop, take}
+use lib.Seq.{drop-drop, take-all, take-length}
 use borrow.Author.Tests.{not-false, leb-true}
 use Rattle.word.specs.Words.{wordAt, kindOf, bits}
 use Rattle.bindings.specs.Format.{entryWellFormed, entryWellFormedAt, entryAt, entryOf}
@@ -17,12 +17,13 @@ use Rattle.places.specs.inner.Begins.{placeFirst}
 use Rattle.places.specs.Places.{placeFrom, distinctPlaces, foundBelow, places}
 use Rattle.layouts.specs.Meaning.{distinctEntries, entryPlaces, findEntry, entryNth, emptyEntry}
 use Rattle.places.specs.Records.{each, countOf}
-use Rattle.layouts.specs.Format.{groupsOf, readEntry, entryGood, readEntries, layoutHead, layoutWellFormed, decodeLayout}
+use Rattle.layouts.specs.Format.{groupsOf, readEntry, entryGood, readEntries, layoutHead, layoutWellFormed, decodeLayout, usedWords}
 use Rattle.places.specs.declared.found.Found.{Found}
 use Rattle.places.proofs.Records.{each-weaker, read-length, read-mapped, nth-record}
 use Rattle.layouts.proofs.LayoutLists.{well-formed}
 use Rattle.layouts.proofs.LayoutLaws.{nth-getD}
-use Rattle.places.proofs.Words.{here, there}
+use Rattle.places.proofs.Words.{there}
+use Rattle.word.proofs.Parse.{first-of}
 
 pub head-word : (ws : List ℕ) (w : ℕ) (r : Bool) → w ≡ wordAt ws 0
     → r ≡ (eqb (kindOf w) 17 && (leb (bits 26 16 w) 8 && leb (1 + 4 * bits 15 0 w) (length ws))) → r ≡ layoutHead ws
@@ -37,13 +38,13 @@ head-holds ws b e h = let t = sym e ∙ not-false b h in search (leb-true, secon
 
 module _ (l : List ℕ) (at groups : ℕ) (b : Bool) (e : b ≡ entryWellFormedAt l at) where
   well-formed-there : entryWellFormedAt (drop at l) 0 ≡ b
-  well-formed-there = rw (here l at, there l at 1, there l at 2, there l at 3) (sym e)
+  well-formed-there = rw (first-of l at, there l at 1, there l at 2, there l at 3) (sym e)
 
   pub entry-not : b ≡ false → false ≡ entryGood groups (drop at l)
   entry-not h = rw (well-formed-there, h)
 
   pub entry-is : b ≡ true → ltb (bits 26 23 (wordAt l at)) groups ≡ entryGood groups (drop at l)
-  entry-is h = rw (well-formed-there, h, here l at)
+  entry-is h = rw (well-formed-there, h, first-of l at)
 
 pub good-begins : (ws : List ℕ) (n : ℕ) (l : List ℕ) → n ≡ countOf ws
     → each 4 (entryGood (groupsOf ws)) (countOf ws) l ≡ each 4 (entryGood (bits 26 16 (wordAt ws 0))) n l
@@ -97,8 +98,19 @@ module _ (l : List ℕ) (i n : ℕ) (e : n ≡ countOf l) where
       rw (
         nth-read (countOf l) i (drop 1 l) (omega arith),
         drop-drop (4 * i) 1 l,
-        here l (1 + 4 * i),
+        first-of l (1 + 4 * i),
         there l (1 + 4 * i) 1,
         there l (1 + 4 * i) 2,
         there l (1 + 4 * i) 3,
       ) f
+
+-- ---- the words in use
+
+module _ (l : List ℕ) (w n : ℕ) (e : w ≡ wordAt l 0) (f : n ≡ 1 + 4 * (w % 65536)) where
+  pub used-all : length l < n → take (length l) l ≡ usedWords l
+  unfolding countOf
+  used-all h = take-length l ∙ sym (take-all (1 + 4 * (wordAt l 0 % 65536)) l (omega arith))
+
+  pub used-some : take n l ≡ usedWords l
+  unfolding countOf
+  used-some = rw (f, e)

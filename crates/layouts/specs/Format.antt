@@ -3,7 +3,7 @@ use Prim.Native.Nat.{ℕ, _+_, _^_, _*_}
 use mathlib.Core.Bool.{Bool, _&&_}
 use mathlib.Core.List.{List, _∷_, _++_}
 use lib.Dec.{eqb, leb, ltb}
-use lib.ListN.{length, drop}
+use lib.ListN.{length, drop, take}
 use Rattle.bindings.specs.declared.types.BindGroupLayoutEntry.{BindGroupLayoutEntry}
 use Rattle.word.specs.Words.{wordAt, kindOf, bits, ofKind}
 use Rattle.bindings.specs.Format.{entryWellFormedAt, entryAt, entryWords, entryEncodable, entryWidth}
@@ -56,3 +56,7 @@ unfoldable pub layoutGood : Layout → Bool
 layoutGood L =
     leb (1 + entryWidth * length (L .entries) + length (L .room)) mostListWords
     && (leb (L .groups) 8 && (every (entryFits (L .groups)) (L .entries) && distinctEntries (L .entries)))
+
+-- the words that are in use: the head and the entries
+abbrev pub usedWords : List ℕ → List ℕ
+usedWords ws = take (1 + entryWidth * countOf ws) ws

@@ -2,14 +2,14 @@
 ghost use mathlib.Core.Path.{_≡_};
 ghost use mathlib.Core.Bool.{true, false};
 ghost use Prim.Native.Nat.{_+_, _*_, _<_, _≤_};
-ghost use lib.ListN.{length, drop};
+ghost use lib.ListN.{length, drop, take};
 ghost use Rattle.word.specs.Choice.{pick};
 ghost use Rattle.word.specs.Words.{wordAt, ofKind};
 ghost use Rattle.bindings.specs.Format.{placeOf, sizeLimit, bindingTypeOf, bindingCode, leastSize, entryWidth, partsWellFormed, entryOfParts};
 ghost use Rattle.layouts.specs.Meaning.{findEntry, entryHas, entryNth, roomForEntry, pushed, joined};
 ghost use Rattle.places.specs.Places.{foundBelow};
 ghost use Rattle.places.specs.Records.{countOf, each};
-ghost use Rattle.layouts.specs.Format.{groupsOf, entryGood, entryFits, layoutHead, layoutWellFormed, decodeLayout, encodeLayout};
+ghost use Rattle.layouts.specs.Format.{groupsOf, entryGood, entryFits, layoutHead, layoutWellFormed, decodeLayout, encodeLayout, usedWords};
 use crate::visibility::join_bit;
 use bindings::entry_words::words_well_formed;
 use bindings::sizes::size_at;
@@ -21,6 +21,7 @@ use places::places::find_near;
 use places::places::find_word;
 use places::stores::store_four;
 use word::content;
+use word::index;
 use word::word;
 
 // How many words an entry has.
@@ -92,6 +93,18 @@ pub fn group_count(l: &[u32]) -> u32
     ensures { λ r. ⌜ r ≡ decodeLayout (now (l .entry)) .groups ⌝ }
 {
     word(l, 0) / 0x1_0000 % 0x800
+}
+
+// How many words are in use, as far as there are any.
+pub fn used_words(l: &[u32]) -> usize
+    ensures { λ r. ⌜ take r (now (l .entry)) ≡ usedWords (now (l .entry)) ⌝ }
+    ensures { λ r. ⌜ (r ≤ length (now (l .entry))) × (r ≡ length (take r (now (l .entry)))) ⌝ }
+{
+    let n = 1 + ENTRY_WIDTH * (index(l, 0) % 0x1_0000);
+    if l.len() < n {
+        return l.len();
+    }
+    n
 }
 
 // The position of the entry at the place that a word tells.

@@ -1,3 +1,3 @@
-// layouts
+// Layout lists: whether words are one, look-ups, new entries, and stages joined.
 pub mod layout;
 pub mod visibility;

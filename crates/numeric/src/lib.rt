@@ -1,3 +1,3 @@
-// Numeric types of shader variables: vertex and texture formats, type words, and when one type is below another.
+// Numeric types of shader variables: their words, and when one type is below another.
 pub mod type_words;
 pub mod types;

@@ -14,7 +14,7 @@ use Rattle.word.proofs.Truth.{by-test}
 use Rattle.word.specs.Answers.{answer, accepted, refused, both}
 use Rattle.word.specs.declared.answer.Answer.{Answer}
 use Rattle.varying.specs.Format.{locationWellFormed}
-use Rattle.places.proofs.Words.{here}
+use Rattle.word.proofs.Parse.{first-of}
 use Rattle.interface.specs.Meaning.{EntryPoint}
 use Rattle.interface.specs.Format.{local, builtInOf}
 use Rattle.interface.specs.inner.Reads.{varying, varyingWidth, varyings, standing}
@@ -151,7 +151,7 @@ module _ (ws : List ℕ) (at w : ℕ) (ew : w ≡ wordAt ws at) where
 
   first-summary : summaryOf (varying (w ∷ []) ∷ []) ≡ summaryOf (varying (drop at ws) ∷ [])
   first-summary =
-      rw (here ws at, ← ew, one-varying (varying (w ∷ [])), one-varying (pick (locationWellFormed w) (local w (wordAt (drop at ws) 1)) (Var.BuiltIn (builtInOf w))))
+      rw (first-of ws at, ← ew, one-varying (varying (w ∷ [])), one-varying (pick (locationWellFormed w) (local w (wordAt (drop at ws) 1)) (Var.BuiltIn (builtInOf w))))
       (go (locationWellFormed w))
     where
       go : (t : Bool) → partOf (pick t (local w 0) (Var.BuiltIn (builtInOf w))) ≡ partOf (pick t (local w (wordAt (drop at ws) 1)) (Var.BuiltIn (builtInOf w)))
@@ -159,7 +159,7 @@ module _ (ws : List ℕ) (at w : ℕ) (ew : w ≡ wordAt ws at) where
       go false = refl
 
   first-location : (number past limit : ℕ) → locationUse number past limit (varying (w ∷ [])) ≡ locationUse number past limit (varying (drop at ws))
-  first-location number past limit = rw (here ws at, ← ew) (go (locationWellFormed w))
+  first-location number past limit = rw (first-of ws at, ← ew) (go (locationWellFormed w))
     where
       go : (t : Bool) → locationUse number past limit (pick t (local w 0) (Var.BuiltIn (builtInOf w)))
           ≡ locationUse number past limit (pick t (local w (wordAt (drop at ws) 1)) (Var.BuiltIn (builtInOf w)))

@@ -20,7 +20,7 @@ use Rattle.bindings.specs.declared.types.ResourceBinding.{ResourceBinding}
 use Rattle.places.specs.Places.{samePlace, placeIn, distinctPlaces, readPlace, places}
 use Rattle.places.specs.Records.{countOf, records}
 use Rattle.places.specs.inner.Marks.{slot, marked, bitOf, taken}
-use Rattle.places.proofs.Words.{here}
+use Rattle.word.proofs.Parse.{first-of}
 use Rattle.places.proofs.PlaceLaws.{same-place-eq}
 use Rattle.places.proofs.PlaceWays.{content-place}
 use Rattle.places.proofs.Records.{one-less, left-cons, left-none}
@@ -160,7 +160,7 @@ module _ (width n left at : ℕ) (l : List ℕ) (fits : left ≤ n) (e : at ≡ 
       let z : n - (left - 1) ≡ 0 → ⊥ = λ q. omega arith in
       let k : n - (left - 1) - 1 ≡ n - left = omega arith in
       let a : at - width + width ≡ at = omega (arith, record-fits width at left e h) in
-      left-cons width readPlace l (n - (left - 1)) (at - width) z ∙ rw (here l (at - width), content-place (wordAt l (at - width)), k, a)
+      left-cons width readPlace l (n - (left - 1)) (at - width) z ∙ rw (first-of l (at - width), content-place (wordAt l (at - width)), k, a)
 
   all-onward : (test more : ResourceBinding → Bool) → ((q : ResourceBinding) → test q ≡ true → more q ≡ true) → more p ≡ true
       → every test (places width (n - left) (drop at l)) ≡ true → every more (places width (n - (left - 1)) (drop (at - width) l)) ≡ true

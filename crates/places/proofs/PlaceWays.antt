@@ -20,7 +20,7 @@ use Rattle.word.proofs.Lists.{first-passes, rest-passes}
 use Rattle.places.specs.Records.{each}
 use Rattle.places.specs.inner.Begins.{placeFirst}
 use Rattle.places.proofs.Records.{each-cons, one-less, read-length, nth-record, left-cons, left-none}
-use Rattle.places.proofs.Words.{here}
+use Rattle.word.proofs.Parse.{first-of}
 use Rattle.places.proofs.PlaceLaws.{same-place-eq, found-nth}
 
 -- ---- a place sought
@@ -57,14 +57,14 @@ module _ (width : ℕ) (l : List ℕ) (n left at content : ℕ) (goal : Found) (
   module _ (h : left ≡ 0 → ⊥) (encodable : content < 2 ^ 27) where
     pub content-found : wordAt l at % 0x800_0000 ≡ content → At (n - left) ≡ goal
     unfolding placeFrom
-    content-found e = sym (inv ∙ rw (left-cons width readPlace l left at h, here l at, content-same (wordAt l at) content encodable e))
+    content-found e = sym (inv ∙ rw (left-cons width readPlace l left at h, first-of l at, content-same (wordAt l at) content encodable e))
 
     pub content-onward : left ≤ n → (wordAt l at % 0x800_0000 ≡ content → ⊥)
         → goal ≡ placeFrom (placeOf content) (places width (left - 1) (drop (at + width) l)) (n - (left - 1))
     unfolding placeFrom
     content-onward m e =
         let k : n - left + 1 ≡ n - (left - 1) = omega arith in
-        inv ∙ rw (left-cons width readPlace l left at h, here l at, content-other (wordAt l at) content encodable e, k)
+        inv ∙ rw (left-cons width readPlace l left at h, first-of l at, content-other (wordAt l at) content encodable e, k)
 
   pub content-nowhere : left ≡ 0 → Nothing ≡ goal
   unfolding placeFrom
@@ -74,7 +74,7 @@ module _ (width : ℕ) (l : List ℕ) (n left at content : ℕ) (goal : Found) (
 
 module _ (width : ℕ) (l : List ℕ) (left at : ℕ) (h : left ≡ 0 → ⊥) (t : each width placeFirst left (drop at l) ≡ true) where
   first-is-place : kindOf (wordAt l at) ≡ 4
-  first-is-place = rw (here l at) at (eqb-true (kindOf (wordAt (drop at l) 0)) 4 (first-passes (placeFirst (drop at l)) (each width placeFirst (left - 1) (drop (at + width) l)) (rw (each-cons width placeFirst l left at h) at t)))
+  first-is-place = rw (first-of l at) at (eqb-true (kindOf (wordAt (drop at l) 0)) 4 (first-passes (placeFirst (drop at l)) (each width placeFirst (left - 1) (drop (at + width) l)) (rw (each-cons width placeFirst l left at h) at t)))
 
   pub places-onward : each width placeFirst (left - 1) (drop (at + width) l) ≡ true
   places-onward = rest-passes (placeFirst (drop at l)) (each width placeFirst (left - 1) (drop (at + width) l)) (rw (each-cons width placeFirst l left at h) at t)
@@ -91,14 +91,14 @@ module _ (width : ℕ) (l : List ℕ) (n left at place : ℕ) (goal : Found) (in
   module _ (h : left ≡ 0 → ⊥) where
     pub word-found : wordAt l at ≡ place → At (n - left) ≡ goal
     unfolding placeFrom
-    word-found e = sym (inv ∙ rw (left-cons width readPlace l left at h, here l at, e, same-itself (placeOf place)))
+    word-found e = sym (inv ∙ rw (left-cons width readPlace l left at h, first-of l at, e, same-itself (placeOf place)))
 
     pub word-onward : kindOf place ≡ 4 → each width placeFirst left (drop at l) ≡ true → left ≤ n → (wordAt l at ≡ place → ⊥)
         → goal ≡ placeFrom (placeOf place) (places width (left - 1) (drop (at + width) l)) (n - (left - 1))
     unfolding placeFrom
     word-onward m t b e =
         let k : n - left + 1 ≡ n - (left - 1) = omega arith in
-        inv ∙ rw (left-cons width readPlace l left at h, here l at, word-other (wordAt l at) place (first-is-place width l left at h t) m e, k)
+        inv ∙ rw (left-cons width readPlace l left at h, first-of l at, word-other (wordAt l at) place (first-is-place width l left at h t) m e, k)
 
   pub word-nowhere : left ≡ 0 → Nothing ≡ goal
   unfolding placeFrom
@@ -161,7 +161,7 @@ module _ (width n i : ℕ) (h : i < n) where
       let ps = places width n (drop 1 l) in
       let g : getD ps i (placeOf content) ≡ placeOf content
       = nth-record width readPlace n i (drop 1 l) (placeOf content) h
-      ∙ rw (drop-drop (width * i) 1 l, here l (1 + width * i)) (sym (content-place (wordAt l (1 + width * i))) ∙ ap placeOf q) in
+      ∙ rw (drop-drop (width * i) 1 l, first-of l (1 + width * i)) (sym (content-place (wordAt l (1 + width * i))) ∙ ap placeOf q) in
       let z : 0 + i ≡ i = omega arith in
       sym (rw (g, z) at (found-nth ps 0 i (placeOf content) d (omega (arith, read-length width readPlace n (drop 1 l)))))
 

@@ -9,10 +9,7 @@ use lib.ListN.{length, take, drop, set, length-append, length-drop, take-append-
 use lib.Seq.{take-append-add, getD-drop, sets-eq, take-at, drop-at, drop-drop, length-take-le}
 use Rattle.word.specs.Words.{wordAt}
 use Rattle.places.specs.Records.{put}
-
--- the words of the record at a position
-pub here : (l : List ℕ) (at : ℕ) → wordAt (drop at l) 0 ≡ wordAt l at
-here l at = getD-drop at l 0 0 ∙ rw add-zero
+use Rattle.word.proofs.Parse.{first-of}
 
 pub there : (l : List ℕ) (at k : ℕ) → wordAt (drop at l) k ≡ wordAt l (at + k)
 there l at k = getD-drop at l k 0
@@ -32,7 +29,7 @@ four (a ∷ b ∷ c ∷ d ∷ ws) h = refl
 
 -- the two words at a position, and what lies behind
 pub two-at : (l : List ℕ) (at : ℕ) → at + 2 ≤ length l → drop at l ≡ wordAt l at ∷ wordAt l (at + 1) ∷ drop (at + 2) l
-two-at l at h = two (drop at l) (omega (arith, length-drop at l)) ∙ rw (here l at, there l at 1, drop-drop 2 at l)
+two-at l at h = two (drop at l) (omega (arith, length-drop at l)) ∙ rw (first-of l at, there l at 1, drop-drop 2 at l)
 
 -- ---- words written
 

@@ -1,4 +1,4 @@
-// places
+// Records of a width in the words of a list: how many there are, and where one with a place stands.
 pub mod found;
 pub mod heads;
 pub mod places;

@@ -1,35 +1,24 @@
 -- Laws of a report's parts: the words in use, a pack's text, the whole.
-use Prim.Native.Nat.{ℕ, _+_, _*_, _%_, _<_, _≤_}
+use Prim.Native.Nat.{ℕ, _%_, _<_, _≤_}
 use native.Mathlib.Omega.{arith}
-use mathlib.Core.Path.{_≡_, sym, _∙_}
+use mathlib.Core.Path.{_≡_, sym}
 use mathlib.Core.List.{List, [], _∷_}
 use borrow.Author.Tests.{eq-eqb, ne-eqb, lt-ltb, le-ltb}
 use lib.ListN.{length, take, drop, replicate, take-append-drop}
-use lib.Seq.{take-all, take-length, length-take-le}
-use Rattle.word.specs.Words.{wordAt}
+use lib.Seq.{length-take-le}
 use Rattle.word.specs.Answers.{refused}
 use Rattle.word.specs.declared.answer.Answer.{Answer}
 use Rattle.word.specs.Lists.{flat}
 use Rattle.varying.specs.Format.{payloadWord}
-use Rattle.layouts.specs.Format.{encodeLayout}
+use Rattle.layouts.specs.Format.{encodeLayout, usedWords}
 use Rattle.stage_lists.specs.Format.{encodeStage}
-use Rattle.places.specs.Records.{countOf}
 use Rattle.interface.specs.Format.{Decoded, Damaged, Malformed, Pack, decode, decodedNumber, interfaceOf}
 use Rattle.report.specs.Text.{wordsOf, hexLines, line}
 use Rattle.report.specs.inner.Written.{Wrote}
-use Rattle.report.specs.Report.{Run, ran, runEntries, usedWords, runText, startRun, refusedPack, decodedText, report}
+use Rattle.report.specs.Report.{Run, ran, runEntries, runText, startRun, refusedPack, decodedText, report}
 use Rattle.report.proofs.Writing.{wrote-before, wrote-more, wrote-length}
 
 -- ---- the words in use
-
-module _ (l : List ℕ) (w n : ℕ) (e : w ≡ wordAt l 0) (f : n ≡ 1 + 4 * (w % 65536)) where
-  pub used-all : length l < n → take (length l) l ≡ usedWords l
-  unfolding countOf
-  used-all h = take-length l ∙ sym (take-all (1 + 4 * (wordAt l 0 % 65536)) l (omega arith))
-
-  pub used-some : take n l ≡ usedWords l
-  unfolding countOf
-  used-some = rw (f, e)
 
 pub used-written : {t u : List ℕ} {at end : ℕ} (l : List ℕ) (n : ℕ) → take n l ≡ usedWords l → Wrote t u at end (hexLines (take n l)) → Wrote t u at end (hexLines (usedWords l))
 used-written l n e f = rw e at f

@@ -1,23 +1,21 @@
 -- What the program prints (document 01, 'Deliveries': 'A program reads a pack's bytes …').
-use Prim.Native.Nat.{ℕ, _+_, _*_, _%_}
+use Prim.Native.Nat.{ℕ, _+_, _%_}
 use mathlib.Core.Bool.{_||_, not}
 use mathlib.Core.List.{List, [], _∷_, _++_}
 use lib.Dec.{eqb, ltb}
-use lib.ListN.{length, take, replicate}
+use lib.ListN.{length, replicate}
 use Rattle.word.specs.Choice.{pick}
 use Rattle.word.specs.Answers.{refused}
 use Rattle.varying.specs.declared.Payload.the-variants as Pay
 use Rattle.layouts.specs.Format.{encodeLayout}
 use Rattle.sizes.specs.Format.{encodeSizes}
 use Rattle.stage_lists.specs.Format.{encodeStage}
-use Rattle.places.specs.Records.{countOf}
 use Rattle.stage_lists.specs.declared.types.PrimitiveIndex.the-variants as Index
 use Rattle.interface.specs.Meaning.{EntryPoint}
 use Rattle.interface.specs.Format.{Decoded, Damaged, Malformed, Pack, decode, stageCode}
 use Rattle.stage.specs.Meaning.{codes, lent, Call, call, Outcome}
 use Rattle.stage.specs.Stage.{checkStage}
 use Rattle.report.specs.Text.{wordsOf, line, hexLines}
-use Rattle.bindings.specs.Format.{entryWidth}
 
 -- 'over one list of 8 groups and 1,024 words'
 abbrev pub emptyLayout : List ℕ
@@ -69,10 +67,6 @@ runEntries pack (e ∷ es) r = let next = runEntry pack e r in runEntries pack e
 -- before the first entry point
 abbrev pub startRun : Run
 startRun = ran emptyLayout emptyStage []
-
--- 'at the end the used layout words in lower-case hex'
-abbrev pub usedWords : List ℕ → List ℕ
-usedWords layout = take (1 + entryWidth * countOf layout) layout
 
 -- the lines of the stages, then the layout's words
 abbrev pub runText : Run → List ℕ

@@ -2,42 +2,31 @@
 ghost use mathlib.Core.Path.{_≡_};
 ghost use mathlib.Core.List.{_++_};
 ghost use Prim.Native.Nat.{_+_, _*_, _≤_, _<_};
-ghost use lib.ListN.{length, take, drop};
+ghost use lib.ListN.{length, drop};
 ghost use Rattle.interface.specs.Format.{decode};
 ghost use Rattle.report.specs.Text.{hexLines};
 ghost use Rattle.report.specs.inner.Written.{Wrote};
-ghost use Rattle.report.specs.Report.{usedWords, refusedPack, decodedText, report};
+ghost use Rattle.layouts.specs.Format.{usedWords};
+ghost use Rattle.report.specs.Report.{refusedPack, decodedText, report};
 use crate::run::run_entries;
 use crate::text::push_hex_lines;
 use crate::text::push_line;
 use crate::words::words_of;
+use layouts::layout::used_words;
 use pack_check::check_pack::check_pack;
 use word::answer::Answer;
-use word::index;
 
 mod names;
 mod run;
 mod text;
 mod words;
 
-// How many words of a layout list are in use: the first, and four for each entry.
-fn used(layout: &[u32]) -> usize
-    ensures { λ r. ⌜ take r (now (layout .entry)) ≡ usedWords (now (layout .entry)) ⌝ }
-    ensures { λ r. ⌜ (r ≤ length (now (layout .entry))) × (r ≡ length (take r (now (layout .entry)))) ⌝ }
-{
-    let n = 1 + 4 * (index(layout, 0) % 0x1_0000);
-    if layout.len() < n {
-        return layout.len();
-    }
-    n
-}
-
 // The lines of the words that are in use.
 fn push_used(text: &mut [u8], at: usize, layout: &[u32]) -> usize
     requires { ⌜ at + 9 * length (now layout) ≤ length (now text) ⌝ }
     ensures { λ r. ⌜ Wrote (now (text .entry)) (now (text .exit)) at r (hexLines (usedWords (now (layout .entry)))) ⌝ }
 {
-    let n = used(layout);
+    let n = used_words(layout);
     push_hex_lines(text, at, &layout[..n])
 }
 

@@ -15,15 +15,13 @@ use Rattle.sizes.specs.Format.{readSize, sizeGood, sizeRecordWords, size
 use Rattle.places.proofs.Records.{Joined, Carried, read-length, room-length, flat-read, every-read, carried}
 use Rattle.places.proofs.Words.{two}
 use lib.Dec.{eqb}
-use Rattle.bindings.specs.Format.{placeEncodable, sizeWellFormed}
+use Rattle.bindings.specs.Format.{placeEncodable}
+use Rattle.bindings.proofs.ResourceFormat.{size-word}
 use Rattle.bindings.proofs.ReadLaws.{place-encodable}
 use Rattle.bindings.proofs.EntryFormat.{place-well-formed, place-read, place-back}
 use Rattle.sizes.specs.declared.size_record.SizeRecord.{SizeRecord}
 
 -- ---- the two words of a record
-
-size-written : (w : ℕ) → sizeWellFormed w ≡ true → ofKind 6 (contentOf w) ≡ w
-size-written w h = let k : kindOf w ≡ 6 = search (eqb-true, first) in omega arith
 
 size-kept : (ws : List ℕ) → sizeGood ws ≡ true → sizeEncodable (readSize ws) ≡ true
 size-kept ws h =
@@ -50,7 +48,7 @@ pub size-form : Joined 2 readSize sizeRecordWords sizeGood sizeEncodable
 size-form =
     record {
       wide = λ s. refl;
-      written = λ ws h t. rw (place-back (wordAt ws 0) (search first), size-written (wordAt ws 1) (search second)) (sym (two ws h));
+      written = λ ws h t. rw (place-back (wordAt ws 0) (search first), size-word (wordAt ws 1) (search second)) (sym (two ws h));
       kept = size-kept;
       again = size-again;
       passed = size-passed;

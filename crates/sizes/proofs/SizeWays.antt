@@ -16,7 +16,8 @@ use Rattle.sizes.specs.Meaning.{distinctSizes, sizePlaces}
 use Rattle.places.specs.Records.{countOf}
 use Rattle.sizes.specs.Format.{readSize, sizeGood, readSizes, sizesHead}
 use Rattle.places.proofs.Records.{read-mapped}
-use Rattle.places.proofs.Words.{here, there}
+use Rattle.places.proofs.Words.{there}
+use Rattle.word.proofs.Parse.{first-of}
 
 pub head-word : (ws : List ℕ) (w : ℕ) (r : Bool) → w ≡ wordAt ws 0
     → r ≡ (eqb (kindOf w) 20 && (eqb (bits 26 16 w) 0 && leb (1 + 2 * bits 15 0 w) (length ws))) → r ≡ sizesHead ws
@@ -31,10 +32,10 @@ head-holds ws b e h = let t = sym e ∙ not-false b h in search (leb-true, secon
 
 module _ (l : List ℕ) (at : ℕ) where
   pub size-no-place : (kindOf (wordAt l at) ≡ 4 → ⊥) → false ≡ sizeGood (drop at l)
-  size-no-place h = rw (here l at, ne-eqb (kindOf (wordAt l at)) 4 h)
+  size-no-place h = rw (first-of l at, ne-eqb (kindOf (wordAt l at)) 4 h)
 
   pub size-is : (r : Bool) → kindOf (wordAt l at) ≡ 4 → r ≡ sizeWellFormed (wordAt l (at + 1)) → r ≡ sizeGood (drop at l)
-  size-is r h g = rw (here l at, there l at 1, eq-eqb (kindOf (wordAt l at)) 4 h) g
+  size-is r h g = rw (first-of l at, there l at 1, eq-eqb (kindOf (wordAt l at)) 4 h) g
 
 -- ---- places
 

@@ -20,7 +20,8 @@ use Rattle.stage_lists.specs.Meaning.{StageIo, rising, insert, inserted,
 use Rattle.places.specs.Records.{put, past, each, countOf, records}
 use Rattle.stage_lists.specs.Format.{primitiveCode, readLocated, locatedGood, readVaryings, outWellFormed, decodeStage, encodeStage, outGood}
 use Rattle.stage_lists.specs.declared.types.PrimitiveIndex.{PrimitiveIndex}
-use Rattle.places.proofs.Words.{here, there, two-at, drop-put, put-put, put-after, put-own, put-kept}
+use Rattle.places.proofs.Words.{there, two-at, drop-put, put-put, put-after, put-own, put-kept}
+use Rattle.word.proofs.Parse.{first-of}
 use Rattle.places.proofs.Records.{read-length, room-left, left-cons, left-none, each-cons, each-nth, past-drop, flat-append, flat-length, take-read}
 use Rattle.stage_lists.proofs.StageLists.{located-form, WellFormed, well-formed, is-good, code-back, decode-encode, well-formed-encode, good-decode}
 use Rattle.stage_lists.proofs.InsertLaws.{lastFrom, insert-last, insert-before, insert-over, insert-behind, insert-length, longer, good-inserted}
@@ -57,7 +58,7 @@ module _ (l : List ℕ) (k at : ℕ) (good : each 2 locatedGood k (drop at l) �
 -- where it goes, by the location that stands at a position
 module _ (l : List ℕ) (k at c : ℕ) (v : Located) (z : k ≡ 0 → ⊥) (ec : c ≡ contentOf (wordAt l at)) where
   there-location : readLocated (drop at l) .location ≡ c
-  there-location = rw (here l at) (sym ec)
+  there-location = rw (first-of l at) (sym ec)
 
   goes-before : v .location < c → insert v (readVaryings k (drop at l)) ≡ v ∷ readVaryings k (drop at l)
   goes-before h =
@@ -104,7 +105,7 @@ module _ (l goal : List ℕ) (k at : ℕ) (v : Located) (inv : goal ≡ put l at
           goes-behind l k at c v z ec q n,
           location-written (wordAt (drop at l) 0) (search first),
           var-written (wordAt (drop at l) 1) (search second),
-          here l at,
+          first-of l at,
           there l at 1,
         )
         (put-own l (flat locatedWords (insert v (readVaryings (k - 1) (drop (at + 2) l)))) at (omega arith))
@@ -152,7 +153,7 @@ last-goes s (suc n) a v k l good up above =
     let e : 2 + 2 * n ≡ 2 * suc n = omega arith in
     let w : wordAt (drop 2 s) (2 * n) ≡ wordAt s (2 * suc n) = there s 2 (2 * n) ∙ rw e in
     let g : locatedGood (drop (2 * n) (drop 2 s)) ≡ true = each-nth 2 locatedGood (suc n) n (drop 2 s) good (omega arith) in
-    let q : kindOf (wordAt s (2 * suc n)) ≡ 12 = rw (here (drop 2 s) (2 * n), w) at (eqb-true (kindOf (wordAt (drop (2 * n) (drop 2 s)) 0)) 12 (search first)) in
+    let q : kindOf (wordAt s (2 * suc n)) ≡ 12 = rw (first-of (drop 2 s) (2 * n), w) at (eqb-true (kindOf (wordAt (drop (2 * n) (drop 2 s)) 0)) 12 (search first)) in
     insert-last v (readVaryings (suc n) (drop 2 s)) 0 up (rw (last-read n 0 (drop 2 s), w) (omega (arith, q)))
 
 module _ (s : List ℕ) (n a : ℕ) (v : Located) (k : kindOf a ≡ 12) (l : v .location ≡ contentOf a) (good : each 2 locatedGood n (drop 2 s) ≡ true)

@@ -23,7 +23,8 @@ use Rattle.stage_lists.specs.declared.types.PrimitiveIndex.{PrimitiveInd
 use Rattle.stage_lists.specs.declared.types.Provided.{Provided}
 use Rattle.stage_lists.specs.declared.types.Provided.the-variants as Pro
 use Rattle.places.proofs.Records.{read-length, nth-record, left-cons, left-none}
-use Rattle.places.proofs.Words.{here, there}
+use Rattle.places.proofs.Words.{there}
+use Rattle.word.proofs.Parse.{first-of}
 use Rattle.stage_lists.proofs.StageLists.{well-formed}
 use Rattle.stage_lists.proofs.InsertLaws.{varying-nth}
 
@@ -60,10 +61,10 @@ payload-decoded ws w r e h = rw (← e) h
 
 module _ (l : List ℕ) (at : ℕ) (a : Bool) (f : a ≡ locationWellFormed (wordAt l at)) where
   pub located-not : a ≡ false → false ≡ locatedGood (drop at l)
-  located-not h = rw (here l at, ← f, h)
+  located-not h = rw (first-of l at, ← f, h)
 
   pub located-is : (b : Bool) → a ≡ true → b ≡ varWellFormed (wordAt l (at + 1)) → b ≡ locatedGood (drop at l)
-  located-is b h k = rw (here l at, there l at 1, ← f, h, ← k)
+  located-is b h k = rw (first-of l at, there l at 1, ← f, h, ← k)
 
 -- ---- a variable's word that is known to be one
 
@@ -80,7 +81,7 @@ unfolding rising
 rising-step l k at h =
     let z : k ≡ 0 → ⊥ = λ e. omega arith in
     let y : k - 1 ≡ 0 → ⊥ = λ e. omega arith in
-    rw (left-cons 2 readLocated l k at z, left-cons 2 readLocated l (k - 1) (at + 2) y, here l at, here l (at + 2))
+    rw (left-cons 2 readLocated l k at z, left-cons 2 readLocated l (k - 1) (at + 2) y, first-of l at, first-of l (at + 2))
 
 rising-end : (k : ℕ) (ws : List ℕ) → k < 2 → rising (readVaryings k ws) ≡ true
 unfolding rising records
@@ -108,11 +109,11 @@ module _ (l : List ℕ) (k at location : ℕ) (goal : Provided) (inv : goal ≡ 
   pub varying-hit : (k ≡ 0 → ⊥) → wordAt l at % 0x800_0000 ≡ location → variableFound l (At (at + 1)) ≡ goal
   unfolding varyingAt
   varying-hit h q =
-      sym (inv ∙ rw (left-cons 2 readLocated l k at h, here l at, there l at 1, eq-eqb (contentOf (wordAt l at)) location q))
+      sym (inv ∙ rw (left-cons 2 readLocated l k at h, first-of l at, there l at 1, eq-eqb (contentOf (wordAt l at)) location q))
 
   pub varying-miss : (k ≡ 0 → ⊥) → (wordAt l at % 0x800_0000 ≡ location → ⊥) → goal ≡ varyingAt location (readVaryings (k - 1) (drop (at + 2) l))
   unfolding varyingAt
-  varying-miss h q = inv ∙ rw (left-cons 2 readLocated l k at h, here l at, ne-eqb (contentOf (wordAt l at)) location q)
+  varying-miss h q = inv ∙ rw (left-cons 2 readLocated l k at h, first-of l at, ne-eqb (contentOf (wordAt l at)) location q)
 
   pub varying-ended : k ≡ 0 → Pro.Missing ≡ goal
   unfolding varyingAt
@@ -149,4 +150,4 @@ module _ (l : List ℕ) (n : ℕ) (f : outWellFormed l ≡ true) (e : n ≡ coun
         let vs = readVaryings (countOf l) (drop 2 l) in
         let z : 2 + 2 * i + 1 ≡ 3 + 2 * i = omega arith in
         let a = varying-nth vs i (readLocated []) (well-formed l f .rises) (omega (arith, read-length 2 readLocated (countOf l) (drop 2 l))) in
-        sym (rw (nth-record 2 readLocated (countOf l) i (drop 2 l) (readLocated []) k, drop-drop (2 * i) 2 l, here l (2 + 2 * i), there l (2 + 2 * i) 1, z, q) at a)
+        sym (rw (nth-record 2 readLocated (countOf l) i (drop 2 l) (readLocated []) k, drop-drop (2 * i) 2 l, first-of l (2 + 2 * i), there l (2 + 2 * i) 1, z, q) at a)

@@ -1,13 +1,13 @@
 use native.Mathlib.Omega.{arith}
 use mathlib.Core.Path.{sym}
 use lib.Seq.{length-take-le}
-use Rattle.report.proofs.Reporting.{used-all, used-some}
+use Rattle.layouts.proofs.LayoutWays.{used-all, used-some}
 use borrow.Author.Needs.{needs}
-use Rattle.report.proofs.used.Statement.{statement}
-use Rattle.report.proofs.used.Tie as tie
+use Rattle.layouts.proofs.layout.used_words.Statement.{statement}
+use Rattle.layouts.proofs.layout.used_words.Tie as tie
 
-pub used-spec : {M : Type 1} → statement M
-used-spec =
+pub used-words-spec : {M : Type 1} → statement M
+used-words-spec =
     tie.close
     (tie.spec
     (λ c κs. search needs)  -- index-requires
