@@ -84,7 +84,7 @@ enum bokwingi_number {
     BOKWINGI_MALFORMED_PACK = 2, /* a word, code, index or rule of the pack is bad */
     BOKWINGI_BAD_CALL = 3,       /* a lent list is bad, or stage, topology, mode or flag */
     BOKWINGI_SHORT_OUT = 4,      /* out has under 2 + 2 * (outputs with a location) words */
-    BOKWINGI_FULL_LIST = 5,     /* no free words for a new record: group, binding */
+    BOKWINGI_FULL_LIST = 5,      /* no free words for a new record: group, binding */
 
     /* the choice of an entry point */
     BOKWINGI_ENTRY_ABSENT = 10,  /* none has this stage and this name */

@@ -33,10 +33,10 @@ use Rattle.output_steps.specs.Outputs.{clipSlots, builtInSlots, localCount, loc
 use Rattle.output_steps.specs.Last.{meshUse, payloadMatch, primitiveUse, drawUse, perVertexUse, lastStep}
 use Rattle.output_steps.specs.ListOut.{localsOf, stageOut}
 use Rattle.stage.specs.Meaning.{Call, codes, lent, call}
-use Rattle.derived_layouts.specs.Theorem.{derivedOver, putAgain, packReusable, interfaceOfCall, RoomEnough, Again, runOver, pairsReusable, entryPointsReusable, resourcesReusable, lacking}
+use Rattle.derived_layouts.specs.Theorem.{derivedOver, putAgain, packReusable, interfaceOfCall, RoomEnough, Again, runOver, lacking}
 use Rattle.derived_layouts.proofs.Theorem.{derived-serves}
 use Rattle.word.specs.Parse.{several}
-use Rattle.word.specs.Lists.{flat, among}
+use Rattle.word.specs.Lists.{flat, among, every}
 use Rattle.numeric.specs.TypeWords.{typeWellFormed, typeOf, typeWord}
 use Rattle.bindings.specs.Rules.{sameSpace, bufferUse, samplerUse, viewFits, sampledFits, storageFits, textureUse, checkBindingUse, derivedTexture}
 use Rattle.bindings.specs.Rules.{deriveBindingType, resourceReusable}
@@ -171,7 +171,7 @@ unfolding yes sumOf closingSum several typeWellFormed typeOf typeWord sameSpace 
     entryPointWords recordWords encode entryPointNth findFrom workgroupUse workgroupStep inputStep inputSteps clipSlots builtInSlots localCount
     locationUses vertexOutputs anyOf attachmentUse fragmentSlots fragmentOutputs slotsStep meshUse payloadMatch primitiveUse drawUse perVertexUse
     lastStep localsOf stageOut resourceNth recordSize providedUse provideStep provideSteps occupied vacant deriveStep namedTexture deriveSteps resourceSteps
-    pairNumber pairUse pairUses behindInputs judgement stageBody listsGood callGood finish runBody checkStage runOver pairsReusable entryPointsReusable resourcesReusable lacking
+    pairNumber pairUse pairUses behindInputs judgement stageBody listsGood callGood finish runBody checkStage runOver every lacking
 met =
     record {
       well-formed = refl;
@@ -262,5 +262,5 @@ unfolding allRight cases yes sumOf closingSum several typeWellFormed typeOf type
     entryPointWords recordWords encode entryPointNth findFrom workgroupUse workgroupStep inputStep inputSteps clipSlots builtInSlots localCount
     locationUses vertexOutputs anyOf attachmentUse fragmentSlots fragmentOutputs slotsStep meshUse payloadMatch primitiveUse drawUse perVertexUse
     lastStep localsOf stageOut resourceNth recordSize providedUse provideStep provideSteps occupied vacant deriveStep namedTexture deriveSteps resourceSteps
-    pairNumber pairUse pairUses behindInputs judgement stageBody listsGood callGood finish runBody checkStage runOver pairsReusable entryPointsReusable resourcesReusable lacking
+    pairNumber pairUse pairUses behindInputs judgement stageBody listsGood callGood finish runBody checkStage runOver every lacking
 cases-right = refl

@@ -88,7 +88,7 @@ module _ (stage : ShaderStage) (resources : List Resource) (all : List SamplingP
 
     pair-uses : (ps : List SamplingPair) → every (pairGood resources listed) ps ≡ true → pairsReusable resources ps ≡ true
         → ((i : ℕ) → namedTexture i ps ≡ true → namedTexture i all ≡ true) → pairUses M resources ps ≡ accepted
-    unfolding pairUses every pairsReusable namedTexture
+    unfolding pairUses every namedTexture
     pair-uses [] g k n = refl
     pair-uses (p ∷ ps) g k n =
         let good = pairGood resources listed p in

@@ -29,6 +29,7 @@ use Rattle.interface.specs.declared.types.SamplingPair.{SamplingPair}
 use Rattle.stage.specs.Meaning.{codes, lent, Call, call, Outcome}
 use Rattle.resource_steps.specs.Resources.{resourceNth}
 use Rattle.stage.specs.Stage.{requestOf, checkStage, outWords}
+use Rattle.word.specs.Lists.{every}
 
 -- ---- running and putting again
 
@@ -89,17 +90,14 @@ abbrev pub pairReusable : List Resource → SamplingPair → Bool
 pairReusable resources p =
     not (integer (resourceNth resources (p .texture) .ty) && not (comparison (resourceNth resources (p .sampler) .ty)))
 
-unfoldable pub pairsReusable : List Resource → List SamplingPair → Bool
-pairsReusable resources [] = true
-pairsReusable resources (p ∷ ps) = let rest = pairsReusable resources ps in pick (pairReusable resources p) rest false
+abbrev pub pairsReusable : List Resource → List SamplingPair → Bool
+pairsReusable resources ps = every (pairReusable resources) ps
 
-unfoldable pub entryPointsReusable : List Resource → List EntryPoint → Bool
-entryPointsReusable resources [] = true
-entryPointsReusable resources (e ∷ es) = let rest = entryPointsReusable resources es in pick (pairsReusable resources (e .pairs)) rest false
+abbrev pub entryPointsReusable : List Resource → List EntryPoint → Bool
+entryPointsReusable resources es = every (λ e. pairsReusable resources (e .pairs)) es
 
-unfoldable pub resourcesReusable : List Resource → Bool
-resourcesReusable [] = true
-resourcesReusable (r ∷ rs) = let rest = resourcesReusable rs in pick (resourceReusable (r .ty)) rest false
+abbrev pub resourcesReusable : List Resource → Bool
+resourcesReusable rs = every (λ r. resourceReusable (r .ty)) rs
 
 -- the five conditions of demand 3
 abbrev pub packReusable : Interface → Bool

@@ -32,7 +32,7 @@ readEntries n ws = records entryWidth readEntry n ws
 unfoldable pub layoutHead : List ℕ → Bool
 layoutHead ws = eqb (kindOf (wordAt ws 0)) 17 && (leb (groupsOf ws) 8 && leb (1 + entryWidth * countOf ws) (length ws))
 
--- words are a layout list
+-- words are a layout list: well formed is document 01's own term, 'meeting the format above'
 unfoldable pub layoutWellFormed : List ℕ → Bool
 layoutWellFormed ws =
     shortEnough ws && (layoutHead ws

@@ -7,7 +7,7 @@ use lib.ListN.{length, replicate}
 use Rattle.word.specs.Choice.{pick}
 use Rattle.word.specs.Answers.{refused}
 use Rattle.varying.specs.declared.Payload.the-variants as Pay
-use Rattle.layouts.specs.Format.{encodeLayout}
+use Rattle.layouts.specs.Format.{encodeLayout, usedWords}
 use Rattle.sizes.specs.Format.{encodeSizes}
 use Rattle.stage_lists.specs.Format.{encodeStage}
 use Rattle.stage_lists.specs.declared.types.PrimitiveIndex.the-variants as Index

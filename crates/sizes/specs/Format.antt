@@ -32,7 +32,7 @@ readSizes n ws = records sizeRecordWidth readSize n ws
 unfoldable pub sizesHead : List ℕ → Bool
 sizesHead ws = eqb (kindOf (wordAt ws 0)) 20 && (eqb (bits 26 16 (wordAt ws 0)) 0 && leb (1 + sizeRecordWidth * countOf ws) (length ws))
 
--- words are a size list
+-- words are a size list: well formed is document 01's own term, 'meeting the format above'
 unfoldable pub sizesWellFormed : List ℕ → Bool
 sizesWellFormed ws =
     shortEnough ws && (sizesHead ws && (each sizeRecordWidth sizeGood (countOf ws) (drop 1 ws) && distinctSizes (readSizes (countOf ws) (drop 1 ws))))
