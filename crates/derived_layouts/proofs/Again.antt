@@ -36,7 +36,7 @@ use Rattle.derived_layouts.proofs.Packs.{resource-reusable, pairs-reusa
 use Rattle.derived_layouts.proofs.Provides.{placed-serves, provide-steps}
 use Rattle.derived_layouts.proofs.Pairs.{pairs-accepted}
 use Rattle.derived_layouts.proofs.Bodies.{provided-accepts}
-use Rattle.derived_layouts.proofs.Calls.{runOf, Runs, runs-on}
+use Rattle.refusals.proofs.Calls.{runOf, Runs, runs-on}
 use Rattle.derived_layouts.proofs.Runs.{Leaves, entryOf, run-answer, run-out}
 
 -- ---- the same list out

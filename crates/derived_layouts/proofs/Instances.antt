@@ -156,8 +156,8 @@ pub record Met : Type 0 where
   pub first : checkStage (derivedOver start vertex) .answer ≡ accepted
   pub second : checkStage (derivedOver (runOver start (vertex ∷ [])) compute) .answer ≡ answer 29 0 0 0
   pub third : checkStage (derivedOver (runOver start (vertex ∷ compute ∷ [])) fragment) .answer ≡ accepted
-  pub kept-first : packReusable (interfaceOfCall vertex) ≡ true
-  pub kept-third : packReusable (interfaceOfCall fragment) ≡ true
+  pub reusable-first : packReusable (interfaceOfCall vertex) ≡ true
+  pub reusable-third : packReusable (interfaceOfCall fragment) ≡ true
   pub room-first : RoomEnough vertex sizes out
   pub room-third : RoomEnough fragment sizes out
 
@@ -178,20 +178,20 @@ met =
       first = refl;
       second = refl;
       third = refl;
-      kept-first = refl;
-      kept-third = refl;
+      reusable-first = refl;
+      reusable-third = refl;
       room-first = record { passes4 = refl; passes3 = refl; free = refl };
       room-third = record { passes4 = refl; passes3 = refl; free = refl };
     }
 
 pub first-again : Again (checkStage (derivedOver start vertex)) (checkStage (putAgain (runOver start run) sizes out vertex))
 unfolding runOver
-first-again = derived-serves start (met .well-formed) run .again [] (compute ∷ fragment ∷ []) vertex refl (met .first) (met .kept-first) sizes out (met .room-first)
+first-again = derived-serves start (met .well-formed) run .again [] (compute ∷ fragment ∷ []) vertex refl (met .first) (met .reusable-first) sizes out (met .room-first)
 
 pub third-again :
     Again (checkStage (derivedOver (runOver start (vertex ∷ compute ∷ [])) fragment)) (checkStage (putAgain (runOver start run) sizes out fragment))
 third-again =
-    derived-serves start (met .well-formed) run .again (vertex ∷ compute ∷ []) [] fragment refl (met .third) (met .kept-third) sizes out (met .room-third)
+    derived-serves start (met .well-formed) run .again (vertex ∷ compute ∷ []) [] fragment refl (met .third) (met .reusable-third) sizes out (met .room-third)
 
 -- ---- outside the five conditions
 
@@ -207,12 +207,12 @@ joint texture comparison =
 -- whether the conditions hold, the answer in derived mode, and the answer when put again
 pub record Case : Type 0 where
   pub call : Call
-  pub kept : Bool
+  pub reusable : Bool
   pub again : ℕ
 
 abbrev right : Case → Bool
 right c =
-    eqb (pick (packReusable (interfaceOfCall (c .call))) 1 0) (pick (c .kept) 1 0)
+    eqb (pick (packReusable (interfaceOfCall (c .call))) 1 0) (pick (c .reusable) 1 0)
     && (eqb (checkStage (derivedOver start (c .call)) .answer .number) 0
     && eqb (checkStage (putAgain (checkStage (derivedOver start (c .call)) .layout) sizes (0 ∷ 0 ∷ []) (c .call)) .answer .number) (c .again))
 
@@ -229,27 +229,27 @@ stored access = Res.Texture Dim.D2 false (Class.Storage 9 access)
 pub cases : List Case
 cases =
     -- storage buffers: load, load with store; neither, store alone
-    record { call = lone (storage 1); kept = true; again = 0 } ∷
-    record { call = lone (storage 3); kept = true; again = 0 } ∷
-    record { call = lone (storage 0); kept = false; again = 23 } ∷
-    record { call = lone (storage 2); kept = false; again = 23 } ∷
+    record { call = lone (storage 1); reusable = true; again = 0 } ∷
+    record { call = lone (storage 3); reusable = true; again = 0 } ∷
+    record { call = lone (storage 0); reusable = false; again = 23 } ∷
+    record { call = lone (storage 2); reusable = false; again = 23 } ∷
     -- arrayed textures: 2D; 1D, 3D
-    record { call = lone (flat-texture true); kept = true; again = 0 } ∷
-    record { call = lone (Res.Texture Dim.D1 true (Class.Sampled Kind.Float false)); kept = false; again = 26 } ∷
-    record { call = lone (Res.Texture Dim.D3 true (Class.Sampled Kind.Float false)); kept = false; again = 26 } ∷
+    record { call = lone (flat-texture true); reusable = true; again = 0 } ∷
+    record { call = lone (Res.Texture Dim.D1 true (Class.Sampled Kind.Float false)); reusable = false; again = 26 } ∷
+    record { call = lone (Res.Texture Dim.D3 true (Class.Sampled Kind.Float false)); reusable = false; again = 26 } ∷
     -- external textures: 2D; arrayed, cube
-    record { call = lone (Res.Texture Dim.D2 false Class.External); kept = true; again = 0 } ∷
-    record { call = lone (Res.Texture Dim.D2 true Class.External); kept = false; again = 26 } ∷
-    record { call = lone (Res.Texture Dim.Cube false Class.External); kept = false; again = 26 } ∷
+    record { call = lone (Res.Texture Dim.D2 false Class.External); reusable = true; again = 0 } ∷
+    record { call = lone (Res.Texture Dim.D2 true Class.External); reusable = false; again = 26 } ∷
+    record { call = lone (Res.Texture Dim.Cube false Class.External); reusable = false; again = 26 } ∷
     -- atomic storage textures: with load and store; alone, with load
-    record { call = lone (stored 7); kept = true; again = 0 } ∷
-    record { call = lone (stored 4); kept = false; again = 27 } ∷
-    record { call = lone (stored 5); kept = false; again = 27 } ∷
+    record { call = lone (stored 7); reusable = true; again = 0 } ∷
+    record { call = lone (stored 4); reusable = false; again = 27 } ∷
+    record { call = lone (stored 5); reusable = false; again = 27 } ∷
     -- pairs: float with a filtering sampler, sint with a comparison sampler; sint or uint with a filtering sampler
-    record { call = joint (flat-texture false) false; kept = true; again = 0 } ∷
-    record { call = joint (Res.Texture Dim.D2 false (Class.Sampled Kind.Sint false)) true; kept = true; again = 0 } ∷
-    record { call = joint (Res.Texture Dim.D2 false (Class.Sampled Kind.Sint false)) false; kept = false; again = 33 } ∷
-    record { call = joint (Res.Texture Dim.D2 false (Class.Sampled Kind.Uint false)) false; kept = false; again = 33 } ∷
+    record { call = joint (flat-texture false) false; reusable = true; again = 0 } ∷
+    record { call = joint (Res.Texture Dim.D2 false (Class.Sampled Kind.Sint false)) true; reusable = true; again = 0 } ∷
+    record { call = joint (Res.Texture Dim.D2 false (Class.Sampled Kind.Sint false)) false; reusable = false; again = 33 } ∷
+    record { call = joint (Res.Texture Dim.D2 false (Class.Sampled Kind.Uint false)) false; reusable = false; again = 33 } ∷
     []
 
 pub cases-right : allRight cases ≡ true

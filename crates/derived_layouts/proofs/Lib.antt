@@ -5,7 +5,6 @@ pub mod Packs
 pub mod Provides
 pub mod Pairs
 pub mod Bodies
-pub mod Calls
 pub mod Runs
 pub mod Again
 pub mod Instances

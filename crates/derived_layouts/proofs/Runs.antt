@@ -23,7 +23,7 @@ use Rattle.derived_layouts.specs.Theorem.{derivedOver, runOver}
 use Rattle.derived_layouts.proofs.Growth.{Grows, grows-refl, grows-trans}
 use Rattle.derived_layouts.proofs.Derives.{HasEntry, Folded, derive-steps}
 use Rattle.derived_layouts.proofs.Bodies.{derived-layout, derived-parts}
-use Rattle.derived_layouts.proofs.Calls.{runOf, Runs, runs-on, by-call}
+use Rattle.refusals.proofs.Calls.{runOf, Runs, runs-on, by-call}
 
 -- ---- one list after another
 

@@ -8,7 +8,7 @@ use Rattle.layouts.specs.Format.{layoutWellFormed}
 use Rattle.stage.specs.Meaning.{Call}
 use Rattle.stage.specs.Stage.{checkStage}
 use Rattle.derived_layouts.specs.Theorem.{derivedOver, putAgain, runOver, Stands, packReusable, interfaceOfCall, RoomEnough, Again, DerivedServes}
-use Rattle.derived_layouts.proofs.Calls.{accepted-runs}
+use Rattle.refusals.proofs.Calls.{accepted-runs}
 use Rattle.derived_layouts.proofs.Runs.{ran-call, leaves, ran-calls, run-append}
 use Rattle.derived_layouts.proofs.Again.{put-again}
 

@@ -1,2 +1,3 @@
 pub mod Demand1
 pub mod Numbers
+pub mod Calls

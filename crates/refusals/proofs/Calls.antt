@@ -1,8 +1,7 @@
 -- A call: refused with its lists as they were, or come to its steps.
 use Prim.Native.Nat.{ℕ}
-use native.Mathlib.Omega.{arith}
 use mathlib.Core.Path.{_≡_, refl, ap}
-use mathlib.Core.Bool.{true, false}
+use mathlib.Core.Bool.{true, false, false≢true}
 use lib.Dec.{ltb}
 use lib.ListN.{length}
 use Rattle.word.specs.Answers.{accepted}
@@ -12,8 +11,10 @@ use Rattle.interface.specs.Format.{Decoded, Damaged, Malformed, Pack, decode}
 use Rattle.entry_points.specs.Rules.{findEntryPoint}
 use Rattle.entry_points.specs.declared.choose.Chosen.{Chosen}
 use Rattle.entry_points.specs.declared.choose.Chosen.the-variants as Ch
+use Rattle.word.specs.Lists.{among}
 use Rattle.stage.specs.Meaning.{Call, Outcome}
 use Rattle.stage.specs.Stage.{callGood, requestOf, derivedOf, unchanged, outWords, runBody, onDecoded, onChosen, checkStage}
+use Rattle.refusals.specs.Table.{early}
 
 -- the steps of a call
 abbrev pub runOf : Call → Interface → EntryPoint → Outcome
@@ -32,33 +33,39 @@ pub runs-on : (c : Call) (b : Runs c) → checkStage c ≡ runOf c (b .interface
 unfolding checkStage
 runs-on c b = rw (b .decoded, b .good, b .chosen, b .room)
 
-module _ (P : Outcome → Type 0) (c : Call) (refusal : (n : ℕ) → (n ≡ 0 → ⊥) → P (unchanged (c .lent) n))
+module _ (P : Outcome → Type 0) (c : Call) (refusal : (n : ℕ) → among early n ≡ true → P (unchanged (c .lent) n))
     (steps : (b : Runs c) → P (runOf c (b .interface) (entryPointNth (b .interface .entries) (b .position)))) where
   chosen-call : (i : Interface) → decode (c .pack) ≡ Pack i → callGood (c .lent) (c .codes) ≡ true → (x : Chosen)
       → findEntryPoint (requestOf (c .codes) .stage) (c .name) (i .entries) ≡ x → P (onChosen (derivedOf (c .codes)) (requestOf (c .codes)) (c .lent) i x)
+  unfolding among
   chosen-call i d g (Ch.At k) e =
       by-test (ltb (length (c .lent .out)) (outWords (entryPointNth (i .entries) k)))
-      (λ t. rw t (refusal 4 (omega arith)))
+      (λ t. rw t (refusal 4 refl))
       (λ n. rw n (steps (record { interface = i; position = k; decoded = d; good = g; chosen = e; room = n })))
-  chosen-call i d g Ch.Absent e = refusal 10 (omega arith)
-  chosen-call i d g Ch.Several e = refusal 10 (omega arith)
+  chosen-call i d g Ch.Absent e = refusal 10 refl
+  chosen-call i d g Ch.Several e = refusal 10 refl
 
   decoded-call : (x : Decoded) → decode (c .pack) ≡ x → P (onDecoded c x)
-  decoded-call Damaged d = refusal 1 (omega arith)
-  decoded-call Malformed d = refusal 2 (omega arith)
+  unfolding among
+  decoded-call Damaged d = refusal 1 refl
+  decoded-call Malformed d = refusal 2 refl
   decoded-call (Pack i) d =
       by-test (callGood (c .lent) (c .codes))
       (λ t. rw t (chosen-call i d t (findEntryPoint (requestOf (c .codes) .stage) (c .name) (i .entries)) refl))
-      (λ n. rw n (refusal 3 (omega arith)))
+      (λ n. rw n (refusal 3 refl))
 
-  -- what holds of every refusal that changes nothing and of every call that comes to its steps holds of every call
+  -- what holds of every early refusal and of every call that comes to its steps holds of every call
   pub by-call : P (checkStage c)
   unfolding checkStage
   by-call = decoded-call (decode (c .pack)) refl
+
+early-refuses : (n : ℕ) → among early n ≡ true → n ≡ 0 → ⊥
+unfolding among
+early-refuses n h z = false≢true (rw z at h)
 
 -- an accepted call came to its steps
 pub accepted-runs : (c : Call) → checkStage c .answer ≡ accepted → Runs c
 accepted-runs c =
     by-call (λ o. o .answer ≡ accepted → Runs c) c
-    (λ n z e. absurd (z (ap (λ a. a .number) e)))
+    (λ n h e. absurd (early-refuses n h (ap (λ a. a .number) e)))
     (λ b e. b)
