@@ -50,10 +50,6 @@ inputNumber Stage.Compute iv (Pro.Var provided) = 51
 inputNumber Stage.Task iv (Pro.Var provided) = 51
 inputNumber Stage.Mesh iv (Pro.Var provided) = 51
 
--- '50–54 location'
-abbrev pub inputAnswer : ℕ → ℕ → Answer
-inputAnswer number location = pick (eqb number 0) accepted (answer number location 0 0)
-
 abbrev pub startWalk : InputWalk
 startWalk = record { «primitive_index» = false; «draw_index» = false; «per_vertex» = false; locals = 0 }
 
@@ -72,6 +68,7 @@ metBuiltIn (In.ClipDistances size) w = w
 abbrev pub walked : InputWalk → Answer → Walked
 walked w a = record { walk = w; answer = a }
 
+-- '50–54 location'
 abbrev pub localStep : ℕ → ℕ → InterfaceVar → InputWalk → Walked
 localStep number location iv w = pick (eqb number 0) (walked (metLocal iv w) accepted) (walked w (answer number location 0 0))
 
