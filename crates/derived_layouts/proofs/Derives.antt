@@ -38,8 +38,6 @@ use Rattle.resource_steps.specs.Resources.{resourceNth, LayoutAfter, layoutAfte
 use Rattle.resource_steps.specs.Resources.{DeriveResult, deriveResult, deriveOn, deriveSteps}
 use Rattle.derived_layouts.proofs.Entries.{find-sound}
 use Rattle.derived_layouts.proofs.Growth.{join-sets, good-nth, Grows, grows-refl, grows-trans, grows-pushed, grows-joined}
-use Rattle.resource_steps.specs.Resources.{resourceNth, LayoutAfter, layoutAfter, occupied, vacant, newEntry, placeStep, derivedStep, deriveStep, namedTexture}
-use Rattle.resource_steps.specs.Resources.{DeriveResult, deriveResult, deriveOn, deriveSteps}
 
 -- ---- a stage's bit
 

@@ -2,12 +2,14 @@
 use Prim.Native.Nat.{ℕ, suc, _+_, _-_, _*_}
 use mathlib.Core.Path.{_≡_, refl}
 use mathlib.Core.Bool.{Bool, true, false, not, _||_, _&&_}
-use mathlib.Core.List.{List, [], _∷_}
+use mathlib.Core.List.{List, [], _∷_, List·Memᴰ, List·Memᴰ·head, List·Memᴰ·tail}
 use lib.Dec.{eqb, ltb}
 use Rattle.word.specs.Choice.{pick, yes}
 use Rattle.word.specs.Answers.{answer, accepted, refused, both}
 use Rattle.word.specs.declared.answer.Answer.{Answer}
-use Rattle.word.specs.Lists.{among}
+use Rattle.word.specs.Lists.{among, every}
+use Rattle.word.proofs.Lists.{every-first, every-others}
+use Rattle.bindings.proofs.SameBinding.{useNumbers, use-numbers}
 use Rattle.numeric.specs.Types.{kindCode, fits as fitsType}
 use Rattle.bindings.specs.Rules.{sameBool, checkBindingUse, useNumber, deriveBindingType}
 use Rattle.bindings.specs.Format.{sameBinding, placeWord}
@@ -21,7 +23,6 @@ use Rattle.bindings.specs.declared.types.BindingType.the-variants as Bind
 use Rattle.bindings.specs.declared.types.TextureSampleType.{TextureSampleType}
 use Rattle.bindings.specs.declared.types.TextureSampleType.the-variants as Sample
 use Rattle.bindings.specs.declared.types.BindingUse.{BindingUse}
-use Rattle.bindings.specs.declared.types.BindingUse.the-variants as Use
 use Rattle.bindings.specs.declared.types.Derived.{Derived}
 use Rattle.bindings.specs.declared.types.Derived.the-variants as Der
 use Rattle.varying.specs.Rules.{samePayload, payloadPresent}
@@ -58,13 +59,11 @@ use Rattle.input_steps.specs.declared.types.InputWalk.{InputWalk}
 use Rattle.input_steps.specs.declared.types.Walked.{Walked}
 use Rattle.resource_steps.specs.Meaning.{State, state}
 use Rattle.stage.specs.Meaning.{andThen}
-use Rattle.resource_steps.specs.Resources.{resourceNth, namedTexture, SizesAfter, sizesAfter, recordSize, foundUse, providedUse, provideStep, ProvideResult, provideResult, provideSteps, providedOver}
-use Rattle.resource_steps.specs.Resources.{LayoutAfter, occupied, vacant, placeStep, derivedStep, deriveStep, DeriveResult, deriveResult, deriveSteps, derivedBeside, resourceSteps, sampleNumber, filtering, pairNumber, pairUse, pairUses, typeAt}
+use Rattle.resource_steps.specs.Resources.{resourceNth, namedTexture, SizesAfter, sizesAfter, recordSize, foundUse, providedUse, provideStep, ProvideResult}
+use Rattle.resource_steps.specs.Resources.{provideResult, provideSteps, providedOver, LayoutAfter, occupied, vacant, placeStep, derivedStep, deriveStep, DeriveResult}
+use Rattle.resource_steps.specs.Resources.{deriveResult, deriveSteps, derivedBeside, resourceSteps, sampleNumber, filtering, pairNumber, pairUse, pairUses, typeAt}
 use Rattle.stage.specs.Stage.{pairStep, inputWalk, behindInputs, judgement, stageBody}
 use Rattle.refusals.specs.Table.{stepNumbers}
-use Rattle.resource_steps.specs.Resources.{recordSize, foundUse, providedUse, provideStep, occupied, vacant, placeStep, derivedStep, deriveStep, resourceSteps, resourceNth, namedTexture, sampleNumber, filtering, pairNumber, pairUse, pairUses, typeAt}
-use Rattle.resource_steps.specs.Resources.{resourceNth, namedTexture, SizesAfter, sizesAfter, recordSize, foundUse, providedUse, provideStep, ProvideResult, provideResult, provideSteps, providedOver}
-use Rattle.resource_steps.specs.Resources.{LayoutAfter, occupied, vacant, placeStep, derivedStep, deriveStep, DeriveResult, deriveResult, deriveSteps, derivedBeside, resourceSteps, sampleNumber, filtering, pairNumber, pairUse, pairUses, typeAt}
 
 -- a number, and an answer, of a step
 pub record Known (n : ℕ) : Type 0 where
@@ -98,16 +97,17 @@ step-both a b p q = either Step (eqb (a .number) 0) b a q p
 
 -- ---- resources
 
+-- a number of a list of known ones
+listed-known : {n : ℕ} {ns : List ℕ} → List·Memᴰ n ns → every (among stepNumbers) ns ≡ true → among stepNumbers n ≡ true
+listed-known (List·Memᴰ·head {x} {xs} e) h = rw e (every-first (among stepNumbers) x xs h)
+listed-known (List·Memᴰ·tail {x} {xs} d) h = listed-known d (every-others (among stepNumbers) x xs h)
+
+uses-known : every (among stepNumbers) useNumbers ≡ true
+unfolding every among
+uses-known = refl
+
 use-known : (u : BindingUse) → Known (useNumber u)
-unfolding among
-use-known Use.Accepted = lit 0 refl
-use-known Use.WrongType = lit 22 refl
-use-known Use.WrongAddressSpace = lit 23 refl
-use-known Use.WrongBufferSize = lit 25 refl
-use-known Use.WrongTextureViewDimension = lit 26 refl
-use-known Use.WrongTextureClass = lit 27 refl
-use-known Use.WrongSamplerComparison = lit 28 refl
-use-known Use.BadStorageFormat = lit 30 refl
+use-known u = lit (useNumber u) (listed-known (use-numbers u) uses-known)
 
 binding-known : (n : ℕ) (bind : ResourceBinding) → Known n → Step (bindingAnswer n bind)
 binding-known n bind k = either Step (eqb n 0) accepted (answer n (bind .group) (bind .binding) 0) none (ans n (bind .group) (bind .binding) 0 k)

@@ -14,8 +14,8 @@ use Rattle.varying.proofs.Joined.{payload-written, payload-encodable, payload-w
 use Rattle.stage_lists.specs.Meaning.{StageIo, rising}
 use Rattle.word.specs.Lists.{every}
 use Rattle.places.specs.Records.{each, countOf}
-use Rattle.stage_lists.specs.Format.{primitiveAt, primitiveCode, readLocated, locatedGood, readVaryings}
-use Rattle.stage_lists.specs.Format.{stageHead, outWellFormed, stageWellFormed, decodeStage, encodeStage, outGood, stageGood, readLocated, locatedGood}
+use Rattle.stage_lists.specs.Format.{primitiveAt, primitiveCode, readLocated, locatedGood, readVaryings, stageHead, outWellFormed, stageWellFormed, decodeStage}
+use Rattle.stage_lists.specs.Format.{encodeStage, outGood, stageGood}
 use Rattle.stage_lists.specs.declared.types.PrimitiveIndex.{PrimitiveIndex}
 use Rattle.stage_lists.specs.declared.types.PrimitiveIndex.the-variants as Index
 use Rattle.places.proofs.Records.{Joined, Carried, read-length, flat-read, every-read, carried}
