@@ -65,7 +65,7 @@ pub flag-back : (x : ℕ) → x < 2 → flag (eqb x 1) ≡ x
 unfolding yes
 flag-back = codes-back 2 (λ x. flag (eqb x 1)) refl
 
-view-read : (v : TextureViewDimension) → viewAt (viewCode v) ≡ v
+pub view-read : (v : TextureViewDimension) → viewAt (viewCode v) ≡ v
 view-read View.D1 = refl
 view-read View.D2 = refl
 view-read View.D2Array = refl

@@ -4,11 +4,12 @@ use mathlib.Core.Bool.{Bool}
 use mathlib.Core.List.{List, [], _∷_}
 use lib.Dec.{eqb}
 use Rattle.word.specs.Choice.{pick}
+use Rattle.word.specs.Numbers as Number
 use Rattle.word.specs.Words.{ofKind}
 use Rattle.word.specs.Parse.{Parsed, fault, got}
 use Rattle.word.specs.Answers.{answer, accepted, refused}
 use Rattle.word.specs.declared.answer.Answer.{Answer}
-use Rattle.bindings.specs.Rules.{checkBindingUse, useNumber, deriveBindingType}
+use Rattle.bindings.specs.Rules.{checkBindingUse, useNumber, deriveBindingType, derivedNumber}
 use Rattle.bindings.specs.Format.{readResource, entryWellFormed, entryOf, bindingCode, leastSize, sizeWord}
 use Rattle.bindings.specs.declared.types.ResourceBinding.{ResourceBinding}
 use Rattle.bindings.specs.declared.types.Resource.{Resource}
@@ -22,19 +23,19 @@ bindingAnswer number bind = pick (eqb number 0) accepted (answer number (bind .g
 
 -- goes on with a resource that is all there is, else 2
 abbrev pub onlyResource : Parsed Resource → (Resource → Answer) → Answer
-onlyResource fault k = refused 2
+onlyResource fault k = refused Number.malformedPack
 onlyResource (got r []) k = k r
-onlyResource (got r (w ∷ ws)) k = refused 2
+onlyResource (got r (w ∷ ws)) k = refused Number.malformedPack
 
 -- goes on with an entry that is all there is, else 3
 abbrev pub onlyEntry : List ℕ → (BindGroupLayoutEntry → Answer) → Answer
-onlyEntry [] k = refused 3
-onlyEntry (place ∷ []) k = refused 3
-onlyEntry (place ∷ type ∷ []) k = refused 3
-onlyEntry (place ∷ type ∷ least ∷ []) k = refused 3
+onlyEntry [] k = refused Number.badCall
+onlyEntry (place ∷ []) k = refused Number.badCall
+onlyEntry (place ∷ type ∷ []) k = refused Number.badCall
+onlyEntry (place ∷ type ∷ least ∷ []) k = refused Number.badCall
 onlyEntry (place ∷ type ∷ least ∷ visibility ∷ []) k =
-    pick (entryWellFormed place type least visibility) (k (entryOf place type least visibility)) (refused 3)
-onlyEntry (place ∷ type ∷ least ∷ visibility ∷ w ∷ ws) k = refused 3
+    pick (entryWellFormed place type least visibility) (k (entryOf place type least visibility)) (refused Number.badCall)
+onlyEntry (place ∷ type ∷ least ∷ visibility ∷ w ∷ ws) k = refused Number.badCall
 
 -- a resource's words against an entry's words
 unfoldable pub checkWords : List ℕ → List ℕ → Answer
@@ -51,7 +52,7 @@ derivedWord Der.WrongBufferAddressSpace = 0
 -- the type word and the least-size word that a resource derives, as the first two details, or 24
 abbrev pub derivedAnswer : Derived → ResourceBinding → Answer
 derivedAnswer (Der.Binding ty) bind = answer 0 (ofKind 18 (bindingCode ty)) (sizeWord (leastSize ty)) 0
-derivedAnswer Der.WrongBufferAddressSpace bind = bindingAnswer 24 bind
+derivedAnswer Der.WrongBufferAddressSpace bind = bindingAnswer (derivedNumber Der.WrongBufferAddressSpace) bind
 
 unfoldable pub deriveWords : List ℕ → Bool → Answer
 deriveWords resource named = onlyResource (readResource resource) λ r. derivedAnswer (deriveBindingType (r .ty) named) (r .bind)

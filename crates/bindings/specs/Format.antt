@@ -313,10 +313,6 @@ leastSize (Bind.StorageTexture access format view) = 0
 leastSize Bind.ExternalTexture = 0
 leastSize (Bind.AccelerationStructure returns) = 0
 
--- two binding types are the same: every code and the least size
-abbrev pub sameBinding : BindingType → BindingType → Bool
-sameBinding a b = eqb (bindingCode a) (bindingCode b) && eqb (leastSize a) (leastSize b)
-
 -- an entry is a place, a type, a least size and a visibility
 abbrev pub entryWidth : ℕ
 entryWidth = 3 + sizeWidth

@@ -4,6 +4,7 @@ use Prim.Native.Nat.{ℕ}
 use mathlib.Core.Bool.{Bool, true, false, not, _&&_, _||_}
 use lib.Dec.{eqb, ltb}
 use Rattle.word.specs.Choice.{pick, yes}
+use Rattle.word.specs.Numbers as Number
 use Rattle.bindings.specs.declared.types.AddressSpace.{AddressSpace}
 use Rattle.bindings.specs.declared.types.AddressSpace.the-variants as Space
 use Rattle.bindings.specs.declared.types.ImageDimension.{ImageDimension}
@@ -186,13 +187,111 @@ checkBindingUse (Res.AccelerationStructure returns) entry = accelerationUse retu
 -- document 01's number of each answer
 abbrev pub useNumber : BindingUse → ℕ
 useNumber Use.Accepted = 0
-useNumber Use.WrongType = 22
-useNumber Use.WrongAddressSpace = 23
-useNumber Use.WrongBufferSize = 25
-useNumber Use.WrongTextureViewDimension = 26
-useNumber Use.WrongTextureClass = 27
-useNumber Use.WrongSamplerComparison = 28
-useNumber Use.BadStorageFormat = 30
+useNumber Use.WrongType = Number.wrongType
+useNumber Use.WrongAddressSpace = Number.wrongAddressSpace
+useNumber Use.WrongBufferSize = Number.wrongBufferSize
+useNumber Use.WrongTextureViewDimension = Number.wrongTextureViewDimension
+useNumber Use.WrongTextureClass = Number.wrongTextureClass
+useNumber Use.WrongSamplerComparison = Number.wrongSamplerComparison
+useNumber Use.BadStorageFormat = Number.badStorageFormat
+
+-- ---- when two entries are of one type: the same case, and the same in each part
+
+abbrev pub sameBuffer : BufferBindingType → BufferBindingType → Bool
+sameBuffer Buf.Uniform Buf.Uniform = true
+sameBuffer Buf.Uniform (Buf.Storage b) = false
+sameBuffer (Buf.Storage a) Buf.Uniform = false
+sameBuffer (Buf.Storage a) (Buf.Storage b) = sameBool a b
+
+abbrev pub sameSampler : SamplerBindingType → SamplerBindingType → Bool
+sameSampler Samp.Filtering Samp.Filtering = true
+sameSampler Samp.Filtering Samp.NonFiltering = false
+sameSampler Samp.Filtering Samp.Comparison = false
+sameSampler Samp.NonFiltering Samp.Filtering = false
+sameSampler Samp.NonFiltering Samp.NonFiltering = true
+sameSampler Samp.NonFiltering Samp.Comparison = false
+sameSampler Samp.Comparison Samp.Filtering = false
+sameSampler Samp.Comparison Samp.NonFiltering = false
+sameSampler Samp.Comparison Samp.Comparison = true
+
+abbrev pub sameSample : TextureSampleType → TextureSampleType → Bool
+sameSample (Sample.Float a) (Sample.Float b) = sameBool a b
+sameSample (Sample.Float a) Sample.Depth = false
+sameSample (Sample.Float a) Sample.Sint = false
+sameSample (Sample.Float a) Sample.Uint = false
+sameSample Sample.Depth (Sample.Float b) = false
+sameSample Sample.Depth Sample.Depth = true
+sameSample Sample.Depth Sample.Sint = false
+sameSample Sample.Depth Sample.Uint = false
+sameSample Sample.Sint (Sample.Float b) = false
+sameSample Sample.Sint Sample.Depth = false
+sameSample Sample.Sint Sample.Sint = true
+sameSample Sample.Sint Sample.Uint = false
+sameSample Sample.Uint (Sample.Float b) = false
+sameSample Sample.Uint Sample.Depth = false
+sameSample Sample.Uint Sample.Sint = false
+sameSample Sample.Uint Sample.Uint = true
+
+abbrev pub sameAccess : StorageTextureAccess → StorageTextureAccess → Bool
+sameAccess a b = eqb (accessOf a) (accessOf b)
+
+-- a buffer entry is another: what kind of buffer, whether its offset is dynamic, 'least size included'
+abbrev pub sameAsBuffer : BufferBindingType → Bool → ℕ → BindingType → Bool
+sameAsBuffer ty dynamic least (Bind.Buffer t d l) = sameBuffer ty t && (sameBool dynamic d && eqb least l)
+sameAsBuffer ty dynamic least (Bind.Sampler t) = false
+sameAsBuffer ty dynamic least (Bind.Texture sample view multi) = false
+sameAsBuffer ty dynamic least (Bind.StorageTexture access format view) = false
+sameAsBuffer ty dynamic least Bind.ExternalTexture = false
+sameAsBuffer ty dynamic least (Bind.AccelerationStructure returns) = false
+
+abbrev pub sameAsSampler : SamplerBindingType → BindingType → Bool
+sameAsSampler ty (Bind.Sampler t) = sameSampler ty t
+sameAsSampler ty (Bind.Buffer t dynamic least) = false
+sameAsSampler ty (Bind.Texture sample view multi) = false
+sameAsSampler ty (Bind.StorageTexture access format view) = false
+sameAsSampler ty Bind.ExternalTexture = false
+sameAsSampler ty (Bind.AccelerationStructure returns) = false
+
+abbrev pub sameAsTexture : TextureSampleType → TextureViewDimension → Bool → BindingType → Bool
+sameAsTexture sample view multi (Bind.Texture s v m) = sameSample sample s && (sameView view v && sameBool multi m)
+sameAsTexture sample view multi (Bind.Buffer ty dynamic least) = false
+sameAsTexture sample view multi (Bind.Sampler ty) = false
+sameAsTexture sample view multi (Bind.StorageTexture access format v) = false
+sameAsTexture sample view multi Bind.ExternalTexture = false
+sameAsTexture sample view multi (Bind.AccelerationStructure returns) = false
+
+abbrev pub sameAsStorageTexture : StorageTextureAccess → ℕ → TextureViewDimension → BindingType → Bool
+sameAsStorageTexture access format view (Bind.StorageTexture a f v) = sameAccess access a && (eqb format f && sameView view v)
+sameAsStorageTexture access format view (Bind.Buffer ty dynamic least) = false
+sameAsStorageTexture access format view (Bind.Sampler ty) = false
+sameAsStorageTexture access format view (Bind.Texture sample v multi) = false
+sameAsStorageTexture access format view Bind.ExternalTexture = false
+sameAsStorageTexture access format view (Bind.AccelerationStructure returns) = false
+
+abbrev pub sameAsExternal : BindingType → Bool
+sameAsExternal Bind.ExternalTexture = true
+sameAsExternal (Bind.Buffer ty dynamic least) = false
+sameAsExternal (Bind.Sampler ty) = false
+sameAsExternal (Bind.Texture sample view multi) = false
+sameAsExternal (Bind.StorageTexture access format view) = false
+sameAsExternal (Bind.AccelerationStructure returns) = false
+
+abbrev pub sameAsAcceleration : Bool → BindingType → Bool
+sameAsAcceleration returns (Bind.AccelerationStructure r) = sameBool returns r
+sameAsAcceleration returns (Bind.Buffer ty dynamic least) = false
+sameAsAcceleration returns (Bind.Sampler ty) = false
+sameAsAcceleration returns (Bind.Texture sample view multi) = false
+sameAsAcceleration returns (Bind.StorageTexture access format view) = false
+sameAsAcceleration returns Bind.ExternalTexture = false
+
+-- what 29 compares: types, whatever words carry them
+unfoldable pub sameBinding : BindingType → BindingType → Bool
+sameBinding (Bind.Buffer ty dynamic least) b = sameAsBuffer ty dynamic least b
+sameBinding (Bind.Sampler ty) b = sameAsSampler ty b
+sameBinding (Bind.Texture sample view multi) b = sameAsTexture sample view multi b
+sameBinding (Bind.StorageTexture access format view) b = sameAsStorageTexture access format view b
+sameBinding Bind.ExternalTexture b = sameAsExternal b
+sameBinding (Bind.AccelerationStructure returns) b = sameAsAcceleration returns b
 
 -- ---- deriving an entry's type
 
@@ -229,6 +328,11 @@ deriveBindingType (Res.Buffer size space) named = derivedBuffer size space
 deriveBindingType (Res.Sampler comparison) named = Der.Binding (Bind.Sampler (pick (yes comparison) Samp.Comparison Samp.Filtering))
 deriveBindingType (Res.Texture dim arrayed class) named = Der.Binding (derivedTexture class (derivedView dim arrayed) named)
 deriveBindingType (Res.AccelerationStructure returns) named = Der.Binding (Bind.AccelerationStructure returns)
+
+-- document 01's number of each derivation
+abbrev pub derivedNumber : Derived → ℕ
+derivedNumber (Der.Binding ty) = 0
+derivedNumber Der.WrongBufferAddressSpace = Number.wrongBufferAddressSpace
 
 -- ---- demand 3's conditions on a resource
 

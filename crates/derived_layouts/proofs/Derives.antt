@@ -11,8 +11,8 @@ use borrow.Author.Tests.{eqb-true, leb-true, lt-ltb}
 use Rattle.word.specs.Answers.{accepted}
 use Rattle.word.specs.declared.answer.Answer.{Answer}
 use Rattle.word.specs.Lists.{among}
-use Rattle.bindings.specs.Rules.{deriveBindingType}
-use Rattle.bindings.specs.Format.{placeEncodable, typeEncodable, resourceEncodable, sameBinding, entryWidth}
+use Rattle.bindings.specs.Rules.{sameBinding, deriveBindingType}
+use Rattle.bindings.specs.Format.{placeEncodable, typeEncodable, resourceEncodable, entryWidth}
 use Rattle.bindings.specs.Answers.{bindingAnswer}
 use Rattle.bindings.specs.declared.types.Resource.{Resource}
 use Rattle.bindings.specs.declared.types.BindingType.{BindingType}
@@ -113,7 +113,7 @@ module _ (stage : ShaderStage) (named : Bool) (r : Resource) (L : Layout) (g : l
           at = i;
           there = omega (arith, length-join (stageCode stage) (L .entries) i);
           place = rw (same, at) (f .same);
-          holds = rw same (sym (same-binding-eq ty (entryNth (L .entries) i .ty) encodable (fit .format) t));
+          holds = rw same (sym (same-binding-eq ty (entryNth (L .entries) i .ty) t));
           seen = rw same (join-sets (stageCode stage) (entryNth (L .entries) i .visibility) (stage-below stage) (fit .visibility));
         }
 

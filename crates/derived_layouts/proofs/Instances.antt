@@ -38,7 +38,7 @@ use Rattle.derived_layouts.proofs.Theorem.{derived-serves}
 use Rattle.word.specs.Parse.{several}
 use Rattle.word.specs.Lists.{flat, among, every}
 use Rattle.numeric.specs.TypeWords.{typeWellFormed, typeOf, typeWord}
-use Rattle.bindings.specs.Rules.{sameSpace, bufferUse, samplerUse, viewFits, sampledFits, storageFits, textureUse, checkBindingUse, derivedTexture}
+use Rattle.bindings.specs.Rules.{sameSpace, bufferUse, samplerUse, viewFits, sampledFits, storageFits, textureUse, checkBindingUse, sameBinding, derivedTexture}
 use Rattle.bindings.specs.Rules.{deriveBindingType, resourceReusable}
 use Rattle.bindings.specs.Format.{resourceTypeWellFormed, resourceTypeOf, readResource, resourceWords, bindingTypeWellFormed, bindingTypeOf, entryWellFormed, entryOf}
 use Rattle.bindings.specs.Format.{bindingCode, entryWords}
@@ -163,7 +163,7 @@ pub record Met : Type 0 where
 
 pub met : Met
 unfolding yes sumOf closingSum several typeWellFormed typeOf typeWord sameSpace bufferUse samplerUse viewFits sampledFits storageFits textureUse checkBindingUse
-    derivedTexture deriveBindingType resourceReusable resourceTypeWellFormed resourceTypeOf readResource resourceWords bindingTypeWellFormed bindingTypeOf entryWellFormed
+    sameBinding derivedTexture deriveBindingType resourceReusable resourceTypeWellFormed resourceTypeOf readResource resourceWords bindingTypeWellFormed bindingTypeOf entryWellFormed
     entryOf bindingCode entryWords varWellFormed varOf varWord payloadWellFormed payloadOf payloadWord placeFrom placeIn distinctPlaces entryNth pushed joinAt
     joined raiseAt recorded varyingAt rising insert past records each flat put groupsOf countOf layoutHead layoutWellFormed decodeLayout encodeLayout
     sizesHead sizesWellFormed decodeSizes encodeSizes stageHead outWellFormed decodeStage encodeStage readVarying clips bytesOf noZero allZero readName
@@ -254,7 +254,7 @@ cases =
 
 pub cases-right : allRight cases ≡ true
 unfolding allRight cases yes sumOf closingSum several typeWellFormed typeOf typeWord sameSpace bufferUse samplerUse viewFits sampledFits storageFits textureUse checkBindingUse
-    derivedTexture deriveBindingType resourceReusable resourceTypeWellFormed resourceTypeOf readResource resourceWords bindingTypeWellFormed bindingTypeOf entryWellFormed
+    sameBinding derivedTexture deriveBindingType resourceReusable resourceTypeWellFormed resourceTypeOf readResource resourceWords bindingTypeWellFormed bindingTypeOf entryWellFormed
     entryOf bindingCode entryWords varWellFormed varOf varWord payloadWellFormed payloadOf payloadWord placeFrom placeIn distinctPlaces entryNth pushed joinAt
     joined raiseAt recorded varyingAt rising insert past records each flat put groupsOf countOf layoutHead layoutWellFormed decodeLayout encodeLayout
     sizesHead sizesWellFormed decodeSizes encodeSizes stageHead outWellFormed decodeStage encodeStage readVarying clips bytesOf noZero allZero readName

@@ -2,10 +2,11 @@
 use Prim.Native.Nat.{ℕ}
 use lib.Dec.{ltb}
 use Rattle.word.specs.Choice.{pick}
+use Rattle.word.specs.Numbers as Number
 use Rattle.word.specs.Answers.{answer, accepted, refused}
 use Rattle.word.specs.declared.answer.Answer.{Answer}
 use Rattle.numeric.specs.Types.{numeric, fits}
-use Rattle.numeric.specs.TypeWords.{typeWord}
+use Rattle.numeric.specs.TypeWords.{typeWord, typeNumber}
 use Rattle.numeric.specs.declared.types.ScalarKind.{ScalarKind}
 use Rattle.numeric.specs.declared.types.ScalarKind.the-variants as K
 use Rattle.numeric.specs.declared.types.VectorSize.the-variants.{Bi, Tri, Quad}
@@ -86,17 +87,17 @@ textureFormat =
 -- 'one handed out is the first detail'; 80 and 82 where there is none
 abbrev pub formatAnswer : FormatType → Answer
 formatAnswer (Known t) = answer 0 (typeWord t) 0 0
-formatAnswer NoColour = refused 80
-formatAnswer Unknown = refused 82
+formatAnswer NoColour = refused Number.noColourType
+formatAnswer Unknown = refused Number.unknownCode
 
 -- a format's type must fit the type that is written, else 81 with it
 abbrev pub checkType : NumericType → NumericType → Answer
-checkType t output = pick (fits t output) accepted (answer 81 (typeWord t) 0 0)
+checkType t output = pick (fits t output) accepted (answer Number.formatMismatch (typeWord t) 0 0)
 
 -- a texture format against the type that a shader writes: 82 tried first, then 80, then 81 with the format's type
 unfoldable pub checkTextureFormat : FormatType → TypeRead → Answer
-checkTextureFormat Unknown output = refused 82
-checkTextureFormat NoColour Bad = refused 82
-checkTextureFormat (Known t) Bad = refused 82
-checkTextureFormat NoColour (Numeric output) = refused 80
+checkTextureFormat Unknown output = formatAnswer Unknown
+checkTextureFormat NoColour Bad = refused (typeNumber Bad)
+checkTextureFormat (Known t) Bad = refused (typeNumber Bad)
+checkTextureFormat NoColour (Numeric output) = formatAnswer NoColour
 checkTextureFormat (Known t) (Numeric output) = checkType t output

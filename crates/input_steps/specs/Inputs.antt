@@ -4,6 +4,7 @@ use mathlib.Core.Bool.{true, false, _||_}
 use mathlib.Core.List.{List, [], _∷_}
 use lib.Dec.{eqb}
 use Rattle.word.specs.Choice.{pick, yes}
+use Rattle.word.specs.Numbers as Number
 use Rattle.word.specs.Answers.{answer, accepted}
 use Rattle.word.specs.declared.answer.Answer.{Answer}
 use Rattle.numeric.specs.Types.{kindCode, fits}
@@ -28,7 +29,8 @@ use Rattle.input_steps.specs.declared.types.Walked.{Walked}
 -- 'Vertex: 50, 51, 54': only scalar kinds are compared, and only the shader's own per-primitive bit is looked at
 unfoldable pub vertexInput : InterfaceVar → InterfaceVar → ℕ
 vertexInput iv provided =
-    pick (eqb (kindCode (iv .ty .scalar .kind)) (kindCode (provided .ty .scalar .kind))) (pick (yes (iv .«per_primitive»)) 54 0) 51
+    pick (eqb (kindCode (iv .ty .scalar .kind)) (kindCode (provided .ty .scalar .kind))) (pick (yes (iv .«per_primitive»)) Number.inputPerPrimitive 0)
+    Number.inputType
 
 -- 'fragment: 50, 52, 53, 51, 54'
 unfoldable pub fragmentInput : InterfaceVar → InterfaceVar → ℕ
@@ -36,19 +38,19 @@ fragmentInput iv provided =
     pick (eqb (iv .interpolation) (provided .interpolation))
     (pick (eqb (iv .sampling) (provided .sampling))
     (pick (fits (iv .ty) (provided .ty))
-    (pick (sameBool (iv .«per_primitive») (provided .«per_primitive»)) 0 54)
-    51)
-    53)
-    52
+    (pick (sameBool (iv .«per_primitive») (provided .«per_primitive»)) 0 Number.inputPerPrimitive)
+    Number.inputType)
+    Number.inputSampling)
+    Number.inputInterpolation
 
 -- 'other stages: a local one is 50, or 51 if provided'
 unfoldable pub inputNumber : ShaderStage → InterfaceVar → Provided → ℕ
-inputNumber stage iv Pro.Missing = 50
+inputNumber stage iv Pro.Missing = Number.inputMissing
 inputNumber Stage.Vertex iv (Pro.Var provided) = vertexInput iv provided
 inputNumber Stage.Fragment iv (Pro.Var provided) = fragmentInput iv provided
-inputNumber Stage.Compute iv (Pro.Var provided) = 51
-inputNumber Stage.Task iv (Pro.Var provided) = 51
-inputNumber Stage.Mesh iv (Pro.Var provided) = 51
+inputNumber Stage.Compute iv (Pro.Var provided) = Number.inputType
+inputNumber Stage.Task iv (Pro.Var provided) = Number.inputType
+inputNumber Stage.Mesh iv (Pro.Var provided) = Number.inputType
 
 abbrev pub startWalk : InputWalk
 startWalk = record { «primitive_index» = false; «draw_index» = false; «per_vertex» = false; locals = 0 }

@@ -5,6 +5,7 @@ use mathlib.Core.List.{List}
 use lib.Dec.{eqb, ltb}
 use lib.ListN.{getD}
 use Rattle.word.specs.Choice.{pick}
+use Rattle.word.specs.Numbers as Number
 use Rattle.word.specs.Answers.{answer, accepted}
 use Rattle.word.specs.declared.answer.Answer.{Answer}
 use Rattle.interface.specs.declared.types.ShaderStage.{ShaderStage}
@@ -22,8 +23,8 @@ sizeOf ds = record { x = getD ds 0 0; y = getD ds 1 0; z = getD ds 2 0 }
 unfoldable pub workgroupUse : WorkgroupSize → ℕ → ℕ → ℕ → ℕ → Answer
 workgroupUse size x y z total =
     pick (ltb x (size .x) || (ltb y (size .y) || (ltb z (size .z) || ltb total (size .x * size .y * size .z))))
-    (answer 40 (size .x) (size .y) (size .z))
-    (pick (eqb (size .x * size .y * size .z) 0) (answer 41 (size .x) (size .y) (size .z)) accepted)
+    (answer Number.workgroupTooLarge (size .x) (size .y) (size .z))
+    (pick (eqb (size .x * size .y * size .z) 0) (answer Number.workgroupZero (size .x) (size .y) (size .z)) accepted)
 
 -- 'Compute, task, mesh'; task and mesh use their one dimension limit three times
 unfoldable pub workgroupStep : ShaderStage → WorkgroupSize → Limits → Answer

@@ -5,6 +5,7 @@ use mathlib.Core.List.{List, [], _∷_, _++_}
 use lib.Dec.{eqb, leb, ltb}
 use lib.ListN.{length, take, drop}
 use Rattle.word.specs.Choice.{pick}
+use Rattle.word.specs.Numbers as Number
 use Rattle.word.specs.Words.{wordAt, kindOf, contentOf, bits, bit, ofKind, closingSum, sumOf}
 use Rattle.word.specs.Lists.{among, flat}
 use Rattle.word.specs.Parse.{Parsed, fault, got, next, one, several}
@@ -352,8 +353,8 @@ decode ws = pick (damaged ws) Damaged (whole (readPack (body ws)))
 
 -- 1 damaged, 2 malformed
 abbrev pub decodedNumber : Decoded → ℕ
-decodedNumber Damaged = 1
-decodedNumber Malformed = 2
+decodedNumber Damaged = Number.damagedPack
+decodedNumber Malformed = Number.malformedPack
 decodedNumber (Pack i) = 0
 
 -- ---- the words of a pack

@@ -3,6 +3,7 @@ use Prim.Native.Nat.{ℕ, _+_, _-_, _*_, _/_, _%_}
 use mathlib.Core.Bool.{Bool, _&&_, _||_}
 use lib.Dec.{eqb, ltb}
 use Rattle.word.specs.Choice.{pick}
+use Rattle.word.specs.Numbers as Number
 use Rattle.word.specs.Words.{kindOf, bits, ofKind}
 use Rattle.numeric.specs.Types.{kindCode, sizeCode, subtypeOf, isFit}
 use Rattle.numeric.specs.declared.types.ScalarKind.{ScalarKind}
@@ -49,6 +50,11 @@ typeOf w = record { dim = shapeAt (bits 3 0 w); scalar = record { kind = kindAt 
 unfoldable pub readType : ℕ → TypeRead
 readType w = pick (eqb (kindOf w) 13 && (eqb (bits 26 10 w) 0 && typeWellFormed w)) (Numeric (typeOf w)) Bad
 
+-- what the reading of a type word answers: nothing against a type, 82 for any other word
+abbrev pub typeNumber : TypeRead → ℕ
+typeNumber (Numeric t) = 0
+typeNumber Bad = Number.unknownCode
+
 -- ---- from types to words
 
 -- the shape as 'shape 3–0' numbers it
@@ -73,4 +79,4 @@ compareTypes Bad Bad = C.Unknown
 -- yes, no, or 82
 abbrev pub subtypeNumber : Compared → ℕ
 subtypeNumber (C.Types fit) = pick (isFit fit) 1 0
-subtypeNumber C.Unknown = 82
+subtypeNumber C.Unknown = Number.unknownCode

@@ -3,6 +3,7 @@ use Prim.Native.Nat.{ℕ, _-_}
 use mathlib.Core.Bool.{Bool, not, _&&_, _||_}
 use lib.Dec.{eqb, ltb}
 use Rattle.word.specs.Choice.{pick, yes}
+use Rattle.word.specs.Numbers as Number
 use Rattle.word.specs.Answers.{answer, accepted, refused, both}
 use Rattle.word.specs.declared.answer.Answer.{Answer}
 use Rattle.varying.specs.Rules.{samePayload, payloadPresent}
@@ -30,18 +31,18 @@ valueUse number value limit = pick (ltb limit value) (answer number value limit 
 unfoldable pub meshUse : ℕ → Limits → MeshRecord → Answer
 meshUse topology l Mesh.Absent = accepted
 meshUse topology l (Mesh.Info info) =
-    both (valueUse 70 (info .«max_vertices») (l .«max_mesh_output_vertices»))
-    (both (valueUse 71 (info .«max_primitives») (l .«max_mesh_output_primitives»))
-    (pick (eqb topology (topologyCode (info .«primitive_topology»))) accepted (refused 72)))
+    both (valueUse Number.meshVertices (info .«max_vertices») (l .«max_mesh_output_vertices»))
+    (both (valueUse Number.meshPrimitives (info .«max_primitives») (l .«max_mesh_output_primitives»))
+    (pick (eqb topology (topologyCode (info .«primitive_topology»))) accepted (refused Number.meshTopology)))
 
 -- 73, on any stage
 abbrev pub payloadUse : ℕ → Payload → Answer
 payloadUse limit Pay.Absent = accepted
-payloadUse limit (Pay.Size bytes) = valueUse 73 bytes limit
+payloadUse limit (Pay.Size bytes) = valueUse Number.payloadLarge bytes limit
 
 -- 74, on a mesh stage
 unfoldable pub payloadMatch : ShaderStage → Payload → Payload → Answer
-payloadMatch Stage.Mesh shader input = pick (samePayload shader input) accepted (refused 74)
+payloadMatch Stage.Mesh shader input = pick (samePayload shader input) accepted (refused Number.payloadMismatch)
 payloadMatch Stage.Vertex shader input = accepted
 payloadMatch Stage.Fragment shader input = accepted
 payloadMatch Stage.Compute shader input = accepted
@@ -50,8 +51,8 @@ payloadMatch Stage.Task shader input = accepted
 -- 75 and 76, on a fragment stage behind a mesh stage
 unfoldable pub primitiveUse : ShaderStage → Bool → PrimitiveIndex → Answer
 primitiveUse Stage.Fragment read Index.None = accepted
-primitiveUse Stage.Fragment read Index.False = pick (yes read) (refused 75) accepted
-primitiveUse Stage.Fragment read Index.True = pick (yes read) accepted (refused 76)
+primitiveUse Stage.Fragment read Index.False = pick (yes read) (refused Number.invalidPrimitiveIndex) accepted
+primitiveUse Stage.Fragment read Index.True = pick (yes read) accepted (refused Number.missingPrimitiveIndex)
 primitiveUse Stage.Vertex read written = accepted
 primitiveUse Stage.Compute read written = accepted
 primitiveUse Stage.Task read written = accepted
@@ -59,7 +60,7 @@ primitiveUse Stage.Mesh read written = accepted
 
 -- 77, on a mesh stage behind a task stage
 unfoldable pub drawUse : ShaderStage → Bool → Payload → Answer
-drawUse Stage.Mesh draw input = pick (yes draw && payloadPresent input) (refused 77) accepted
+drawUse Stage.Mesh draw input = pick (yes draw && payloadPresent input) (refused Number.drawIndex) accepted
 drawUse Stage.Vertex draw input = accepted
 drawUse Stage.Fragment draw input = accepted
 drawUse Stage.Compute draw input = accepted
@@ -67,7 +68,7 @@ drawUse Stage.Task draw input = accepted
 
 -- '78 is due after a per-vertex local input unless the topology is 3 or 4'
 unfoldable pub perVertexUse : Bool → ℕ → Answer
-perVertexUse per-vertex topology = pick (yes per-vertex && not (eqb topology 3 || eqb topology 4)) (refused 78) accepted
+perVertexUse per-vertex topology = pick (yes per-vertex && not (eqb topology 3 || eqb topology 4)) (refused Number.perVertexNotTriangles) accepted
 
 -- '74, 75, 76, 77, 78': the payload, and that of the stage before with whether it writes a primitive index
 abbrev pub matchUses : Request → Payload → Payload → PrimitiveIndex → InputWalk → Answer

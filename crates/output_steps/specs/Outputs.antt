@@ -4,6 +4,7 @@ use mathlib.Core.Bool.{Bool, true, false, not, _&&_, _||_}
 use mathlib.Core.List.{List, [], _∷_}
 use lib.Dec.{eqb, ltb}
 use Rattle.word.specs.Choice.{pick, yes}
+use Rattle.word.specs.Numbers as Number
 use Rattle.word.specs.Answers.{answer, accepted, refused, both}
 use Rattle.word.specs.declared.answer.Answer.{Answer}
 use Rattle.stage_lists.specs.declared.types.PrimitiveIndex.{PrimitiveIndex}
@@ -73,9 +74,9 @@ pointPart topology = pick (eqb topology 0) 1 0
 -- less 1 less the clip part. Any of these below zero is 65, before outputs are looked at. Then 60, 61'
 unfoldable pub vertexOutputs : ℕ → ℕ → List Varying → Answer
 vertexOutputs topology limit outputs =
-    pick (ltb limit (pointPart topology + clipSlots outputs) || ltb limit (1 + clipSlots outputs)) (refused 65)
-    (both (locationUses 60 (limit - clipSlots outputs) limit outputs)
-    (countUse 61 (localCount outputs) (limit - (pointPart topology + clipSlots outputs)) limit))
+    pick (ltb limit (pointPart topology + clipSlots outputs) || ltb limit (1 + clipSlots outputs)) (refused Number.slotsUsedUp)
+    (both (locationUses Number.vertexLocation (limit - clipSlots outputs) limit outputs)
+    (countUse Number.vertexCount (localCount outputs) (limit - (pointPart topology + clipSlots outputs)) limit))
 
 abbrev pub isDepth : Varying → Bool
 isDepth (Var.Local location iv) = false
@@ -100,18 +101,18 @@ anyOf test (v ∷ vs) = let rest = anyOf test vs in pick (test v) true rest
 -- 66 'dual source; depth attachment' 67
 unfoldable pub attachmentUse : Bool → Bool → Bool → List Varying → Answer
 attachmentUse dual depth shader outputs =
-    pick (yes dual && not shader) (refused 66) (pick (anyOf isDepth outputs && not depth) (refused 67) accepted)
+    pick (yes dual && not shader) (refused Number.dualSource) (pick (anyOf isDepth outputs && not depth) (refused Number.depthAttachment) accepted)
 
 -- 'Fragment: the limit less each built-in input's slots … 65. Then 62, 63, 64, 66, 67'
 unfoldable pub fragmentSlots : ℕ → ℕ → List Varying → Answer
 fragmentSlots limit locals inputs =
-    pick (ltb limit (builtInSlots inputs)) (refused 65)
-    (both (locationUses 62 limit limit inputs) (countUse 63 locals (limit - builtInSlots inputs) limit))
+    pick (ltb limit (builtInSlots inputs)) (refused Number.slotsUsedUp)
+    (both (locationUses Number.fragmentLocation limit limit inputs) (countUse Number.fragmentCount locals (limit - builtInSlots inputs) limit))
 
 unfoldable pub fragmentOutputs : Request → Limits → EntryPoint → ℕ → Answer
 fragmentOutputs q l e locals =
     both (fragmentSlots (l .«max_inter_stage_shader_variables») locals (e .inputs))
-    (both (locationUses 64 (l .«max_color_attachments») (l .«max_color_attachments») (e .outputs))
+    (both (locationUses Number.colourLocation (l .«max_color_attachments») (l .«max_color_attachments») (e .outputs))
     (attachmentUse (q .«dual_source») (q .depth) (e .dual) (e .outputs)))
 
 -- what a stage puts out, or a fragment stage takes in, against the slots that there are

@@ -11,8 +11,8 @@ use Rattle.word.specs.Lists.{among, every}
 use Rattle.word.proofs.Lists.{every-first, every-others}
 use Rattle.bindings.proofs.SameBinding.{useNumbers, use-numbers}
 use Rattle.numeric.specs.Types.{kindCode, fits as fitsType}
-use Rattle.bindings.specs.Rules.{sameBool, checkBindingUse, useNumber, deriveBindingType}
-use Rattle.bindings.specs.Format.{sameBinding, placeWord}
+use Rattle.bindings.specs.Rules.{sameBool, checkBindingUse, useNumber, sameBinding, deriveBindingType}
+use Rattle.bindings.specs.Format.{placeWord}
 use Rattle.bindings.specs.Answers.{bindingAnswer}
 use Rattle.bindings.specs.declared.types.ResourceBinding.{ResourceBinding}
 use Rattle.bindings.specs.declared.types.Resource.{Resource}

@@ -5,6 +5,7 @@ use mathlib.Core.List.{List, [], _∷_, _++_}
 use lib.Dec.{eqb, ltb}
 use lib.ListN.{length, replicate}
 use Rattle.word.specs.Choice.{pick}
+use Rattle.word.specs.Numbers as Number
 use Rattle.word.specs.Answers.{refused}
 use Rattle.varying.specs.declared.Payload.the-variants as Pay
 use Rattle.layouts.specs.Format.{encodeLayout, usedWords}
@@ -12,7 +13,7 @@ use Rattle.sizes.specs.Format.{encodeSizes}
 use Rattle.stage_lists.specs.Format.{encodeStage}
 use Rattle.stage_lists.specs.declared.types.PrimitiveIndex.the-variants as Index
 use Rattle.interface.specs.Meaning.{EntryPoint}
-use Rattle.interface.specs.Format.{Decoded, Damaged, Malformed, Pack, decode, stageCode}
+use Rattle.interface.specs.Format.{Decoded, Damaged, Malformed, Pack, decode, decodedNumber, stageCode}
 use Rattle.stage.specs.Meaning.{codes, lent, Call, call, Outcome}
 use Rattle.stage.specs.Stage.{checkStage}
 use Rattle.report.specs.Text.{wordsOf, line, hexLines}
@@ -78,11 +79,11 @@ refusedPack number = line 9 (refused number)
 
 -- a pack's text, by what its words decode to
 abbrev pub decodedText : List ℕ → Decoded → List ℕ
-decodedText pack Damaged = refusedPack 1
-decodedText pack Malformed = refusedPack 2
+decodedText pack Damaged = refusedPack (decodedNumber Damaged)
+decodedText pack Malformed = refusedPack (decodedNumber Malformed)
 decodedText pack (Pack i) = runText (runEntries pack (i .entries) startRun)
 
 -- 'a byte count not divisible by 4 is 1', and so is more than a pack can hold
 unfoldable pub report : List ℕ → List ℕ
 report bytes =
-    pick (not (eqb (length bytes % 4) 0) || ltb 16384 (length bytes)) (refusedPack 1) (decodedText (wordsOf bytes) (decode (wordsOf bytes)))
+    pick (not (eqb (length bytes % 4) 0) || ltb 16384 (length bytes)) (refusedPack Number.damagedPack) (decodedText (wordsOf bytes) (decode (wordsOf bytes)))

@@ -6,14 +6,14 @@ use mathlib.Core.Bool.{Bool, true, false, _&&_}
 use mathlib.Core.List.{List}
 use lib.Dec.{eqb}
 use lib.ListN.{length, take, drop}
-use borrow.Author.Tests.{lt-ltb, le-ltb, eq-eqb, ne-eqb}
+use borrow.Author.Tests.{lt-ltb, le-ltb, eq-eqb, ne-eqb, eqb-true, eqb-false}
 use Rattle.word.specs.Choice.{pick}
 use Rattle.word.specs.Words.{wordAt, contentOf, bits, ofKind}
 use Rattle.word.specs.Answers.{accepted}
 use Rattle.word.specs.declared.answer.Answer.{Answer}
-use Rattle.bindings.specs.Rules.{derivedTexture, deriveBindingType}
+use Rattle.bindings.specs.Rules.{sameBinding, derivedTexture, deriveBindingType}
 use Rattle.bindings.specs.Format.{placeOf, placeWord, typeCode, isBufferWord, resourceTypeOf, resource, typeEncodable}
-use Rattle.bindings.specs.Format.{bindingTypeOf, bindingCode, leastSize, sameBinding, formatEncodable, partsWellFormed, entryOfParts, entryEncodable, sizeLimit, sizeStanding}
+use Rattle.bindings.specs.Format.{bindingTypeOf, bindingCode, leastSize, formatEncodable, partsWellFormed, entryOfParts, entryEncodable, sizeLimit, sizeStanding}
 use Rattle.bindings.specs.Answers.{bindingAnswer, derivedWord}
 use Rattle.bindings.specs.declared.types.ResourceBinding.{ResourceBinding}
 use Rattle.bindings.specs.declared.types.Resource.{Resource}
@@ -26,6 +26,7 @@ use Rattle.bindings.proofs.CodeLaws.{least-fits}
 use Rattle.bindings.proofs.ReadLaws.{place-encodable}
 use Rattle.bindings.proofs.EntryFormat.{type-read, entry-well-formed, entry-read}
 use Rattle.bindings.proofs.DerivedServes.{derived-encodable}
+use Rattle.bindings.proofs.SameBinding.{same-binding-refl, other-by-code, other-by-least}
 use Rattle.bindings.proofs.WordLaws.{derived-least}
 use Rattle.layouts.specs.Meaning.{Layout, entryPlaces, findEntry, entryHas, entryNth, pushed, joined, roomForEntry}
 use Rattle.layouts.specs.Format.{entryFits}
@@ -42,13 +43,17 @@ use Rattle.resource_steps.proofs.ResourceWalk.{index-next, index-none, 
 
 -- ---- a type at its place
 
--- a type is another where its word and its least size are that type's
-module _ (ty least : ℕ) (b e : BindingType) (t : TypeWords ty least b) (x : ℕ) (ex : x ≡ ofKind 18 (bindingCode e)) where
+-- a type by its word and its least size, and that of an entry
+module _ (ty least : ℕ) (b e : BindingType) (q : b ≡ bindingTypeOf ty least) (t : TypeWords ty least b) (x : ℕ) (ex : x ≡ ofKind 18 (bindingCode e)) (back : bindingTypeOf x (leastSize e) ≡ e) where
   pub type-differs : (x ≡ ty → ⊥) → false ≡ sameBinding b e
-  type-differs n = rw (ne-eqb (bindingCode b) (bindingCode e) (λ q. n (omega (arith, t .type-word))))
+  type-differs n = sym (other-by-code b e (λ q. n (omega (arith, t .type-word))))
 
+  -- where the words are the same, the least sizes decide
   pub type-by-least : (y : ℕ) → x ≡ ty → y ≡ leastSize e → eqb least y ≡ sameBinding b e
-  type-by-least y z ey = rw (eq-eqb (bindingCode b) (bindingCode e) (omega (arith, t .type-word)), ← ey, ← t .least-size)
+  type-by-least y z ey =
+      by-test (eqb least y)
+      (λ h. let l : least ≡ leastSize e = eqb-true least y h ∙ ey in let same : b ≡ e = cc in rw (h, same) (sym (same-binding-refl e)))
+      (λ h. rw h (sym (other-by-least b e (λ l. eqb-false least y h (omega (arith, t .least-size))))))
 
 module _ (stage : ShaderStage) (place i : ℕ) (b : BindingType) (L : Layout) (a : Answer) (k : Bool) (q : k ≡ sameBinding b (entryNth (L .entries) i .ty)) where
   pub occupied-joined : (M : Layout) (c : ℕ) → k ≡ true → c ≡ stageCode stage → M ≡ joined c L i → a ≡ accepted

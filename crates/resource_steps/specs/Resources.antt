@@ -5,10 +5,11 @@ use mathlib.Core.Bool.{Bool, true, false}
 use mathlib.Core.List.{List, [], _∷_}
 use lib.Dec.{eqb, ltb}
 use Rattle.word.specs.Choice.{pick, yes}
+use Rattle.word.specs.Numbers as Number
 use Rattle.word.specs.Answers.{answer, accepted, both}
 use Rattle.word.specs.declared.answer.Answer.{Answer}
-use Rattle.bindings.specs.Rules.{checkBindingUse, useNumber, deriveBindingType}
-use Rattle.bindings.specs.Format.{sameBinding, placeWord}
+use Rattle.bindings.specs.Rules.{checkBindingUse, useNumber, sameBinding, deriveBindingType, derivedNumber}
+use Rattle.bindings.specs.Format.{placeWord}
 use Rattle.bindings.specs.Answers.{bindingAnswer}
 use Rattle.bindings.specs.declared.types.ResourceBinding.{ResourceBinding}
 use Rattle.bindings.specs.declared.types.Resource.{Resource}
@@ -52,19 +53,19 @@ sizesAfter a S = record { answer = a; sizes = S }
 
 -- 'record a buffer's larger size (5)'; other resources record nothing
 unfoldable pub recordSize : ResourceBinding → ResourceType → Sizes → SizesAfter
-recordSize bind (Res.Buffer size space) S = pick (sizeFits bind S) (sizesAfter accepted (recorded bind size S)) (sizesAfter (bindingAnswer 5 bind) S)
+recordSize bind (Res.Buffer size space) S = pick (sizeFits bind S) (sizesAfter accepted (recorded bind size S)) (sizesAfter (bindingAnswer Number.fullList bind) S)
 recordSize bind (Res.Sampler comparison) S = sizesAfter accepted S
 recordSize bind (Res.Texture dim arrayed class) S = sizesAfter accepted S
 recordSize bind (Res.AccelerationStructure returns) S = sizesAfter accepted S
 
 -- 'visibility (kind 19, bit s for stage s)'
 abbrev pub entryUse : ShaderStage → ResourceType → BindGroupLayoutEntry → ℕ
-entryUse stage ty e = pick (seesBit (stageCode stage) (e .visibility)) (useNumber (checkBindingUse ty (e .ty))) 21
+entryUse stage ty e = pick (seesBit (stageCode stage) (e .visibility)) (useNumber (checkBindingUse ty (e .ty))) Number.invisible
 
 -- no entry at the place is 20
 abbrev pub foundUse : ShaderStage → ResourceType → Layout → Found → ℕ
 foundUse stage ty L (At i) = entryUse stage ty (entryNth (L .entries) i)
-foundUse stage ty L Nothing = 20
+foundUse stage ty L Nothing = Number.missing
 
 -- 'then 20, 21, check_binding_use'
 unfoldable pub providedUse : ShaderStage → Layout → Resource → Answer
@@ -91,7 +92,7 @@ layoutAfter a L = record { answer = a; layout = L }
 -- 'then a present entry of other type (least size included) is 29, of equal type gains the stage's bit'
 unfoldable pub occupied : ShaderStage → ResourceBinding → BindingType → ℕ → Layout → LayoutAfter
 occupied stage bind ty i L =
-    pick (sameBinding ty (entryNth (L .entries) i .ty)) (layoutAfter accepted (joined (stageCode stage) L i)) (layoutAfter (bindingAnswer 29 bind) L)
+    pick (sameBinding ty (entryNth (L .entries) i .ty)) (layoutAfter accepted (joined (stageCode stage) L i)) (layoutAfter (bindingAnswer Number.inconsistentlyDerivedType bind) L)
 
 -- an entry that one stage sees
 abbrev pub newEntry : ShaderStage → ResourceBinding → BindingType → BindGroupLayoutEntry
@@ -100,7 +101,7 @@ newEntry stage bind ty = record { bind = bind; ty = ty; visibility = 2 ^ stageCo
 -- 'else 5 or a new entry'
 unfoldable pub vacant : ShaderStage → ResourceBinding → BindingType → Layout → LayoutAfter
 vacant stage bind ty L =
-    pick (roomForEntry L) (layoutAfter accepted (pushed L (newEntry stage bind ty))) (layoutAfter (bindingAnswer 5 bind) L)
+    pick (roomForEntry L) (layoutAfter accepted (pushed L (newEntry stage bind ty))) (layoutAfter (bindingAnswer Number.fullList bind) L)
 
 -- a derived type at its place
 abbrev pub placeStep : ShaderStage → ResourceBinding → BindingType → Found → Layout → LayoutAfter
@@ -110,12 +111,12 @@ placeStep stage bind ty Nothing L = vacant stage bind ty L
 -- what was derived, at its place
 abbrev pub derivedStep : ShaderStage → ResourceBinding → Derived → Layout → LayoutAfter
 derivedStep stage bind (Der.Binding ty) L = placeStep stage bind ty (findEntry bind L) L
-derivedStep stage bind Der.WrongBufferAddressSpace L = layoutAfter (bindingAnswer 24 bind) L
+derivedStep stage bind Der.WrongBufferAddressSpace L = layoutAfter (bindingAnswer (derivedNumber Der.WrongBufferAddressSpace) bind) L
 
 -- 'Derived: 20, deriving (24)'; a group that the layout has not is 20
 unfoldable pub deriveStep : ShaderStage → Bool → Resource → Layout → LayoutAfter
 deriveStep stage named r L =
-    pick (ltb (r .bind .group) (L .groups)) (derivedStep stage (r .bind) (deriveBindingType (r .ty) named) L) (layoutAfter (bindingAnswer 20 (r .bind)) L)
+    pick (ltb (r .bind .group) (L .groups)) (derivedStep stage (r .bind) (deriveBindingType (r .ty) named) L) (layoutAfter (bindingAnswer Number.missing (r .bind)) L)
 
 -- ---- each resource in list order
 
@@ -192,19 +193,19 @@ filtering (Bind.AccelerationStructure returns) = false
 
 -- a filtering sampler wants a filterable texture: 32 where it is another float, 33 where it is an integer
 abbrev pub sampleNumber : TextureSampleType → ℕ
-sampleNumber (Sample.Float filterable) = pick (yes filterable) 0 32
+sampleNumber (Sample.Float filterable) = pick (yes filterable) 0 Number.filteringFloat
 sampleNumber Sample.Depth = 0
-sampleNumber Sample.Sint = 33
-sampleNumber Sample.Uint = 33
+sampleNumber Sample.Sint = Number.filteringInteger
+sampleNumber Sample.Uint = Number.filteringInteger
 
 -- 34 where the texture's slot is no texture; an external texture is filterable
 unfoldable pub pairNumber : BindingType → BindingType → ℕ
 pairNumber (Bind.Texture sample view multi) sampler = pick (filtering sampler) (sampleNumber sample) 0
 pairNumber Bind.ExternalTexture sampler = 0
-pairNumber (Bind.Buffer ty dynamic least) sampler = 34
-pairNumber (Bind.Sampler ty) sampler = 34
-pairNumber (Bind.StorageTexture access format view) sampler = 34
-pairNumber (Bind.AccelerationStructure returns) sampler = 34
+pairNumber (Bind.Buffer ty dynamic least) sampler = Number.pairNoTexture
+pairNumber (Bind.Sampler ty) sampler = Number.pairNoTexture
+pairNumber (Bind.StorageTexture access format view) sampler = Number.pairNoTexture
+pairNumber (Bind.AccelerationStructure returns) sampler = Number.pairNoTexture
 
 -- the type of the entry at a place; where there is none, one that is no texture and no sampler
 abbrev pub typeFound : Layout → Found → BindingType
@@ -214,7 +215,7 @@ typeFound L Nothing = Bind.AccelerationStructure false
 abbrev pub typeAt : Layout → ResourceBinding → BindingType
 typeAt L bind = typeFound L (findEntry bind L)
 
--- '32–34 texture place, sampler place'
+-- '32–34 texture place, sampler place': these details are the format's, the words of the two places
 abbrev pub pairAnswer : ℕ → ResourceBinding → ResourceBinding → Answer
 pairAnswer number texture sampler = pick (eqb number 0) accepted (answer number (placeWord texture) (placeWord sampler) 0)
 

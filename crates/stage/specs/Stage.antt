@@ -5,6 +5,7 @@ use mathlib.Core.List.{List}
 use lib.Dec.{eqb, ltb}
 use lib.ListN.{length}
 use Rattle.word.specs.Choice.{pick, yes}
+use Rattle.word.specs.Numbers as Number
 use Rattle.word.specs.Answers.{answer, accepted, refused, both}
 use Rattle.word.specs.declared.answer.Answer.{Answer}
 use Rattle.bindings.specs.declared.types.Resource.{Resource}
@@ -15,8 +16,8 @@ use Rattle.layouts.specs.Format.{layoutWellFormed, decodeLayout, encodeLayout}
 use Rattle.sizes.specs.Format.{sizesWellFormed, decodeSizes, encodeSizes}
 use Rattle.stage_lists.specs.Format.{stageWellFormed, decodeStage, encodeStage}
 use Rattle.interface.specs.Meaning.{EntryPoint, Interface, entryPointNth}
-use Rattle.interface.specs.Format.{Decoded, Damaged, Malformed, Pack, decode, stageAt}
-use Rattle.entry_points.specs.Rules.{findEntryPoint}
+use Rattle.interface.specs.Format.{Decoded, Damaged, Malformed, Pack, decode, decodedNumber, stageAt}
+use Rattle.entry_points.specs.Rules.{findEntryPoint, findNumber}
 use Rattle.interface.specs.declared.types.ShaderStage.{ShaderStage}
 use Rattle.interface.specs.declared.types.Limits.{Limits}
 use Rattle.entry_points.specs.declared.choose.Chosen.{Chosen}
@@ -110,12 +111,12 @@ runBody derived q t i e =
 
 -- 4, then the steps
 abbrev pub onEntryPoint : Bool → Request → Lent → Interface → EntryPoint → Outcome
-onEntryPoint derived q t i e = pick (ltb (length (t .out)) (outWords e)) (unchanged t 4) (runBody derived q t i e)
+onEntryPoint derived q t i e = pick (ltb (length (t .out)) (outWords e)) (unchanged t Number.shortOut) (runBody derived q t i e)
 
 abbrev pub onChosen : Bool → Request → Lent → Interface → Chosen → Outcome
 onChosen derived q t i (Ch.At position) = onEntryPoint derived q t i (entryPointNth (i .entries) position)
-onChosen derived q t i Ch.Absent = unchanged t 10
-onChosen derived q t i Ch.Several = unchanged t 10
+onChosen derived q t i Ch.Absent = unchanged t (findNumber Ch.Absent)
+onChosen derived q t i Ch.Several = unchanged t (findNumber Ch.Several)
 
 -- the entry point of the call's stage and name
 abbrev pub onNamed : Call → Interface → Outcome
@@ -123,9 +124,9 @@ onNamed c i =
     onChosen (derivedOf (c .codes)) (requestOf (c .codes)) (c .lent) i (findEntryPoint (requestOf (c .codes) .stage) (c .name) (i .entries))
 
 abbrev pub onDecoded : Call → Decoded → Outcome
-onDecoded c Damaged = unchanged (c .lent) 1
-onDecoded c Malformed = unchanged (c .lent) 2
-onDecoded c (Pack i) = pick (callGood (c .lent) (c .codes)) (onNamed c i) (unchanged (c .lent) 3)
+onDecoded c Damaged = unchanged (c .lent) (decodedNumber Damaged)
+onDecoded c Malformed = unchanged (c .lent) (decodedNumber Malformed)
+onDecoded c (Pack i) = pick (callGood (c .lent) (c .codes)) (onNamed c i) (unchanged (c .lent) Number.badCall)
 
 -- the stage check
 unfoldable pub checkStage : Call → Outcome
