@@ -1,12 +1,11 @@
--- Binding types that are the same are equal, and words that can hold them tell them apart by code and least size; the numbers of the answers.
+-- Binding types that are the same are equal, and words that can hold them tell them apart by code and least size.
 use Prim.Native.Nat.{ℕ}
 use mathlib.Core.Path.{_≡_, refl, sym}
 use mathlib.Core.Bool.{Bool, true, false, _&&_, false≢true}
-use mathlib.Core.List.{List, [], _∷_, List·Memᴰ, List·Memᴰ·head, List·Memᴰ·tail}
 use lib.Dec.{eqb}
 use borrow.Author.Tests.{eqb-true, eq-eqb}
 use Rattle.word.specs.Choice.{yes}
-use Rattle.bindings.specs.Rules.{accessOf, sameBool, viewCode, sameView, sameBuffer, sameSampler, sameSample, sameAccess, sameAsBuffer, sameAsSampler, sameAsTexture, sameAsStorageTexture, sameAsExternal, sameAsAcceleration, sameBinding, useNumber}
+use Rattle.bindings.specs.Rules.{accessOf, sameBool, viewCode, sameView, sameBuffer, sameSampler, sameSample, sameAccess, sameAsBuffer, sameAsSampler, sameAsTexture, sameAsStorageTexture, sameAsExternal, sameAsAcceleration, sameBinding}
 use Rattle.bindings.specs.Format.{viewAt, bindingCode, leastSize, formatEncodable}
 use Rattle.bindings.specs.declared.types.BufferBindingType.{BufferBindingType}
 use Rattle.bindings.specs.declared.types.BufferBindingType.the-variants as Buf
@@ -19,8 +18,6 @@ use Rattle.bindings.specs.declared.types.StorageTextureAccess.{StorageTe
 use Rattle.bindings.specs.declared.types.StorageTextureAccess.the-variants as Acc
 use Rattle.bindings.specs.declared.types.BindingType.{BindingType}
 use Rattle.bindings.specs.declared.types.BindingType.the-variants as Bind
-use Rattle.bindings.specs.declared.types.BindingUse.{BindingUse}
-use Rattle.bindings.specs.declared.types.BindingUse.the-variants as Use
 use Rattle.word.proofs.Truth.{first, second, by-test}
 use Rattle.bindings.proofs.EntryFormat.{view-read, type-read}
 use Rattle.bindings.proofs.DerivedServes.{same-bool}
@@ -199,17 +196,3 @@ other-by-code a b n = by-test (sameBinding a b) (λ t. absurd (n (rw (same-bindi
 
 pub other-by-least : (a b : BindingType) → (leastSize a ≡ leastSize b → ⊥) → sameBinding a b ≡ false
 other-by-least a b n = by-test (sameBinding a b) (λ t. absurd (n (rw (same-binding-eq a b t)))) (λ f. f)
-
--- an answer on a binding's use has one of these numbers and no other
-abbrev pub useNumbers : List ℕ
-useNumbers = 0 ∷ 22 ∷ 23 ∷ 25 ∷ 26 ∷ 27 ∷ 28 ∷ 30 ∷ []
-
-pub use-numbers : (u : BindingUse) → List·Memᴰ (useNumber u) useNumbers
-use-numbers Use.Accepted = List·Memᴰ·head refl
-use-numbers Use.WrongType = List·Memᴰ·tail (List·Memᴰ·head refl)
-use-numbers Use.WrongAddressSpace = List·Memᴰ·tail (List·Memᴰ·tail (List·Memᴰ·head refl))
-use-numbers Use.WrongBufferSize = search (List·Memᴰ·tail, List·Memᴰ·head) depth 12
-use-numbers Use.WrongTextureViewDimension = search (List·Memᴰ·tail, List·Memᴰ·head) depth 12
-use-numbers Use.WrongTextureClass = search (List·Memᴰ·tail, List·Memᴰ·head) depth 12
-use-numbers Use.WrongSamplerComparison = search (List·Memᴰ·tail, List·Memᴰ·head) depth 12
-use-numbers Use.BadStorageFormat = search (List·Memᴰ·tail, List·Memᴰ·head) depth 12

@@ -1,14 +1,16 @@
--- P1 to P11 of document 01, 'Deliveries', as one list.
-use Prim.Native.Nat.{ℕ, zero, suc, _+_}
+-- P1 to P11 of document 01, 'Deliveries', as one list; the numbers are written as document 01 has them.
+use Prim.Native.Nat.{ℕ, zero, suc, _+_, _-_, _*_}
 use mathlib.Core.Bool.{true, false}
-use mathlib.Core.List.{List, [], _∷_}
-use lib.ListN.{replicate}
+use mathlib.Core.List.{List, [], _∷_, map}
+use lib.ListN.{length, replicate}
 use Rattle.word.specs.Answers.{answer, accepted}
+use Rattle.word.specs.declared.answer.Answer.{Answer}
 use Rattle.numeric.specs.Types.{numeric}
 use Rattle.numeric.specs.declared.types.NumericType.{NumericType}
 use Rattle.numeric.specs.declared.types.NumericDimension.the-variants as D
 use Rattle.numeric.specs.declared.types.VectorSize.the-variants.{Bi, Tri, Quad}
 use Rattle.numeric.specs.declared.types.ScalarKind.the-variants as K
+use Rattle.bindings.specs.declared.types.ResourceBinding.{ResourceBinding}
 use Rattle.bindings.specs.declared.types.Resource.{Resource}
 use Rattle.bindings.specs.declared.types.ResourceType.{ResourceType}
 use Rattle.bindings.specs.declared.types.ResourceType.the-variants as Res
@@ -40,8 +42,7 @@ use Rattle.interface.specs.declared.types.Varying.the-variants as Var
 use Rattle.interface.specs.declared.types.MeshRecord.the-variants as Mesh
 use Rattle.interface.specs.declared.types.WorkgroupSize.{WorkgroupSize}
 use Rattle.interface.specs.declared.types.Limits.{Limits}
-use Rattle.stage.specs.Meaning.{Call, codes, lent}
-use Rattle.stage.specs.Meaning as Calls
+use Rattle.stage.specs.Meaning.{Call, call, codes, lent, Outcome, outcome}
 use Rattle.required_examples.specs.Kinds.{Example, on-entry, below, checked}
 
 -- ---- what the examples are made of
@@ -69,6 +70,10 @@ var type interpolation sampling = record { ty = type; interpolation = interpolat
 
 abbrev pub local : ℕ → NumericType → Varying
 local location type = Var.Local location (var type 0 0)
+
+-- a variable that a stage is handed
+abbrev pub handed : ℕ → NumericType → Located
+handed location type = record { location = location; var = var type 0 0 }
 
 abbrev pub uniform : ℕ → ResourceType
 uniform size = Res.Buffer size Space.Uniform
@@ -127,9 +132,18 @@ entry stage workgroup resources inputs outputs =
 abbrev pub pack : List Resource → EntryPoint → List ℕ
 pack resources e = encode (record { limits = limits; resources = resources; entries = e ∷ [] })
 
--- a uniform buffer of a size at group 0, binding 3
-abbrev pub buffer : ℕ → List Resource
-buffer bytes = record { bind = record { group = 0; binding = 3 }; ty = uniform bytes } ∷ []
+-- ---- the lists of a call
+
+-- free room, and a list out of 40 words
+abbrev pub free : ℕ → List ℕ
+free n = replicate n 7
+
+abbrev pub out : List ℕ
+out = free 40
+
+-- the list out with what a stage hands on
+abbrev pub outWith : List Located → List ℕ
+outWith varyings = encodeStage (record { primitive = Index.None; payload = Pay.Absent; varyings = varyings; room = free (38 - 2 * length varyings) })
 
 abbrev pub io : List Located → List ℕ
 io varyings = encodeStage (record { primitive = Index.None; payload = Pay.Absent; varyings = varyings; room = [] })
@@ -137,40 +151,82 @@ io varyings = encodeStage (record { primitive = Index.None; payload = Pay.Absent
 abbrev pub layout : List BindGroupLayoutEntry → List ℕ → List ℕ
 layout entries room = encodeLayout (record { groups = 8; entries = entries; room = room })
 
-abbrev pub seen : ℕ → ℕ → List BindGroupLayoutEntry
-seen least visibility = record { bind = record { group = 0; binding = 3 }; ty = uniformEntry least; visibility = visibility } ∷ []
-
--- a derivedCall in derived mode with depth attached
-abbrev pub derivedCall : ShaderStage → List ℕ → List ℕ → List ℕ → ℕ → Call
-derivedCall stage words over inputs topology =
-    Calls.call words main (codes (stageCode stage) topology 1 0 1) (lent over (encodeSizes (record { records = []; room = [] })) inputs (replicate 40 7))
-
 abbrev pub noRoom : List ℕ
 noRoom = layout [] []
+
+-- group 0, binding 3
+abbrev pub place : ResourceBinding
+place = record { group = 0; binding = 3 }
+
+abbrev pub resourceThere : ResourceType → List Resource
+resourceThere ty = record { bind = place; ty = ty } ∷ []
+
+abbrev pub entryThere : BindingType → ℕ → List BindGroupLayoutEntry
+entryThere ty visibility = record { bind = place; ty = ty; visibility = visibility } ∷ []
+
+abbrev pub noSizes : List ℕ
+noSizes = encodeSizes (record { records = []; room = [] })
+
+-- room for two sizes, and with one recorded
+abbrev pub roomySizes : List ℕ
+roomySizes = encodeSizes (record { records = []; room = free 4 })
+
+abbrev pub sizeThere : ℕ → List ℕ
+sizeThere bytes = encodeSizes (record { records = record { bind = place; size = bytes } ∷ []; room = free 2 })
+
+-- ---- calls, and what they come to
+
+-- in derived mode with depth attached
+abbrev pub derivedCall : ShaderStage → List ℕ → List ℕ → List ℕ → ℕ → Call
+derivedCall stage words over inputs topology = call words main (codes (stageCode stage) topology 1 0 1) (lent over noSizes inputs out)
+
+-- it leaves the sizes
+abbrev pub derives : Answer → List ℕ → List ℕ → Outcome
+derives a over handed = outcome a over noSizes handed
+
+-- a vertex stage with one resource against a layout that provides one entry
+abbrev pub providedCall : ResourceType → BindingType → Call
+providedCall resource ty =
+    call (pack (resourceThere resource) (entry Stage.Vertex (size 0 0 0) (0 ∷ []) [] [])) main (codes (stageCode Stage.Vertex) 3 0 0 1)
+    (lent (layout (entryThere ty 1) []) roomySizes (io []) out)
+
+-- it leaves the layout
+abbrev pub provides : Answer → BindingType → List ℕ → List ℕ → Outcome
+provides a ty sizes handed = outcome a (layout (entryThere ty 1) []) sizes handed
+
+-- an arrayed 2D texture
+abbrev pub arrayed : ResourceType
+arrayed = Res.Texture Dim.D2 true (Class.Sampled Kind.Float false)
 
 -- a vertex stage alone, with inputs and outputs
 abbrev pub vertex : List Varying → List Varying → List ℕ → ℕ → Call
 vertex inputs outputs provided topology = derivedCall Stage.Vertex (pack [] (entry Stage.Vertex (size 0 0 0) [] inputs outputs)) noRoom provided topology
 
--- local outputs at as many locations from 0, behind clip distances of size 5
-unfoldable pub locals : ℕ → ℕ → List Varying
-locals zero from = []
-locals (suc n) from = let rest = locals n (from + 1) in local from vec4 ∷ rest
+-- variables at as many locations from one on
+unfoldable pub variables : ℕ → ℕ → List Located
+variables zero from = []
+variables (suc n) from = let rest = variables n (from + 1) in handed from vec4 ∷ rest
 
-abbrev pub clip : List Varying → List Varying
-clip vs = Var.BuiltIn (In.ClipDistances 5) ∷ vs
+-- put out behind clip distances of size 5
+abbrev pub clipped : List Located → List Varying
+clipped vs = Var.BuiltIn (In.ClipDistances 5) ∷ map (λ v. Var.Local (v .location) (v .var)) vs
 
 -- ---- the list
 
 unfoldable pub examples : List Example
 examples =
-    -- P1 uniform size 64: least 64, or none, passes; 63 is 25
+    -- P1 uniform size 64: least 64, or none, passes; 63 is 25; and so by a stage check, which records the size in each case
     on-entry (uniform 64) (uniformEntry 64) 0
     ∷ on-entry (uniform 64) (uniformEntry 0) 0
     ∷ on-entry (uniform 64) (uniformEntry 63) 25
-    -- P2 store-only storage texture on a both entry passes; load-only is 27
+    ∷ checked (providedCall (uniform 64) (uniformEntry 64)) (provides accepted (uniformEntry 64) (sizeThere 64) (outWith []))
+    ∷ checked (providedCall (uniform 64) (uniformEntry 0)) (provides accepted (uniformEntry 0) (sizeThere 64) (outWith []))
+    ∷ checked (providedCall (uniform 64) (uniformEntry 63)) (provides (answer 25 0 3 0) (uniformEntry 63) (sizeThere 64) out)
+    -- P2 store-only storage texture on a both entry passes; load-only is 27; and so by a stage check
     ∷ on-entry (storage 2) readWriteEntry 0
     ∷ on-entry (storage 1) readWriteEntry 27
+    ∷ checked (providedCall (storage 2) readWriteEntry) (provides accepted readWriteEntry roomySizes (outWith []))
+    ∷ checked (providedCall (storage 1) readWriteEntry) (provides (answer 27 0 3 0) readWriteEntry roomySizes out)
     -- P3 f32 below vec3 f32: yes; f64 below vec3 f32: no
     ∷ below f32 vec3 true
     ∷ below f64 vec3 false
@@ -178,32 +234,31 @@ examples =
     ∷ below vec3 vec2 false
     ∷ below (numeric (D.Matrix Tri Bi) K.Float 4) (numeric (D.Matrix Bi Tri) K.Float 4) false
     -- P5 vertex input vec4 f32 fed a scalar f32 passes; fed u32, 51
-    ∷ checked (vertex (local 2 vec4 ∷ []) [] (io (record { location = 2; var = var f32 0 0 } ∷ [])) 3) accepted noRoom (io [])
-    ∷ checked (vertex (local 2 vec4 ∷ []) [] (io (record { location = 2; var = var u32 0 0 } ∷ [])) 3) (answer 51 2 0 0) noRoom (7 ∷ [])
+    ∷ checked (vertex (local 2 vec4 ∷ []) [] (io (handed 2 f32 ∷ [])) 3) (derives accepted noRoom (outWith []))
+    ∷ checked (vertex (local 2 vec4 ∷ []) [] (io (handed 2 u32 ∷ [])) 3) (derives (answer 51 2 0 0) noRoom out)
     -- P6 fragment input, interpolation and sampling both off: 52
     ∷ checked
     (derivedCall Stage.Fragment (pack [] (entry Stage.Fragment (size 0 0 0) [] (Var.Local 1 (var vec4 1 1) ∷ []) [])) noRoom
     (io (record { location = 1; var = var vec4 2 2 } ∷ [])) 3)
-    (answer 52 1 0 0)
-    noRoom
-    (7 ∷ [])
+    (derives (answer 52 1 0 0) noRoom out)
     -- P7 vertex derives uniform 64, fragment uniform 80 at that place: 29; size and bit unchanged
-    ∷ checked (derivedCall Stage.Vertex (pack (buffer 64) (entry Stage.Vertex (size 0 0 0) (0 ∷ []) [] [])) (layout [] (replicate 4 7)) (io []) 3)
-    accepted
-    (layout (seen 64 1) [])
-    (io [])
-    ∷ checked (derivedCall Stage.Fragment (pack (buffer 80) (entry Stage.Fragment (size 0 0 0) (0 ∷ []) [] [])) (layout (seen 64 1) []) (io []) 3)
-    (answer 29 0 3 0)
-    (layout (seen 64 1) [])
-    (7 ∷ [])
+    ∷ checked (derivedCall Stage.Vertex (pack (resourceThere (uniform 64)) (entry Stage.Vertex (size 0 0 0) (0 ∷ []) [] [])) (layout [] (free 4)) (io []) 3)
+    (derives accepted (layout (entryThere (uniformEntry 64) 1) []) (outWith []))
+    ∷ checked
+    (derivedCall Stage.Fragment (pack (resourceThere (uniform 80)) (entry Stage.Fragment (size 0 0 0) (0 ∷ []) [] [])) (layout (entryThere (uniformEntry 64) 1) [])
+    (io []) 3)
+    (derives (answer 29 0 3 0) (layout (entryThere (uniformEntry 64) 1) []) out)
     -- P8 limit 16, point list, clip size 5: 13 slots, highest location 13. Fourteen outputs at 0–13: 61. One at 14: 60
-    ∷ checked (vertex [] (clip (locals 13 1)) (io []) 0) accepted noRoom []
-    ∷ checked (vertex [] (clip (locals 14 0)) (io []) 0) (answer 61 14 16 0) noRoom (7 ∷ [])
-    ∷ checked (vertex [] (clip (locals 1 14)) (io []) 0) (answer 60 14 16 0) noRoom (7 ∷ [])
+    ∷ checked (vertex [] (clipped (variables 13 1)) (io []) 0) (derives accepted noRoom (outWith (variables 13 1)))
+    ∷ checked (vertex [] (clipped (variables 14 0)) (io []) 0) (derives (answer 61 14 16 0) noRoom out)
+    ∷ checked (vertex [] (clipped (variables 1 14)) (io []) 0) (derives (answer 60 14 16 0) noRoom out)
     -- P9 compute 0, 1, 1 within limits: 41
-    ∷ checked (derivedCall Stage.Compute (pack [] (entry Stage.Compute (size 0 1 1) [] [] [])) noRoom (io []) 5) (answer 41 0 1 1) noRoom (7 ∷ [])
-    -- P10 arrayed 2D texture on a sampler entry: 26
-    ∷ on-entry (Res.Texture Dim.D2 true (Class.Sampled Kind.Float false)) (Bind.Sampler Samp.Filtering) 26
+    ∷ checked (derivedCall Stage.Compute (pack [] (entry Stage.Compute (size 0 1 1) [] [] [])) noRoom (io []) 5)
+    (derives (answer 41 0 1 1) noRoom out)
+    -- P10 arrayed 2D texture on a sampler entry: 26; and so by a stage check
+    ∷ on-entry arrayed (Bind.Sampler Samp.Filtering) 26
+    ∷ checked (providedCall arrayed (Bind.Sampler Samp.Filtering))
+    (provides (answer 26 0 3 0) (Bind.Sampler Samp.Filtering) roomySizes out)
     -- P11 two outputs at location 0: the last is kept
-    ∷ checked (vertex [] (local 0 vec2 ∷ local 0 vec4 ∷ []) (io []) 3) accepted noRoom (io (record { location = 0; var = var vec4 0 0 } ∷ []))
+    ∷ checked (vertex [] (local 0 vec2 ∷ local 0 vec4 ∷ []) (io []) 3) (derives accepted noRoom (outWith (handed 0 vec4 ∷ [])))
     ∷ []

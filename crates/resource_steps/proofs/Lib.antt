@@ -1,3 +1,4 @@
+pub mod Kept
 pub mod DeriveLaws
 pub mod PairLaws
 pub mod ProvideLaws
