@@ -11,6 +11,7 @@ pub mod EncodeRecords
 pub mod EncodeVaryings
 pub mod RestoreRecords
 pub mod RestoreNames
+pub mod RestoreEntry
 pub mod RestoreVaryings
 pub mod Passing
 pub mod Packs
