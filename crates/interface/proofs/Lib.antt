@@ -12,6 +12,7 @@ pub mod EncodeVaryings
 pub mod RestoreRecords
 pub mod RestoreNames
 pub mod RestoreEntry
+pub mod RestorePack
 pub mod RestoreVaryings
 pub mod Passing
 pub mod Packs

@@ -1,25 +1,23 @@
 -- An entry point that was read, written again, is what stood there.
-use Prim.Native.Nat.{ℕ, _+_, _*_, _^_, _<_, _≤_}
+use Prim.Native.Nat.{ℕ, _+_, _*_, _^_, _<_}
 use native.Mathlib.Omega.{arith}
 use mathlib.Core.Path.{_≡_, refl, sym, _∙_}
-use mathlib.Core.Bool.{Bool, true, false, _&&_}
-use mathlib.Core.List.{List, [], _∷_, _++_, append-assoc, map}
+use mathlib.Core.Bool.{Bool, true, false}
+use mathlib.Core.List.{List, [], _∷_, _++_, map}
 use borrow.Author.Tests.{eqb-true, ltb-true}
 use lib.Dec.{eqb, leb, ltb}
 use lib.ListN.{length}
 use Rattle.word.specs.Choice.{yes}
 use Rattle.word.specs.Words.{kindOf, contentOf, bits, bit, ofKind, isWord}
-use Rattle.word.specs.Parse.{got, one, several}
-use Rattle.word.specs.Lists.{flat, every}
+use Rattle.word.specs.Parse.{got}
 use Rattle.word.proofs.Truth.{first, second, codes-back}
 use Rattle.word.proofs.Lists.{every-any, every-others}
 use Rattle.word.proofs.ParseReads.{next-then, picked}
 use Rattle.bindings.specs.Format.{flag}
 use Rattle.bindings.specs.declared.types.Resource.{Resource}
 use Rattle.bindings.proofs.EntryFormat.{field, flag-back}
-use Rattle.varying.specs.Format.{payloadWellFormed, payloadOf, payloadWord}
+use Rattle.varying.specs.Format.{payloadWellFormed}
 use Rattle.varying.proofs.Joined.{payload-written}
-use Rattle.interface.specs.Meaning.{EntryPoint}
 use Rattle.interface.specs.Format.{stageAt, stageCode, topologyAt, topologyCode, topologyWellFormed, ofWord, readWorkgroup, workgroupWords, readMesh, meshWords, meshFlag, meshInfo, headWellFormed}
 use Rattle.interface.specs.Format.{countsWellFormed, indexWellFormed, indexWords, contents, pairWellFormed, pairOf, pairWords, pairsOf, readName, readVarying, varyingWords, clips, entryPointWords, readEntryPoint}
 use Rattle.interface.specs.declared.types.MeshRecord.{MeshRecord}
@@ -36,12 +34,14 @@ use Rattle.interface.proofs.RestoreVaryings.{varying-back}
 pub kind-back : (kind w : ℕ) → ofWord kind w ≡ true → ofKind kind (contentOf w) ≡ w
 kind-back kind w h = let k : kindOf w ≡ kind = eqb-true (kindOf w) kind h in omega arith
 
+-- codes, there and back
 stage-back : (c : ℕ) → c < 5 → stageCode (stageAt c) ≡ c
 stage-back = codes-back 5 (λ c. stageCode (stageAt c)) refl
 
 topology-back : (c : ℕ) → c < 5 → topologyCode (topologyAt c) ≡ c
 topology-back = codes-back 5 (λ c. topologyCode (topologyAt c)) refl
 
+-- the first word, from the name's length and whether there is a mesh record
 head-back : (w n m : ℕ) → headWellFormed w ≡ true → n ≡ bits 22 16 w → m ≡ flag (eqb (bit 1 w) 1)
     → ofKind 7 (2 ^ 24 * stageCode (stageAt (bits 26 24 w)) + (2 ^ 16 * n + (2 * m + flag (eqb (bit 0 w) 1)))) ≡ w
 head-back w n m h p q =
@@ -52,6 +52,7 @@ head-back w n m h p q =
     rw (p, q, stage-back (bits 26 24 w) l, flag-back (bit 1 w) (omega arith), flag-back (bit 0 w) (omega arith))
     (omega (arith, field w 2 2, field w 4 (2 ^ 14), field w (2 ^ 16) (2 ^ 7), field w (2 ^ 23) 2, field w (2 ^ 24) (2 ^ 3)))
 
+-- the word of the four counts
 counts-back : (w a b c d : ℕ) → countsWellFormed w ≡ true → a ≡ bits 23 18 w → b ≡ bits 17 12 w → c ≡ bits 11 6 w → d ≡ bits 5 0 w
     → ofKind 15 (2 ^ 18 * a + (2 ^ 12 * b + (2 ^ 6 * c + d))) ≡ w
 counts-back w a b c d h p q r s =
@@ -59,6 +60,7 @@ counts-back w a b c d h p q r s =
     let z : bits 26 24 w ≡ 0 = search (eqb-true, second) in
     omega (arith, field w (2 ^ 6) (2 ^ 6), field w (2 ^ 12) (2 ^ 6), field w (2 ^ 18) (2 ^ 6), field w (2 ^ 24) (2 ^ 3))
 
+-- the word of a pair
 pair-back : (resources : List Resource) (listed : List ℕ) (w : ℕ) → pairWellFormed resources listed w ≡ true → pairWords (pairOf w) ≡ w ∷ []
 pair-back resources listed w h =
     let k : kindOf w ≡ 5 = search (eqb-true, first) in
@@ -66,7 +68,8 @@ pair-back resources listed w h =
     let q : ofKind 5 (2 ^ 8 * bits 15 8 w + bits 7 0 w) ≡ w = omega (arith, field w (2 ^ 8) (2 ^ 8), field w (2 ^ 16) (2 ^ 11)) in
     rw q
 
-contents-map : (ws : List ℕ) → contents ws ≡ map contentOf ws
+-- contents and pairs, word by word
+pub contents-map : (ws : List ℕ) → contents ws ≡ map contentOf ws
 unfolding contents
 contents-map [] = refl
 contents-map (w ∷ ws) = rw (contents-map ws)
@@ -78,6 +81,7 @@ pairs-map (w ∷ ws) = rw (pairs-map ws)
 
 -- ---- records
 
+-- the three words of a workgroup size
 workgroup-back : (ws : List ℕ) (g : WorkgroupSize) (rest : List ℕ) → readWorkgroup ws ≡ got g rest → ws ≡ workgroupWords g ++ rest
 unfolding readWorkgroup
 workgroup-back ws g rest e =
@@ -86,6 +90,7 @@ workgroup-back ws g rest e =
     one-then (ofWord 8) r₂ _ g rest e₂ λ z r₃ f₃ q₃ e₃.
     got-as (λ g rest. ws ≡ workgroupWords g ++ rest) _ g r₃ rest e₃ (rw (q₁, q₂, q₃, kind-back 8 x f₁, kind-back 8 y f₂, kind-back 8 z f₃))
 
+-- a mesh record, which is there if marked
 mesh-back : (b : Bool) (ws : List ℕ) (m : MeshRecord) (rest : List ℕ) → readMesh b ws ≡ got m rest → (meshFlag m ≡ flag b) × (ws ≡ meshWords m ++ rest)
 unfolding readMesh yes
 mesh-back false ws m rest e = got-as (λ m rest. (meshFlag m ≡ 0) × (ws ≡ meshWords m ++ rest)) Mesh.Absent m ws rest e (refl, refl)
@@ -100,6 +105,7 @@ mesh-back true ws m rest e =
 
 -- ---- entry points
 
+-- an entry point's words, each of which 32 bits hold
 pub entry-back : (rs : List Resource) → Restores isWord entryPointWords (readEntryPoint rs)
 unfolding readEntryPoint
 entry-back rs ws e rest h g =

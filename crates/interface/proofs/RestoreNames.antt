@@ -1,8 +1,8 @@
 -- A name that was read, written again, is what stood there.
-use Prim.Native.Nat.{ℕ, zero, suc, _+_, _*_, _^_, _<_}
+use Prim.Native.Nat.{ℕ, zero, suc, _+_, _*_, _^_}
 use native.Mathlib.Omega.{arith}
-use mathlib.Core.Path.{_≡_, refl, sym, _∙_}
-use mathlib.Core.Bool.{Bool, true}
+use mathlib.Core.Path.{_≡_, refl, sym}
+use mathlib.Core.Bool.{true}
 use mathlib.Core.List.{List, [], _∷_, _++_}
 use borrow.Author.Tests.{eqb-true, ltb-true}
 use lib.Dec.{eqb}
@@ -29,13 +29,14 @@ module _ (b : ℕ) (bs : List ℕ) (h : allZero (b ∷ bs) ≡ true) where
   unfolding allZero
   zero-others = rest-passes (eqb b 0) (allZero bs) h
 
+-- a list of length 0
 none : (ws : List ℕ) → length ws ≡ 0 → ws ≡ []
 none [] e = refl
 none (w ∷ ws) e = absurd (omega arith)
 
 -- a word that 32 bits hold is its four bytes
-four : (w : ℕ) → w < 2 ^ 32 → bits 7 0 w + 2 ^ 8 * bits 15 8 w + 2 ^ 16 * bits 23 16 w + 2 ^ 24 * bits 31 24 w ≡ w
-four w h = omega (arith, field w (2 ^ 8) (2 ^ 8), field w (2 ^ 16) (2 ^ 8))
+four : (w : ℕ) (ws : List ℕ) → every isWord (w ∷ ws) ≡ true → bits 7 0 w + 2 ^ 8 * bits 15 8 w + 2 ^ 16 * bits 23 16 w + 2 ^ 24 * bits 31 24 w ≡ w
+four w ws h = omega (arith, ltb-true w (2 ^ 32) (every-first isWord w ws h), field w (2 ^ 8) (2 ^ 8), field w (2 ^ 16) (2 ^ 8))
 
 -- as many words as a name takes, with nothing but zeros behind the name, are the words of the name
 packed-back : (n : ℕ) (ws : List ℕ) → every isWord ws ≡ true → length ws ≡ nameWords n → allZero (drop n (bytesOf ws)) ≡ true → packName (take n (bytesOf ws)) ≡ ws
@@ -43,27 +44,16 @@ unfolding packName bytesOf
 packed-back zero ws h l z = sym (none ws l)
 packed-back (suc n) [] h l z = absurd (omega arith)
 packed-back (suc zero) (w ∷ ws) h l z =
-    let p : w < 2 ^ 32 = ltb-true w (2 ^ 32) (every-first isWord w ws h) in
-    let b = zero-first _ _ z in
     let y = zero-others _ _ z in
-    let c = zero-first _ _ y in
-    let d = zero-first _ _ (zero-others _ _ y) in
-    let q : bits 7 0 w ≡ w = omega (arith, four w p) in
+    let q : bits 7 0 w ≡ w = omega (arith, four w ws h, zero-first _ _ z, zero-first _ _ y, zero-first _ _ (zero-others _ _ y)) in
     rw (q, none ws (omega arith))
 packed-back (suc (suc zero)) (w ∷ ws) h l z =
-    let p : w < 2 ^ 32 = ltb-true w (2 ^ 32) (every-first isWord w ws h) in
-    let c = zero-first _ _ z in
-    let d = zero-first _ _ (zero-others _ _ z) in
-    let q : bits 7 0 w + 2 ^ 8 * bits 15 8 w ≡ w = omega (arith, four w p) in
+    let q : bits 7 0 w + 2 ^ 8 * bits 15 8 w ≡ w = omega (arith, four w ws h, zero-first _ _ z, zero-first _ _ (zero-others _ _ z)) in
     rw (q, none ws (omega arith))
 packed-back (suc (suc (suc zero))) (w ∷ ws) h l z =
-    let p : w < 2 ^ 32 = ltb-true w (2 ^ 32) (every-first isWord w ws h) in
-    let d = zero-first _ _ z in
-    let q : bits 7 0 w + 2 ^ 8 * bits 15 8 w + 2 ^ 16 * bits 23 16 w ≡ w = omega (arith, four w p) in
+    let q : bits 7 0 w + 2 ^ 8 * bits 15 8 w + 2 ^ 16 * bits 23 16 w ≡ w = omega (arith, four w ws h, zero-first _ _ z) in
     rw (q, none ws (omega arith))
-packed-back (suc (suc (suc (suc n)))) (w ∷ ws) h l z =
-    let p : w < 2 ^ 32 = ltb-true w (2 ^ 32) (every-first isWord w ws h) in
-    rw (four w p, packed-back n ws (every-others isWord w ws h) (omega arith) z)
+packed-back (suc (suc (suc (suc n)))) (w ∷ ws) h l z = rw (four w ws h, packed-back n ws (every-others isWord w ws h) (omega arith) z)
 
 -- words are written as themselves
 abbrev self : ℕ → List ℕ
@@ -74,7 +64,7 @@ unfolding flat
 flat-self [] = refl
 flat-self (w ∷ ws) = rw (flat-self ws)
 
--- a name has as many bytes as were asked for
+-- a name that was read has as many bytes as were asked for, and stood before the words behind
 pub name-back : (n : ℕ) (ws name rest : List ℕ) → every isWord ws ≡ true → readName n ws ≡ got name rest → (length name ≡ n) × (ws ≡ packName name ++ rest)
 unfolding readName
 name-back n ws name rest h e =

@@ -15,13 +15,19 @@ pub got-as : {A : Type 0} (P : A → List ℕ → Type 0) (a b : A) (r rest : Li
 got-as P a b r rest e p = let x : a ≡ b = cc in let y : r ≡ rest = cc in rw (← x, ← y) p
 
 -- one word stood first, and passed its test
+one-back : (test : ℕ → Bool) (ws : List ℕ) (w : ℕ) (rest : List ℕ) → one test ws ≡ got w rest → (test w ≡ true) × (ws ≡ w ∷ rest)
+one-back test [] w rest e = let z : _≡_ {A = ℕ} 0 1 = cc in absurd (omega arith)
+one-back test (v ∷ ws) w rest e =
+    let (t, q) = picked (test v) (got v ws) w rest e in
+    got-as (λ w rest. (test w ≡ true) × (v ∷ ws ≡ w ∷ rest)) v w ws rest q (t, refl)
+
+-- what read on from one word
 pub one-then : {B G : Type 0} (test : ℕ → Bool) (ws : List ℕ) (k : ℕ → List ℕ → Parsed B) (b : B) (rest : List ℕ) → next (one test ws) k ≡ got b rest
     → ((w : ℕ) (behind : List ℕ) → test w ≡ true → ws ≡ w ∷ behind → k w behind ≡ got b rest → G) → G
-one-then test [] k b rest e f = let z : _≡_ {A = ℕ} 0 1 = cc in absurd (omega arith)
-one-then test (w ∷ ws) k b rest e f =
-    next-then (one test (w ∷ ws)) k b rest e λ v behind g h.
-    let (t, q) = picked (test w) (got w ws) v behind g in
-    f v behind (got-as (λ v behind. test v ≡ true) w v ws behind q t) (got-as (λ v behind. w ∷ ws ≡ v ∷ behind) w v ws behind q refl) h
+one-then test ws k b rest e f =
+    next-then (one test ws) k b rest e λ w behind g h.
+    let (t, q) = one-back test ws w behind g in
+    f w behind t q h
 
 -- a reader of words that each pass a test: what it got, written again, stood before the words behind
 abbrev pub Restores : {A : Type 0} → (ℕ → Bool) → (A → List ℕ) → (List ℕ → Parsed A) → Type 0
@@ -41,6 +47,7 @@ module _ {A : Type 0} (test : ℕ → Bool) (words : A → List ℕ) (read : Lis
       got-as (λ all rest. (length all ≡ suc n) × (ws ≡ flat words all ++ rest)) (a ∷ others) all s rest u
       (ap suc l, q ∙ rw m (sym (append-assoc (words a) (flat words others) s)))
 
+  -- what read on from records
   pub several-then : {B G : Type 0} (n : ℕ) (ws : List ℕ) (k : List A → List ℕ → Parsed B) (b : B) (rest : List ℕ) → every test ws ≡ true
       → next (several n read ws) k ≡ got b rest
       → ((all : List A) (behind : List ℕ) → length all ≡ n → ws ≡ flat words all ++ behind → k all behind ≡ got b rest → G) → G
@@ -49,12 +56,9 @@ module _ {A : Type 0} (test : ℕ → Bool) (words : A → List ℕ) (read : Lis
       let (l, q) = several-back n ws all behind h g in
       f all behind l q m
 
--- words that a test tells to be written again
+-- a word that is written as itself where it passes the test
 pub one-restores : (test : ℕ → Bool) (words : ℕ → List ℕ) → ((w : ℕ) → test w ≡ true → words w ≡ w ∷ []) → Restores (λ w. true) words (one test)
-one-restores test words again [] w rest h e = let z : _≡_ {A = ℕ} 0 1 = cc in absurd (omega arith)
-one-restores test words again (v ∷ ws) w rest h e =
-    let (t, q) = picked (test v) (got v ws) w rest e in
-    got-as (λ w rest. v ∷ ws ≡ words w ++ rest) v w ws rest q (rw (again v t))
+one-restores test words again ws w rest h e = let (t, q) = one-back test ws w rest e in rw (again w t) q
 
 -- the words of what numbers stand for
 flat-map : {A : Type 0} (of : ℕ → A) (words : A → List ℕ) (ws : List ℕ) → flat words (map of ws) ≡ flat (λ w. words (of w)) ws
@@ -62,7 +66,7 @@ unfolding flat
 flat-map of words [] = refl
 flat-map of words (w ∷ ws) = rw (flat-map of words ws)
 
--- words, each taken for what it stands for
+-- what read on from words, each taken for what it stands for
 pub words-then : {A B G : Type 0} (test : ℕ → Bool) (of : ℕ → A) (words : A → List ℕ) → ((w : ℕ) → test w ≡ true → words (of w) ≡ w ∷ [])
     → (list : List ℕ → List A) → ((ws : List ℕ) → list ws ≡ map of ws)
     → (n : ℕ) (ws : List ℕ) (k : List ℕ → List ℕ → Parsed B) (b : B) (rest : List ℕ) → next (several n (one test) ws) k ≡ got b rest
