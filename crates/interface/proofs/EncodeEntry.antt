@@ -238,7 +238,8 @@ encodable-parts rs e h =
       clip = clip;
     }
 
-module _ (rs : List Resource) (few : length rs ≤ 128) (e : EntryPoint) (rest : List ℕ) where
+-- the words of an entry point's parts, each with all that stands behind it
+module _ (e : EntryPoint) (rest : List ℕ) where
   abbrev outputs-on : List ℕ
   outputs-on = flat varyingWords (e .outputs) ++ rest
 
@@ -257,10 +258,14 @@ module _ (rs : List Resource) (few : length rs ≤ 128) (e : EntryPoint) (rest :
   abbrev workgroup-on : List ℕ
   workgroup-on = workgroupWords (e .workgroup) ++ payloadWord (e .payload) ∷ mesh-on
 
-  laid : entryPointWords e ++ rest ≡ headWord e ∷ (packName (e .name) ++ workgroup-on)
+  abbrev pub entry-on : List ℕ
+  entry-on = headWord e ∷ (packName (e .name) ++ workgroup-on)
+
+  pub laid : entryPointWords e ++ rest ≡ entry-on
   unfolding entryPointWords
   laid = simp append-assoc
 
+module _ (rs : List Resource) (few : length rs ≤ 128) (e : EntryPoint) (rest : List ℕ) where
   module _ (h : EncodableParts rs e) where
     few-bytes : (1 ≤ length (e .name)) × (length (e .name) ≤ 64)
     few-bytes =
@@ -276,24 +281,24 @@ module _ (rs : List Resource) (few : length rs ≤ 128) (e : EntryPoint) (rest :
         let i : Listed (indexWellFormed (length rs)) contents (e .resources) (flat indexWords (e .resources)) = indexes (length rs) few (e .resources) (h .resources) in
         let p : Listed (pairWellFormed rs (e .resources)) pairsOf (e .pairs) (flat pairWords (e .pairs)) = pairs rs few (e .resources) (e .pairs) (h .pairs) in
         rw (
-          laid,
+          laid e rest,
           head-well-formed e (few-bytes .0) (few-bytes .1),
           w .name,
-          name-got (e .name) workgroup-on (h .name),
-          workgroup-got (e .workgroup) (payloadWord (e .payload) ∷ mesh-on) (h .workgroup),
+          name-got (e .name) (workgroup-on e rest) (h .name),
+          workgroup-got (e .workgroup) (payloadWord (e .payload) ∷ mesh-on e rest) (h .workgroup),
           payload-well-formed (e .payload) (h .payload),
           w .mesh,
-          mesh-got (e .mesh) (countsWord e ∷ indexes-on) (h .mesh),
+          mesh-got (e .mesh) (countsWord e ∷ indexes-on e rest) (h .mesh),
           c .kind,
           c .high,
           c .resources,
-          index-got (length rs) (e .resources) pairs-on i,
+          index-got (length rs) (e .resources) (pairs-on e rest) i,
           i .again,
           c .pairs,
-          pair-got rs (e .resources) (e .pairs) inputs-on p,
+          pair-got rs (e .resources) (e .pairs) (inputs-on e rest) p,
           p .again,
           c .inputs,
-          records-got (readVarying 4) varyingWords (varyingEncodable 4) (λ v rest. varying-got 4 (omega arith) rest v) (e .inputs) outputs-on (h .inputs),
+          records-got (readVarying 4) varyingWords (varyingEncodable 4) (λ v rest. varying-got 4 (omega arith) rest v) (e .inputs) (outputs-on e rest) (h .inputs),
           c .outputs,
           records-got (readVarying 5) varyingWords (varyingEncodable 5) (λ v rest. varying-got 5 (omega arith) rest v) (e .outputs) rest (h .outputs),
           h .clip,

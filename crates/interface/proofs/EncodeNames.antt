@@ -11,7 +11,7 @@ use Rattle.word.specs.Words.{bits}
 use Rattle.word.specs.Parse.{got}
 use Rattle.word.specs.Lists.{every}
 use Rattle.word.proofs.Truth.{first, second}
-use Rattle.word.proofs.Lists.{every-first, every-others}
+use Rattle.word.proofs.Lists.{every-first, every-others, every-any}
 use Rattle.interface.specs.Format.{bytesOf, noZero, allZero, nameWords, readName, packName}
 use Rattle.interface.specs.Encodable.{nameEncodable}
 use Rattle.interface.proofs.EncodeRecords.{words-got, next-got}
@@ -79,16 +79,11 @@ packed (a ∷ b ∷ c ∷ d ∷ name) h =
     let n : Packed name (bytesOf (packName name)) = packed name (every-others byte d name m) in
     record { kept = rw (w .first-byte, w .second-byte, w .third-byte, w .fourth-byte, n .kept); padded = n .padded }
 
-any-words : (words : List ℕ) → every (λ w. true) words ≡ true
-unfolding every
-any-words [] = refl
-any-words (w ∷ words) = any-words words
-
 pub name-got : (name rest : List ℕ) → nameEncodable name ≡ true → readName (length name) (packName name ++ rest) ≡ got name rest
 unfolding readName
 name-got name rest h =
     let n : ℕ = length name in
     let i : noZero name && every byte name ≡ true = second (leb n 64) _ (second (leb 1 n) _ h) in
     let p : Packed name (bytesOf (packName name)) = packed name (second (noZero name) (every byte name) i) in
-    next-got _ _ (packName name) rest _ (rw (packed-length name) at (words-got (λ w. true) (packName name) rest (any-words (packName name))))
+    next-got _ _ (packName name) rest _ (rw (packed-length name) at (words-got (λ w. true) (packName name) rest (every-any (packName name))))
     (rw (p .kept, first (noZero name) (every byte name) i, p .padded))

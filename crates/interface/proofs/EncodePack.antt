@@ -83,6 +83,16 @@ pub record Two (kind high low w : ℕ) : Type 0 where
 two : (kind high low : ℕ) → high < 2 ^ 11 → low < 2 ^ 16 → Two kind high low (ofKind kind (2 ^ 16 * high + low))
 two kind high low h l = omega arith
 
+-- the records with what stands behind them
+abbrev pub records-on : Interface → List ℕ → List ℕ
+records-on i rest =
+    ofKind 2 (2 ^ 16 * length (i .resources) + length (i .entries))
+    ∷ (limitWords (i .limits) ++ (flat resourceWords (i .resources) ++ (flat entryPointWords (i .entries) ++ rest)))
+
+pub laid : (i : Interface) (rest : List ℕ) → recordWords i ++ rest ≡ records-on i rest
+unfolding recordWords
+laid i rest = simp append-assoc
+
 module _ (i : Interface) (h : EncodablePack i) where
   written : length (encode i) ≡ length (recordWords i) + 2
   unfolding encode
@@ -98,11 +108,6 @@ module _ (i : Interface) (h : EncodablePack i) where
   totals : Two 2 (length (i .resources)) (length (i .entries)) (ofKind 2 (2 ^ 16 * length (i .resources) + length (i .entries)))
   totals = two 2 (length (i .resources)) (length (i .entries)) (omega (arith, h .few-resources)) (omega (arith, h .few-entries))
 
-  laid : (rest : List ℕ) → recordWords i ++ rest ≡ ofKind 2 (2 ^ 16 * length (i .resources) + length (i .entries))
-      ∷ (limitWords (i .limits) ++ (flat resourceWords (i .resources) ++ (flat entryPointWords (i .entries) ++ rest)))
-  unfolding recordWords
-  laid rest = simp append-assoc
-
   records-read : (rest : List ℕ) → readPack (openWords i ++ rest) ≡ got i rest
   unfolding readPack
   records-read rest =
@@ -110,7 +115,7 @@ module _ (i : Interface) (h : EncodablePack i) where
       rw (
         edition .is,
         edition .upper,
-        laid rest,
+        laid i rest,
         totals .is,
         totals .upper,
         totals .lower,

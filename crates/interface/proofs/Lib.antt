@@ -9,6 +9,11 @@ pub mod EncodeNames
 pub mod EncodePack
 pub mod EncodeRecords
 pub mod EncodeVaryings
+pub mod RestoreRecords
+pub mod RestoreNames
+pub mod RestoreEntry
+pub mod RestorePack
+pub mod RestoreVaryings
 pub mod Passing
 pub mod Packs
 pub mod Examples

@@ -15,7 +15,7 @@ use Rattle.word.specs.Lists.{every}
 use Rattle.bindings.specs.Format.{readResource, resourceEncodable}
 use Rattle.bindings.specs.declared.types.Resource.{Resource}
 use Rattle.bindings.proofs.ReadLaws.{read-encodable}
-use Rattle.word.proofs.Truth.{first, second, by-test}
+use Rattle.word.proofs.Truth.{first, second}
 use Rattle.word.proofs.Lists.{every-first, every-others}
 use Rattle.word.proofs.Parse.{Yields, yields-next, yields-pick}
 use Rattle.varying.specs.Format.{locationWellFormed, varWellFormed, payloadWellFormed, payloadEncodable}
@@ -23,10 +23,11 @@ use Rattle.varying.proofs.Joined.{var-encodable, payload-encodable}
 use Rattle.interface.specs.Meaning.{EntryPoint, Interface, entryPointNth}
 use Rattle.interface.specs.Format.{readVarying, builtInWellFormed, clips, contents, indexWellFormed, pairGood, pairWellFormed, pairOf, pairsOf}
 use Rattle.interface.specs.Format.{headWellFormed, readName, readWorkgroup, readMesh, countsWellFormed, readEntryPoint, ofWord}
-use Rattle.interface.specs.Format.{editionWellFormed, totalsWellFormed, distinctNames, readPack, damaged, Pack, whole, body, decode}
+use Rattle.interface.specs.Format.{editionWellFormed, totalsWellFormed, distinctNames, readPack, Pack, body, decode}
 use Rattle.interface.specs.Encodable.{count, builtInEncodable, varyingEncodable}
 use Rattle.interface.specs.declared.types.BuiltIn.the-variants as In
 use Rattle.interface.specs.declared.types.Varying.{Varying}
+use Rattle.interface.proofs.ReadsPack.{decoded}
 use Rattle.interface.proofs.Passing.{yields-as, yields-known, yields-both, one-yields, several-yields, all-read}
 
 -- ---- indexes and pairs
@@ -163,17 +164,8 @@ pack-yields ws =
     λ entries rest good.
     yields-pick GivenPack (distinctNames entries) _ _ (rw (encodable, good)) tt
 
-whole-yields : (x : Parsed Interface) (i : Interface) → Yields GivenPack x → whole x ≡ Pack i → packGiven i ≡ true
-whole-yields fault i h e = let z : _≡_ {A = ℕ} 0 1 = cc in absurd (omega arith)
-whole-yields (got j []) i h e = let s : j ≡ i = cc in rw (← s) h
-whole-yields (got j (w ∷ ws)) i h e = let z : _≡_ {A = ℕ} 0 1 = cc in absurd (omega arith)
-
 pub decoded-encodable : (ws : List ℕ) (i : Interface) → decode ws ≡ Pack i → packGiven i ≡ true
-unfolding decode
-decoded-encodable ws i e =
-    by-test (damaged ws)
-    (λ t. let f = rw t at e in let z : _≡_ {A = ℕ} 0 1 = cc in absurd (omega arith))
-    (λ n. whole-yields (readPack (body ws)) i (pack-yields (body ws)) (rw n at e))
+decoded-encodable ws i e = rw (decoded ws i e .1) at (pack-yields (body ws))
 
 -- ---- by position: behind the last entry point stands an empty one
 

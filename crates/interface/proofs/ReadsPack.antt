@@ -2,20 +2,20 @@
 use Prim.Native.Nat.{ℕ, _+_, _-_, _<_, _≤_}
 use native.Mathlib.Omega.{arith}
 use mathlib.Core.Path.{_≡_, refl, sym, ap, _∙_}
-use mathlib.Core.Bool.{Bool, true, false, _&&_}
+use mathlib.Core.Bool.{Bool, true, false, not, _&&_}
 use mathlib.Core.List.{List, [], _∷_}
-use borrow.Author.Tests.{leb-true, ltb-false}
-use lib.Dec.{leb, ltb, lit<}
+use borrow.Author.Tests.{eqb-true, leb-true, ltb-false, not-false}
+use lib.Dec.{eqb, leb, ltb, lit<}
 use lib.ListN.{length, take, drop, take-append-drop, length-drop}
 use lib.Seq.{getD-take}
 use Rattle.word.specs.Choice.{pick}
-use Rattle.word.specs.Words.{wordAt, contentOf}
+use Rattle.word.specs.Words.{wordAt, contentOf, bits, closingSum}
 use Rattle.word.specs.Parse.{Parsed, fault, got, next, one}
 use Rattle.word.proofs.ParseReads.{Stands, next-then, next-reads, picked, one-stands, one-reads, several-words}
 use Rattle.bindings.specs.Format.{readResource, resource, resourceAt, isBufferWord, placeWellFormed, resourceWordWellFormed, sizeWellFormed}
 use Rattle.bindings.specs.declared.types.Resource.{Resource}
 use Rattle.bindings.proofs.ReadLaws.{type-sizeless}
-use Rattle.word.proofs.Truth.{first, second, neither}
+use Rattle.word.proofs.Truth.{first, second, neither, by-test}
 use Rattle.interface.specs.Meaning.{Interface}
 use Rattle.interface.specs.Format.{readPack, readEntryPoint, editionWellFormed, totalsWellFormed, ofWord, limitsOf, distinctNames, Decoded, Damaged, Malformed, Pack, damaged, whole, body, decode, decodedNumber}
 use Rattle.interface.specs.Format.{interfaceOf}
@@ -112,25 +112,48 @@ whole-got fault i e = cc
 whole-got (got j []) i e = cc
 whole-got (got j (w ∷ ws)) i e = cc
 
-module _ (ws : List ℕ) (i : Interface) where
-  by-damaged : (b : Bool) → damaged ws ≡ b → pick b Damaged (whole (readPack (body ws))) ≡ Pack i → Accepted ws i
-  unfolding damaged
-  by-damaged true h e = absurd (let z : _≡_ {A = ℕ} 0 1 = cc in omega arith)
-  by-damaged false h e =
-      let (p, s, f) = pack-stands ws (drop (length ws - 1) ws) (body ws) (split ws) i [] (whole-got (readPack (body ws)) i e) in
-      let (a, b) = neither (ltb (length ws) 16) _ h in
-      let (c, d) = neither (ltb 4096 (length ws)) _ b in
-      let u : leb (resourceCount ws) 128 && leb (entryCount ws) 16 ≡ true = second (ofWord 2 (wordAt ws 1)) _ f in
-      record {
-        limits = ap (λ (i : Interface). i .limits) p ∙ limits-taken (drop 2 ws);
-        resources = ap (λ (i : Interface). i .resources) p;
-        entries = ap (λ (i : Interface). i .entries) p;
-        ends = before-closing ws (endFrom (entryEnd ws) (entryCount ws) (entriesAt ws)) (ltb-false (length ws) 16 a) s;
-        few-resources = leb-true (resourceCount ws) 128 (first (leb (resourceCount ws) 128) (leb (entryCount ws) 16) u);
-        few-entries = leb-true (entryCount ws) 16 (second (leb (resourceCount ws) 128) (leb (entryCount ws) 16) u);
-        long = ltb-false (length ws) 16 a;
-        short = ltb-false 4096 (length ws) c;
-      }
+-- what holds of words that are not damaged
+pub record Sound (ws : List ℕ) : Type 0 where
+  pub long : 16 ≤ length ws
+  pub short : length ws ≤ 4096
+  pub counted : bits 15 0 (wordAt ws 0) ≡ length ws
+  pub summed : wordAt ws (length ws - 1) ≡ closingSum ws
+
+sound : (ws : List ℕ) → damaged ws ≡ false → Sound ws
+unfolding damaged
+sound ws h =
+    let (a, b) = neither (ltb (length ws) 16) _ h in
+    let (c, d) = neither (ltb 4096 (length ws)) _ b in
+    let (f, g) = neither (not (eqb (bits 15 0 (wordAt ws 0)) (length ws))) _ d in
+    record {
+      long = ltb-false (length ws) 16 a;
+      short = ltb-false 4096 (length ws) c;
+      counted = eqb-true (bits 15 0 (wordAt ws 0)) (length ws) (not-false _ f);
+      summed = eqb-true (wordAt ws (length ws - 1)) (closingSum ws) (not-false _ g);
+    }
+
+-- a pack that decodes is not damaged, and its records end at the closing word
+pub decoded : (ws : List ℕ) (i : Interface) → decode ws ≡ Pack i → Sound ws × (readPack (body ws) ≡ got i [])
+unfolding decode
+decoded ws i e =
+    by-test (damaged ws) (λ t. let f = rw t at e in let z : _≡_ {A = ℕ} 0 1 = cc in absurd (omega arith))
+    (λ n. (sound ws n, whole-got (readPack (body ws)) i (rw n at e)))
+
+pack-accepted : (ws : List ℕ) (i : Interface) → decode ws ≡ Pack i → Accepted ws i
+pack-accepted ws i e =
+    let (k, g) = decoded ws i e in
+    let (p, s, f) = pack-stands ws (drop (length ws - 1) ws) (body ws) (split ws) i [] g in
+    let u : leb (resourceCount ws) 128 && leb (entryCount ws) 16 ≡ true = second (ofWord 2 (wordAt ws 1)) _ f in
+    record {
+      limits = ap (λ (i : Interface). i .limits) p ∙ limits-taken (drop 2 ws);
+      resources = ap (λ (i : Interface). i .resources) p;
+      entries = ap (λ (i : Interface). i .entries) p;
+      ends = before-closing ws (endFrom (entryEnd ws) (entryCount ws) (entriesAt ws)) (k .long) s;
+      few-resources = leb-true (resourceCount ws) 128 (first (leb (resourceCount ws) 128) (leb (entryCount ws) 16) u);
+      few-entries = leb-true (entryCount ws) 16 (second (leb (resourceCount ws) 128) (leb (entryCount ws) 16) u);
+      long = k .long;
+      short = k .short;
+    }
 
 pub accepted : (ws : List ℕ) → decodedNumber (decode ws) ≡ 0 → Accepted ws (interfaceOf (decode ws))
 accepted ws h = by (decode ws) refl h
@@ -138,4 +161,4 @@ accepted ws h = by (decode ws) refl h
     by : (d : Decoded) → decode ws ≡ d → decodedNumber d ≡ 0 → Accepted ws (interfaceOf d)
     by Damaged e z = absurd (omega arith)
     by Malformed e z = absurd (omega arith)
-    by (Pack i) e z = unfold decode in by-damaged ws i (damaged ws) refl e
+    by (Pack i) e z = pack-accepted ws i e

@@ -21,6 +21,10 @@ contentOf w = w % 2 ^ 27
 abbrev pub content : ℕ → Bool
 content n = ltb n (2 ^ 27)
 
+-- a number that 32 bits hold
+abbrev pub isWord : ℕ → Bool
+isWord w = ltb w (2 ^ 32)
+
 -- bits HIGH–LOW of a word, as document 01 writes them
 abbrev pub bits : ℕ → ℕ → ℕ → ℕ
 bits high zero w = w % 2 ^ suc high
