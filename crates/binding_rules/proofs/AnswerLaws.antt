@@ -23,7 +23,7 @@ use Rattle.bindings.specs.declared.types.Derived.{Derived}
 use Rattle.bindings.specs.declared.types.Derived.the-variants as Der
 use Rattle.word.proofs.Truth.{second, never}
 use Rattle.bindings.proofs.ReadLaws.{read-at, read-encodable}
-use Rattle.bindings.proofs.DerivedServes.{derived-encodable}
+use Rattle.bindings.proofs.DerivedTypes.{derived-encodable}
 
 -- what the words alone are
 abbrev pub Alone : List ℕ → Bool → Type 0

@@ -1,12 +1,12 @@
 -- Binding types that are the same are equal, and words that can hold them tell them apart by code and least size.
 use Prim.Native.Nat.{ℕ}
-use mathlib.Core.Path.{_≡_, refl, sym}
+use mathlib.Core.Path.{_≡_, refl}
 use mathlib.Core.Bool.{Bool, true, false, _&&_, false≢true}
 use lib.Dec.{eqb}
 use borrow.Author.Tests.{eqb-true, eq-eqb}
 use Rattle.word.specs.Choice.{yes}
 use Rattle.bindings.specs.Rules.{accessOf, sameBool, viewCode, sameView, sameBuffer, sameSampler, sameSample, sameAccess, sameAsBuffer, sameAsSampler, sameAsTexture, sameAsStorageTexture, sameAsExternal, sameAsAcceleration, sameBinding}
-use Rattle.bindings.specs.Format.{viewAt, bindingCode, leastSize, formatEncodable}
+use Rattle.bindings.specs.Format.{bindingCode, leastSize, formatEncodable}
 use Rattle.bindings.specs.declared.types.BufferBindingType.{BufferBindingType}
 use Rattle.bindings.specs.declared.types.BufferBindingType.the-variants as Buf
 use Rattle.bindings.specs.declared.types.SamplerBindingType.{SamplerBindingType}
@@ -20,7 +20,7 @@ use Rattle.bindings.specs.declared.types.BindingType.{BindingType}
 use Rattle.bindings.specs.declared.types.BindingType.the-variants as Bind
 use Rattle.word.proofs.Truth.{first, second, by-test}
 use Rattle.bindings.proofs.EntryFormat.{view-read, type-read}
-use Rattle.bindings.proofs.DerivedServes.{same-bool}
+use Rattle.bindings.proofs.DerivedTypes.{same-bool}
 
 -- ---- parts that pass their tests are equal
 

@@ -19,7 +19,7 @@ use Rattle.bindings.specs.declared.types.TextureSampleType.the-variants 
 use Rattle.bindings.specs.declared.types.BindingUse.{BindingUse}
 use Rattle.bindings.specs.declared.types.BindingUse.the-variants as Use
 use Rattle.word.proofs.Truth.{by-test}
-use Rattle.bindings.proofs.DerivedServes.{same-bool}
+use Rattle.bindings.proofs.DerivedTypes.{same-bool}
 use Rattle.bindings.proofs.ReadLaws.{by-resource}
 use Rattle.bindings.proofs.EntryFormat.{view-back}
 

@@ -333,36 +333,3 @@ deriveBindingType (Res.AccelerationStructure returns) named = Der.Binding (Bind.
 abbrev pub derivedNumber : Derived → ℕ
 derivedNumber (Der.Binding ty) = 0
 derivedNumber Der.WrongBufferAddressSpace = Number.wrongBufferAddressSpace
-
--- ---- demand 3's conditions on a resource
-
--- 'storage buffers are load or load with store, its arrayed textures 2D or cube, its external textures 2D and not arrayed,
--- its atomic storage textures also load and store'
-abbrev pub spaceReusable : AddressSpace → Bool
-spaceReusable Space.Uniform = true
-spaceReusable (Space.Storage access) = eqb access 1 || eqb access 3
-spaceReusable Space.Other = true
-
-abbrev pub arrayReusable : ImageDimension → Bool → Bool
-arrayReusable Dim.D1 arrayed = not arrayed
-arrayReusable Dim.D2 arrayed = true
-arrayReusable Dim.D3 arrayed = not arrayed
-arrayReusable Dim.Cube arrayed = true
-
-abbrev pub plain2D : ImageDimension → Bool → Bool
-plain2D Dim.D1 arrayed = false
-plain2D Dim.D2 arrayed = not arrayed
-plain2D Dim.D3 arrayed = false
-plain2D Dim.Cube arrayed = false
-
-abbrev pub classReusable : ImageDimension → Bool → ImageClass → Bool
-classReusable dim arrayed (Class.Sampled kind multi) = true
-classReusable dim arrayed (Class.Depth multi) = true
-classReusable dim arrayed (Class.Storage format access) = ltb access 4 || eqb access 7
-classReusable dim arrayed Class.External = plain2D dim arrayed
-
-unfoldable pub resourceReusable : ResourceType → Bool
-resourceReusable (Res.Buffer size space) = spaceReusable space
-resourceReusable (Res.Sampler comparison) = true
-resourceReusable (Res.Texture dim arrayed class) = arrayReusable dim arrayed && classReusable dim arrayed class
-resourceReusable (Res.AccelerationStructure returns) = true

@@ -19,7 +19,7 @@ use Rattle.bindings.specs.declared.types.BindingType.{BindingType}
 use Rattle.bindings.specs.declared.types.Derived.{Derived}
 use Rattle.bindings.specs.declared.types.Derived.the-variants as Der
 use Rattle.bindings.proofs.SameBinding.{same-binding-eq}
-use Rattle.bindings.proofs.DerivedServes.{derived-encodable}
+use Rattle.bindings.proofs.DerivedTypes.{derived-encodable}
 use Rattle.word.proofs.Truth.{first, second, by-test, never}
 use Rattle.layouts.specs.Meaning.{Layout, findEntry, entryPlaces, entryHas, entryNth, pushed, seesBit, joined, roomForEntry}
 use Rattle.places.specs.Places.{samePlace}

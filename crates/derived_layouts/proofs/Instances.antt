@@ -39,7 +39,8 @@ use Rattle.word.specs.Parse.{several}
 use Rattle.word.specs.Lists.{flat, among, every}
 use Rattle.numeric.specs.TypeWords.{typeWellFormed, typeOf, typeWord}
 use Rattle.bindings.specs.Rules.{sameSpace, bufferUse, samplerUse, viewFits, sampledFits, storageFits, textureUse, checkBindingUse, sameBinding, derivedTexture}
-use Rattle.bindings.specs.Rules.{deriveBindingType, resourceReusable}
+use Rattle.bindings.specs.Rules.{deriveBindingType}
+use Rattle.derived_layouts.specs.Reusable.{resourceReusable}
 use Rattle.bindings.specs.Format.{resourceTypeWellFormed, resourceTypeOf, readResource, resourceWords, bindingTypeWellFormed, bindingTypeOf, entryWellFormed, entryOf}
 use Rattle.bindings.specs.Format.{bindingCode, entryWords}
 use Rattle.varying.specs.Format.{varWellFormed, varOf, varWord, payloadWellFormed, payloadOf, payloadWord}

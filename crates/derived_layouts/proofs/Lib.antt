@@ -1,3 +1,4 @@
+pub mod Serves
 pub mod Entries
 pub mod Growth
 pub mod Derives

@@ -3,7 +3,7 @@ use Prim.Native.Nat.{ℕ, zero, suc}
 use mathlib.Core.Path.{_≡_, refl}
 use mathlib.Core.Bool.{true}
 use mathlib.Core.List.{List, [], _∷_}
-use Rattle.bindings.specs.Rules.{resourceReusable}
+use Rattle.derived_layouts.specs.Reusable.{resourceReusable}
 use Rattle.bindings.specs.declared.types.Resource.{Resource}
 use Rattle.word.proofs.Truth.{first, second}
 use Rattle.word.proofs.Lists.{first-passes, rest-passes}

@@ -10,14 +10,14 @@ use borrow.Author.Tests.{eq-eqb, le-leb}
 use Rattle.word.specs.Choice.{pick}
 use Rattle.word.specs.Answers.{accepted}
 use Rattle.word.specs.Lists.{among}
-use Rattle.bindings.specs.Rules.{resourceReusable}
+use Rattle.derived_layouts.specs.Reusable.{resourceReusable}
 use Rattle.bindings.specs.Format.{typeEncodable}
 use Rattle.bindings.specs.declared.types.ResourceBinding.{ResourceBinding}
 use Rattle.bindings.specs.declared.types.AddressSpace.{AddressSpace}
 use Rattle.bindings.specs.declared.types.Resource.{Resource}
 use Rattle.bindings.specs.declared.types.ResourceType.{ResourceType}
 use Rattle.bindings.specs.declared.types.ResourceType.the-variants as Res
-use Rattle.bindings.proofs.DerivedServes.{derived-accepted}
+use Rattle.derived_layouts.proofs.Serves.{derived-accepted}
 use Rattle.word.proofs.Truth.{by-test}
 use Rattle.layouts.specs.Meaning.{Layout, findEntry, distinctEntries}
 use Rattle.sizes.specs.Meaning.{Sizes, sizePlaces, sizeHas, raiseAt, sizeRecord, recorded, sizeRecordWidth}

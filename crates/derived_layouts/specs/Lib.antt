@@ -1,1 +1,2 @@
+pub mod Reusable
 pub mod Theorem

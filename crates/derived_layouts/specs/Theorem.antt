@@ -7,7 +7,7 @@ use lib.Dec.{ltb}
 use lib.ListN.{length, take}
 use Rattle.word.specs.Choice.{pick}
 use Rattle.word.specs.Answers.{accepted}
-use Rattle.bindings.specs.Rules.{resourceReusable}
+use Rattle.derived_layouts.specs.Reusable.{resourceReusable}
 use Rattle.bindings.specs.declared.types.Resource.{Resource}
 use Rattle.bindings.specs.declared.types.ResourceType.{ResourceType}
 use Rattle.bindings.specs.declared.types.ResourceType.the-variants as Res

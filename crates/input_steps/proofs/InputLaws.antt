@@ -16,7 +16,7 @@ use Rattle.numeric.specs.Types.{fits}
 use Rattle.numeric.specs.TypeWords.{typeOf}
 use Rattle.numeric.proofs.Subtype.{fits-itself}
 use Rattle.bindings.specs.Rules.{sameBool}
-use Rattle.bindings.proofs.DerivedServes.{same-bool}
+use Rattle.bindings.proofs.DerivedTypes.{same-bool}
 use Rattle.varying.specs.Format.{locationWellFormed, varOf}
 use Rattle.varying.specs.declared.InterfaceVar.{InterfaceVar}
 use Rattle.varying.specs.declared.Located.{Located}

@@ -1,21 +1,20 @@
 -- Demand 1 for the other functions that answer: each gives one of its numbers, and acceptance names no details but those said.
 use Prim.Native.Nat.{ℕ}
 use mathlib.Core.Path.{_≡_, refl}
-use mathlib.Core.Bool.{Bool, true, false}
+use mathlib.Core.Bool.{Bool, true}
 use mathlib.Core.List.{List, [], _∷_}
-use lib.Dec.{eqb, ltb}
+use lib.Dec.{ltb}
 use Rattle.word.specs.Lists.{among, every}
 use Rattle.word.specs.Numbers as Number
 use Rattle.word.specs.Parse.{Parsed, fault, got}
-use Rattle.word.specs.Answers.{accepted, refused}
+use Rattle.word.specs.Answers.{refused}
 use Rattle.word.specs.declared.answer.Answer.{Answer}
 use Rattle.word.proofs.Truth.{by-test}
 use Rattle.numeric.specs.Types.{fits}
-use Rattle.numeric.specs.TypeWords.{typeWord}
 use Rattle.numeric.specs.declared.types.NumericType.{NumericType}
 use Rattle.numeric.specs.declared.type_words.TypeRead.{TypeRead}
 use Rattle.numeric.specs.declared.type_words.TypeRead.the-variants.{Numeric, Bad}
-use Rattle.formats.specs.Formats.{known, below, floatVertexFormat, vertexFormat, otherTextureFormat, textureFormat, formatAnswer, checkType, checkTextureFormat}
+use Rattle.formats.specs.Formats.{below, floatVertexFormat, vertexFormat, textureFormat, formatAnswer, checkType, checkTextureFormat}
 use Rattle.formats.specs.declared.formats.FormatType.{FormatType}
 use Rattle.formats.specs.declared.formats.FormatType.the-variants.{Known, NoColour, Unknown}
 use Rattle.bindings.specs.Rules.{checkBindingUse, useNumber, deriveBindingType}
@@ -28,7 +27,6 @@ use Rattle.bindings.specs.declared.types.BindingUse.{BindingUse}
 use Rattle.bindings.specs.declared.types.BindingUse.the-variants as Use
 use Rattle.bindings.specs.declared.types.Derived.{Derived}
 use Rattle.bindings.specs.declared.types.Derived.the-variants as Der
-use Rattle.interface.specs.Meaning.{Interface}
 use Rattle.interface.specs.Format.{Decoded, Damaged, Malformed, Pack, stageAt}
 use Rattle.entry_points.specs.Rules.{onlyEntryPoint, onlyAnswer, finalizeName}
 use Rattle.entry_points.specs.declared.choose.Chosen.{Chosen}

@@ -1,26 +1,23 @@
 -- Demand 1: a stage check always answers with a number of document 01's table, and says what a refusal leaves in the lent lists.
-use Prim.Native.Nat.{ℕ}
-use mathlib.Core.Path.{_≡_, refl, sym, ap, _∙_}
+use mathlib.Core.Path.{_≡_, refl, sym, _∙_}
 use mathlib.Core.Bool.{Bool, true, false, not, _&&_, false≢true}
-use mathlib.Core.List.{List, [], _∷_, _++_}
-use lib.Dec.{eqb}
-use native.Mathlib.Omega.{arith}
-use borrow.Author.Tests.{eqb-true, eqb-false, ne-eqb, not-true}
-use Rattle.word.specs.Choice.{pick, yes}
+use mathlib.Core.List.{_++_}
+use borrow.Author.Tests.{ne-eqb, not-true}
+use Rattle.word.specs.Choice.{yes}
 use Rattle.word.specs.Answers.{refused}
 use Rattle.word.specs.Lists.{among, every}
 use Rattle.word.specs.declared.answer.Answer.{Answer}
 use Rattle.word.proofs.Truth.{first, second, by-test}
-use Rattle.layouts.specs.Format.{layoutWellFormed, decodeLayout, encodeLayout}
+use Rattle.layouts.specs.Format.{layoutWellFormed, decodeLayout}
 use Rattle.layouts.proofs.LayoutLists as layouts
-use Rattle.sizes.specs.Format.{sizesWellFormed, decodeSizes, encodeSizes}
+use Rattle.sizes.specs.Format.{sizesWellFormed, decodeSizes}
 use Rattle.sizes.proofs.SizeLists as sizes
 use Rattle.stage_lists.specs.Format.{stageWellFormed, decodeStage}
-use Rattle.interface.specs.Meaning.{EntryPoint, Interface, entryPointNth}
+use Rattle.interface.specs.Meaning.{entryPointNth}
 use Rattle.stage.specs.Meaning.{Call, Outcome}
-use Rattle.stage.specs.Stage.{requestOf, derivedOf, listsGood, codesGood, callGood, stageBody, unchanged, finish, runBody, checkStage}
-use Rattle.refusals.specs.Table.{early, callNumbers, resourceNumbers, judgementNumbers, stageNumbers, table, plainFrom, answered}
-use Rattle.refusals.specs.Kept.{refusesAt, refusesOne, layoutKept, sizesKept, Kept}
+use Rattle.stage.specs.Stage.{requestOf, derivedOf, listsGood, codesGood, callGood, unchanged, finish, runBody, checkStage}
+use Rattle.refusals.specs.Table.{early, callNumbers, resourceNumbers, judgementNumbers, stageNumbers, answered}
+use Rattle.refusals.specs.Kept.{refusesOne, layoutKept, sizesKept, Kept}
 use Rattle.refusals.proofs.Known.{AnswerOf, passes, fails, every-among, answered-by}
 use Rattle.refusals.proofs.Calls.{runOf, Runs, runs-on, by-call}
 use Rattle.refusals.proofs.Kept.{BodyKept, body-kept}

@@ -1,10 +1,9 @@
 -- What the steps of a stage check leave in the lists, over the meaning.
 use Prim.Native.Nat.{ℕ, _+_}
-use mathlib.Core.Path.{_≡_, refl, sym, ap, _∙_}
-use mathlib.Core.Bool.{Bool, true, false, not, _&&_, false≢true}
+use mathlib.Core.Path.{_≡_, refl, ap}
+use mathlib.Core.Bool.{Bool, true, false, not, _&&_}
 use mathlib.Core.List.{List, [], _∷_, _++_}
 use lib.Dec.{eqb}
-use lib.ListN.{length}
 use borrow.Author.Tests.{ne-eqb}
 use Rattle.word.specs.Choice.{pick, yes}
 use Rattle.word.specs.Answers.{accepted}
@@ -17,7 +16,7 @@ use Rattle.sizes.specs.Meaning.{Sizes}
 use Rattle.stage_lists.specs.Meaning.{StageIo}
 use Rattle.interface.specs.Meaning.{EntryPoint, Interface}
 use Rattle.output_steps.specs.declared.types.Request.{Request}
-use Rattle.resource_steps.specs.Meaning.{State, state}
+use Rattle.resource_steps.specs.Meaning.{State}
 use Rattle.resource_steps.specs.Kept.{enteredAll, sizesEntered}
 use Rattle.resource_steps.specs.Resources.{resourceNth, namedTexture, deriveStep, deriveSteps, provideStep, provideSteps, resourceSteps}
 use Rattle.resource_steps.proofs.Kept.{DerivesAll, derive-all, ProvidesAll, provide-all}

@@ -4,7 +4,7 @@ use mathlib.Core.Path.{_≡_, refl}
 use mathlib.Core.Bool.{Bool, true, false, not, _&&_, false≢true}
 use mathlib.Core.List.{List, [], _∷_, _++_}
 use lib.Dec.{eqb}
-use borrow.Author.Tests.{eqb-true, eq-eqb, not-true}
+use borrow.Author.Tests.{eqb-true, not-true}
 use Rattle.word.specs.Choice.{pick}
 use Rattle.word.specs.Answers.{answer, accepted, both}
 use Rattle.word.specs.Lists.{among, every}

@@ -6,7 +6,7 @@ use lib.Dec.{eqb, ltb}
 use borrow.Author.Tests.{eqb-false, eq-eqb}
 use Rattle.word.proofs.Truth.{by-test}
 use Rattle.word.specs.Numbers as Number
-use Rattle.word.specs.Answers.{answer, accepted, refused}
+use Rattle.word.specs.Answers.{answer, accepted}
 use Rattle.word.specs.declared.answer.Answer.{Answer}
 use Rattle.word.specs.Lists.{among}
 use Rattle.bindings.specs.Rules.{checkBindingUse, useNumber, sameBinding, deriveBindingType}

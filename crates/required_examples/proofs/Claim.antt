@@ -9,7 +9,7 @@ use Rattle.numeric.specs.TypeWords.{typeWellFormed as numeric-typeWellFormed, t
 use Rattle.numeric.specs.Types.{shapeFits as numeric-shapeFits, subtypeOf as numeric-subtypeOf}
 use Rattle.bindings.specs.Answers.{checkWords as bindings-checkWords, deriveWords as bindings-deriveWords}
 use Rattle.bindings.specs.Format.{resourceTypeWellFormed as bindings-resourceTypeWellFormed, resourceTypeOf as bindings-resourceTypeOf, readResource as bindings-readResource, resourceWords as bindings-resourceWords, typeEncodable as bindings-typeEncodable, bindingTypeWellFormed as bindings-bindingTypeWellFormed, bindingTypeOf as bindings-bindingTypeOf, entryWellFormed as bindings-entryWellFormed, entryOf as bindings-entryOf, bindingCode as bindings-bindingCode, entryWords as bindings-entryWords}
-use Rattle.bindings.specs.Rules.{sameSpace as bindings-sameSpace, bufferUse as bindings-bufferUse, samplerUse as bindings-samplerUse, viewFits as bindings-viewFits, sampledFits as bindings-sampledFits, storageFits as bindings-storageFits, textureUse as bindings-textureUse, accelerationUse as bindings-accelerationUse, checkBindingUse as bindings-checkBindingUse, sameBinding as bindings-sameBinding, derivedTexture as bindings-derivedTexture, deriveBindingType as bindings-deriveBindingType, resourceReusable as bindings-resourceReusable}
+use Rattle.bindings.specs.Rules.{sameSpace as bindings-sameSpace, bufferUse as bindings-bufferUse, samplerUse as bindings-samplerUse, viewFits as bindings-viewFits, sampledFits as bindings-sampledFits, storageFits as bindings-storageFits, textureUse as bindings-textureUse, accelerationUse as bindings-accelerationUse, checkBindingUse as bindings-checkBindingUse, sameBinding as bindings-sameBinding, derivedTexture as bindings-derivedTexture, deriveBindingType as bindings-deriveBindingType}
 use Rattle.varying.specs.Format.{varWellFormed as varying-varWellFormed, varOf as varying-varOf, varWord as varying-varWord, payloadWellFormed as varying-payloadWellFormed, payloadOf as varying-payloadOf, payloadWord as varying-payloadWord}
 use Rattle.varying.specs.Rules.{samePayload as varying-samePayload}
 use Rattle.formats.specs.Formats.{floatVertexFormat as formats-floatVertexFormat, vertexFormat as formats-vertexFormat, otherTextureFormat as formats-otherTextureFormat, textureFormat as formats-textureFormat, checkTextureFormat as formats-checkTextureFormat}
@@ -37,5 +37,5 @@ use Rattle.required_examples.specs.Examples.{variables, examples}
 use Rattle.required_examples.specs.Kinds.{sameWords, allHold}
 
 pub examples-hold : allHold examples ≡ true
-unfolding word-yes word-every word-among word-flat word-several word-sumOf word-closingSum numeric-typeWellFormed numeric-typeOf numeric-readType numeric-typeWord numeric-compareTypes numeric-shapeFits numeric-subtypeOf bindings-checkWords bindings-deriveWords bindings-resourceTypeWellFormed bindings-resourceTypeOf bindings-readResource bindings-resourceWords bindings-typeEncodable bindings-bindingTypeWellFormed bindings-bindingTypeOf bindings-entryWellFormed bindings-entryOf bindings-bindingCode bindings-entryWords bindings-sameSpace bindings-bufferUse bindings-samplerUse bindings-viewFits bindings-sampledFits bindings-storageFits bindings-textureUse bindings-accelerationUse bindings-checkBindingUse bindings-sameBinding bindings-derivedTexture bindings-deriveBindingType bindings-resourceReusable varying-varWellFormed varying-varOf varying-varWord varying-payloadWellFormed varying-payloadOf varying-payloadWord varying-samePayload formats-floatVertexFormat formats-vertexFormat formats-otherTextureFormat formats-textureFormat formats-checkTextureFormat places-placeFrom places-placeIn places-distinctPlaces places-countOf places-past places-records places-each places-put layouts-groupsOf layouts-layoutHead layouts-layoutWellFormed layouts-decodeLayout layouts-encodeLayout layouts-layoutGood layouts-entryNth layouts-pushed layouts-joinAt layouts-joined sizes-sizesHead sizes-sizesWellFormed sizes-decodeSizes sizes-encodeSizes sizes-sizesGood sizes-sizeRecorded sizes-raiseAt sizes-recorded stage_lists-stageHead stage_lists-outWellFormed stage_lists-decodeStage stage_lists-encodeStage stage_lists-outGood stage_lists-varyingAt stage_lists-rising stage_lists-insert stage_lists-inserted interface-entryPointEncodable interface-interfaceEncodable interface-readVarying interface-clips interface-bytesOf interface-noZero interface-allZero interface-readName interface-readWorkgroup interface-readMesh interface-contents interface-ofType interface-pairsOf interface-readEntryPoint interface-sameBytes interface-hasName interface-distinctNames interface-readPack interface-damaged interface-decode interface-packName interface-entryPointWords interface-recordWords interface-encode interface-entryPointNth input_steps-vertexInput input_steps-fragmentInput input_steps-inputNumber input_steps-inputStep input_steps-inputSteps input_steps-workgroupUse input_steps-workgroupStep output_steps-meshUse output_steps-payloadMatch output_steps-primitiveUse output_steps-drawUse output_steps-perVertexUse output_steps-lastStep output_steps-localsOf output_steps-stageOut output_steps-clipSlots output_steps-builtInSlots output_steps-localCount output_steps-locationUses output_steps-vertexOutputs output_steps-anyOf output_steps-attachmentUse output_steps-fragmentSlots output_steps-fragmentOutputs output_steps-slotsStep entry_points-findFrom entry_points-onlyFrom entry_points-finalizeName resource_steps-enteredAll resource_steps-sizesEntered resource_steps-resourceNth resource_steps-recordSize resource_steps-providedUse resource_steps-provideStep resource_steps-occupied resource_steps-vacant resource_steps-deriveStep resource_steps-provideSteps resource_steps-namedTexture resource_steps-deriveSteps resource_steps-resourceSteps resource_steps-pairNumber resource_steps-pairUse resource_steps-pairUses stage-behindInputs stage-judgement stage-stageBody stage-listsGood stage-callGood stage-finish stage-runBody stage-checkStage variables examples sameWords allHold
+unfolding word-yes word-every word-among word-flat word-several word-sumOf word-closingSum numeric-typeWellFormed numeric-typeOf numeric-readType numeric-typeWord numeric-compareTypes numeric-shapeFits numeric-subtypeOf bindings-checkWords bindings-deriveWords bindings-resourceTypeWellFormed bindings-resourceTypeOf bindings-readResource bindings-resourceWords bindings-typeEncodable bindings-bindingTypeWellFormed bindings-bindingTypeOf bindings-entryWellFormed bindings-entryOf bindings-bindingCode bindings-entryWords bindings-sameSpace bindings-bufferUse bindings-samplerUse bindings-viewFits bindings-sampledFits bindings-storageFits bindings-textureUse bindings-accelerationUse bindings-checkBindingUse bindings-sameBinding bindings-derivedTexture bindings-deriveBindingType varying-varWellFormed varying-varOf varying-varWord varying-payloadWellFormed varying-payloadOf varying-payloadWord varying-samePayload formats-floatVertexFormat formats-vertexFormat formats-otherTextureFormat formats-textureFormat formats-checkTextureFormat places-placeFrom places-placeIn places-distinctPlaces places-countOf places-past places-records places-each places-put layouts-groupsOf layouts-layoutHead layouts-layoutWellFormed layouts-decodeLayout layouts-encodeLayout layouts-layoutGood layouts-entryNth layouts-pushed layouts-joinAt layouts-joined sizes-sizesHead sizes-sizesWellFormed sizes-decodeSizes sizes-encodeSizes sizes-sizesGood sizes-sizeRecorded sizes-raiseAt sizes-recorded stage_lists-stageHead stage_lists-outWellFormed stage_lists-decodeStage stage_lists-encodeStage stage_lists-outGood stage_lists-varyingAt stage_lists-rising stage_lists-insert stage_lists-inserted interface-entryPointEncodable interface-interfaceEncodable interface-readVarying interface-clips interface-bytesOf interface-noZero interface-allZero interface-readName interface-readWorkgroup interface-readMesh interface-contents interface-ofType interface-pairsOf interface-readEntryPoint interface-sameBytes interface-hasName interface-distinctNames interface-readPack interface-damaged interface-decode interface-packName interface-entryPointWords interface-recordWords interface-encode interface-entryPointNth input_steps-vertexInput input_steps-fragmentInput input_steps-inputNumber input_steps-inputStep input_steps-inputSteps input_steps-workgroupUse input_steps-workgroupStep output_steps-meshUse output_steps-payloadMatch output_steps-primitiveUse output_steps-drawUse output_steps-perVertexUse output_steps-lastStep output_steps-localsOf output_steps-stageOut output_steps-clipSlots output_steps-builtInSlots output_steps-localCount output_steps-locationUses output_steps-vertexOutputs output_steps-anyOf output_steps-attachmentUse output_steps-fragmentSlots output_steps-fragmentOutputs output_steps-slotsStep entry_points-findFrom entry_points-onlyFrom entry_points-finalizeName resource_steps-enteredAll resource_steps-sizesEntered resource_steps-resourceNth resource_steps-recordSize resource_steps-providedUse resource_steps-provideStep resource_steps-occupied resource_steps-vacant resource_steps-deriveStep resource_steps-provideSteps resource_steps-namedTexture resource_steps-deriveSteps resource_steps-resourceSteps resource_steps-pairNumber resource_steps-pairUse resource_steps-pairUses stage-behindInputs stage-judgement stage-stageBody stage-listsGood stage-callGood stage-finish stage-runBody stage-checkStage variables examples sameWords allHold
 examples-hold = refl

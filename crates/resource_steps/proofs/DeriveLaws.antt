@@ -25,7 +25,7 @@ use Rattle.word.proofs.Truth.{by-test}
 use Rattle.bindings.proofs.CodeLaws.{least-fits}
 use Rattle.bindings.proofs.ReadLaws.{place-encodable}
 use Rattle.bindings.proofs.EntryFormat.{type-read, entry-well-formed, entry-read}
-use Rattle.bindings.proofs.DerivedServes.{derived-encodable}
+use Rattle.bindings.proofs.DerivedTypes.{derived-encodable}
 use Rattle.bindings.proofs.SameBinding.{same-binding-refl, other-by-code, other-by-least}
 use Rattle.bindings.proofs.WordLaws.{derived-least}
 use Rattle.layouts.specs.Meaning.{Layout, entryPlaces, findEntry, entryHas, entryNth, pushed, joined, roomForEntry}

@@ -1,68 +1,35 @@
--- The binding type that a resource derives: words can hold it, and under demand 3's conditions it serves the resource.
+-- Under demand 3's conditions the binding type that a resource derives serves it.
 use Prim.Native.Nat.{ℕ, _<_}
 use native.Mathlib.Omega.{arith}
 use mathlib.Core.Path.{_≡_, refl}
 use mathlib.Core.Bool.{Bool, true, false, not, _&&_, _||_}
 use mathlib.Core.List.{List, [], _∷_}
 use lib.Dec.{eqb, ltb}
-use borrow.Author.Tests.{ltb-true, lt-ltb, le-ltb, eqb-false, eq-eqb, not-true}
+use borrow.Author.Tests.{ltb-true, le-ltb, eqb-false, eq-eqb, not-true}
 use Rattle.word.specs.Choice.{pick, yes}
-use Rattle.bindings.specs.Rules.{storable, sameBool, spaceOf, sameSpace, sizeUse, bufferUse, samplerUse, viewFits, classOf, sampledFits, storageFits, accessOf}
+use Rattle.bindings.specs.Rules.{storable, spaceOf, sameSpace, sizeUse, bufferUse, samplerUse, viewFits, classOf, sampledFits, storageFits, accessOf}
 use Rattle.bindings.specs.Rules.{textureUse, accelerationUse, checkBindingUse, useNumber, derivedView, derivedSample, derivedAccess, derivedTexture, deriveBindingType}
-use Rattle.bindings.specs.Rules.{arrayReusable, plain2D, resourceReusable}
-use Rattle.bindings.specs.Format.{typeEncodable, formatEncodable, sizeLimit}
+use Rattle.derived_layouts.specs.Reusable.{arrayReusable, plain2D, resourceReusable}
+use Rattle.bindings.proofs.DerivedTypes.{same-bool}
+use Rattle.bindings.specs.Format.{typeEncodable}
 use Rattle.bindings.specs.declared.types.AddressSpace.the-variants as Space
 use Rattle.bindings.specs.declared.types.ImageDimension.{ImageDimension}
 use Rattle.bindings.specs.declared.types.ImageDimension.the-variants as Dim
 use Rattle.bindings.specs.declared.types.SampleKind.{SampleKind}
 use Rattle.bindings.specs.declared.types.SampleKind.the-variants as Kind
 use Rattle.bindings.specs.declared.types.ImageClass.the-variants as Class
 use Rattle.bindings.specs.declared.types.ResourceType.{ResourceType}
 use Rattle.bindings.specs.declared.types.ResourceType.the-variants as Res
 use Rattle.bindings.specs.declared.types.BufferBindingType.the-variants as Buf
 use Rattle.bindings.specs.declared.types.SamplerBindingType.the-variants as Samp
 use Rattle.bindings.specs.declared.types.TextureViewDimension.the-variants as View
 use Rattle.bindings.specs.declared.types.BindingType.{BindingType}
 use Rattle.bindings.specs.declared.types.BindingType.the-variants as Bind
 use Rattle.bindings.specs.declared.types.BindingUse.{BindingUse}
 use Rattle.bindings.specs.declared.types.BindingUse.the-variants as Use
 use Rattle.bindings.specs.declared.types.Derived.{Derived}
 use Rattle.bindings.specs.declared.types.Derived.the-variants as Der
 use Rattle.word.proofs.Truth.{first, second, by-test, never}
-
--- ---- ranges
-
-storable-encodable : (format : ℕ) → storable format ≡ true → ltb format 77 ≡ true
-storable-encodable format h = let l : format < 43 = search (ltb-true, first) in lt-ltb format 77 (omega arith)
-
-abbrev encodableType : Derived → Bool
-encodableType (Der.Binding ty) = formatEncodable ty
-encodableType Der.WrongBufferAddressSpace = true
-
-encodable-type : (r : ResourceType) (named : Bool) → typeEncodable r ≡ true → encodableType (deriveBindingType r named) ≡ true
-unfolding typeEncodable deriveBindingType derivedTexture
-encodable-type (Res.Buffer size Space.Uniform) named h = first (ltb size sizeLimit) (not (eqb size 0)) h
-encodable-type (Res.Buffer size (Space.Storage access)) named h =
-    first (ltb size sizeLimit) (not (eqb size 0)) (second (ltb access 8) (ltb size sizeLimit && not (eqb size 0)) h)
-encodable-type (Res.Buffer size Space.Other) named h = refl
-encodable-type (Res.Sampler comparison) named h = refl
-encodable-type (Res.Texture dim arrayed (Class.Sampled kind multi)) named h = refl
-encodable-type (Res.Texture dim arrayed (Class.Depth multi)) named h = refl
-encodable-type (Res.Texture dim arrayed (Class.Storage format access)) named h =
-    storable-encodable format (first (storable format) (ltb access 8 && not (eqb access 0)) h)
-encodable-type (Res.Texture dim arrayed Class.External) named h = refl
-encodable-type (Res.AccelerationStructure returns) named h = refl
-
--- a derived type of an encodable resource type can be encoded
-pub derived-encodable : (r : ResourceType) (named : Bool) (ty : BindingType) → typeEncodable r ≡ true → deriveBindingType r named ≡ Der.Binding ty → formatEncodable ty ≡ true
-derived-encodable r named ty h d = rw d at (encodable-type r named h)
-
--- ---- what is derived serves
-
-pub same-bool : (b : Bool) → sameBool b b ≡ true
-unfolding yes
-same-bool true = refl
-same-bool false = refl
 
 size-serves : (size : ℕ) → sizeUse size size ≡ Use.Accepted
 size-serves size = by-test (eqb size 0) (λ t. rw t) (λ n. rw (n, le-ltb size size (omega arith)))
