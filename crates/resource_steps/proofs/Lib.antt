@@ -1,4 +1,5 @@
 pub mod DeriveLaws
+pub mod NoteLaws
 pub mod PairLaws
 pub mod ProvideLaws
 pub mod ResourceLaws
