@@ -1,7 +1,7 @@
 -- The ways of the functions that walk from record to record.
 use Prim.Native.Nat.{ℕ, zero, suc, _+_, _-_, _/_, _%_, _^_, _<_, _≤_}
 use native.Mathlib.Omega.{arith}
-use mathlib.Core.Path.{_≡_, refl, sym, _∙_}
+use mathlib.Core.Path.{_≡_, refl, sym, ap, _∙_}
 use mathlib.Core.List.{List, [], _∷_}
 use borrow.Author.Tests.{eq-eqb, ne-eqb, ltb-true, ltb-false}
 use lib.Dec.{eqb, ltb}
@@ -222,10 +222,12 @@ module _ (ws heads : List ℕ) (p head : ℕ) (h : decodedNumber (decode ws) ≡
       pub nth-placed : Placed ws parts
       nth-placed = rw d (placed (counted ws p h k))
 
+      -- they are those from the position where the entry point begins
+      pub nth-parts : parts ≡ partsAt ws (headAt ws p)
+      nth-parts = d ∙ ap (partsAt ws) (e ∙ g .entries h p (counted ws p h k))
+
       pub nth-read : standing ws parts ≡ entryPointNth (interfaceOf (decode ws) .entries) p
-      nth-read =
-          let a : head ≡ headAt ws p = e ∙ g .entries h p (counted ws p h k) in
-          rw (d, a, accepted ws h .entries) (sym (nth ws p (entryCount ws) (entriesAt ws) (counted ws p h k)))
+      nth-read = rw (nth-parts, accepted ws h .entries) (sym (nth ws p (entryCount ws) (entriesAt ws) (counted ws p h k)))
 
 -- ---- the entry points that are left
 

@@ -7,7 +7,7 @@ ghost use Rattle.word.specs.Words.{wordAt, contentOf};
 ghost use Rattle.interface.specs.Format.{stageAt, stageCode, topologyAt, builtInOf, pairOf, decode, decodedNumber, interfaceOf};
 ghost use Rattle.interface.specs.inner.Reads.{varyingWidth, standing};
 ghost use Rattle.interface.specs.Meaning.{entryPointNth};
-ghost use Rattle.interface.specs.inner.Parts.{resourceCount, entryCount, Placed, Heads};
+ghost use Rattle.interface.specs.inner.Parts.{resourceCount, entryCount, headAt, partsAt, Placed, Heads};
 use crate::parts::parts_at;
 use crate::types::BuiltIn;
 use crate::types::EntryParts;
@@ -175,6 +175,7 @@ pub fn entry_parts(pack: &[u32], heads: &[u16], position: usize) -> EntryParts
     requires { ⌜ position < length (interfaceOf (decode (now pack)) .entries) ⌝ }
     ensures { λ r. ⌜ standing (now (pack .entry)) r ≡ entryPointNth (interfaceOf (decode (now (pack .entry))) .entries) position ⌝ }
     ensures { λ r. ⌜ Placed (now (pack .entry)) r ⌝ }
+    ensures { λ r. ⌜ r ≡ partsAt (now (pack .entry)) (headAt (now (pack .entry)) position) ⌝ }
 {
     parts_at(pack, position_at(heads, position) as usize)
 }

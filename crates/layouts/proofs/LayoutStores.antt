@@ -8,7 +8,7 @@ use lib.ListN.{length, drop, getD, set}
 use lib.Seq.{drop-drop}
 use borrow.Author.Tests.{leb-true}
 use Rattle.word.specs.Words.{wordAt, kindOf, contentOf, bits, ofKind}
-use Rattle.bindings.specs.Format.{placeOf, sizeWidth, sizeWord, sizeStanding, bindingTypeOf, bindingCode, leastSize, entryWellFormed, entryWords, entryOf, partsWellFormed, entryOfParts, entryWellFormedAt, entryAt}
+use Rattle.bindings.specs.Format.{placeWord, sizeWidth, sizeWord, sizeStanding, bindingTypeOf, bindingCode, leastSize, entryWellFormed, entryWords, entryOf, partsWellFormed, entryOfParts, entryWellFormedAt, entryAt}
 use Rattle.bindings.specs.declared.types.BindGroupLayoutEntry.{BindGroupLayoutEntry}
 use Rattle.bindings.proofs.EntryFormat.{entry-back, least-back}
 use Rattle.word.proofs.Truth.{first, second}
@@ -115,9 +115,11 @@ module _ (l : List ℕ) (i : ℕ) (f : layoutWellFormed l ≡ true) (h : i < len
   pub least-there : (r : ℕ) → r ≡ sizeStanding l (1 + 4 * i + 2) → r ≡ leastSize (entry .ty)
   least-there r e = rw least-word e
 
-  pub place-there : (x : ℕ) → x ≡ wordAt l (1 + 4 * i + 0) → placeOf x ≡ entry .bind
-  unfolding entryOf
-  place-there x e = let z : 1 + 4 * i + 0 ≡ 1 + 4 * i = omega arith in rw (entry-there l i h, e, z)
+  pub place-there : (x : ℕ) → x ≡ wordAt l (1 + 4 * i + 0) → x ≡ placeWord (entry .bind)
+  unfolding entryWords
+  place-there x e =
+      let z : 1 + 4 * i + 0 ≡ 1 + 4 * i = omega arith in
+      rw (e, z) (sym (ap (λ (ws : List ℕ). wordAt ws 0) words-there))
 
   module _ (x : ℕ) (e : x ≡ wordAt l (1 + 4 * i + 1)) where
     pub type-there : x ≡ ofKind 18 (bindingCode (entry .ty))

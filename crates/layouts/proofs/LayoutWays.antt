@@ -6,7 +6,7 @@ use mathlib.Core.Bool.{Bool, true, false, not, _&&_}
 use mathlib.Core.List.{List}
 use lib.Dec.{eqb, leb, ltb}
 use lib.ListN.{length, drop, take}
-use lib.Seq.{drop-drop, take-all, take-length}
+use lib.Seq.{drop-drop, take-all, take-length, length-take-le}
 use borrow.Author.Tests.{not-false, leb-true}
 use Rattle.word.specs.Words.{wordAt, kindOf, bits}
 use Rattle.bindings.specs.Format.{entryWellFormed, entryWellFormedAt, entryAt, entryOf}
@@ -114,3 +114,7 @@ module _ (l : List ℕ) (w n : ℕ) (e : w ≡ wordAt l 0) (f : n ≡ 1 + 4 * (w
   pub used-some : take n l ≡ usedWords l
   unfolding countOf
   used-some = rw (f, e)
+
+-- there are as many as were counted
+pub used-counted : (l : List ℕ) (r : ℕ) → take r l ≡ usedWords l → r ≤ length l → r ≡ length (usedWords l)
+used-counted l r e h = rw (← e) (sym (length-take-le r l h))

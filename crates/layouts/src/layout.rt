@@ -5,7 +5,7 @@ ghost use Prim.Native.Nat.{_+_, _*_, _<_, _≤_};
 ghost use lib.ListN.{length, drop, take};
 ghost use Rattle.word.specs.Choice.{pick};
 ghost use Rattle.word.specs.Words.{wordAt, ofKind};
-ghost use Rattle.bindings.specs.Format.{placeOf, sizeLimit, bindingTypeOf, bindingCode, leastSize, entryWidth, partsWellFormed, entryOfParts};
+ghost use Rattle.bindings.specs.Format.{placeOf, placeWord, sizeLimit, bindingTypeOf, bindingCode, leastSize, entryWidth, partsWellFormed, entryOfParts};
 ghost use Rattle.layouts.specs.Meaning.{findEntry, entryHas, entryNth, roomForEntry, pushed, joined};
 ghost use Rattle.places.specs.Places.{foundBelow};
 ghost use Rattle.places.specs.Records.{countOf, each};
@@ -99,6 +99,7 @@ pub fn group_count(l: &[u32]) -> u32
 pub fn used_words(l: &[u32]) -> usize
     ensures { λ r. ⌜ take r (now (l .entry)) ≡ usedWords (now (l .entry)) ⌝ }
     ensures { λ r. ⌜ (r ≤ length (now (l .entry))) × (r ≡ length (take r (now (l .entry)))) ⌝ }
+    ensures { λ r. ⌜ r ≡ length (usedWords (now (l .entry))) ⌝ }
 {
     let n = 1 + ENTRY_WIDTH * (index(l, 0) % 0x1_0000);
     if l.len() < n {
@@ -138,7 +139,7 @@ fn entry_word(l: &[u32], index: usize, k: usize) -> u32
 pub fn entry_place(l: &[u32], index: usize) -> u32
     requires { ⌜ layoutWellFormed (now l) ≡ true ⌝ }
     requires { ⌜ index < length (decodeLayout (now l) .entries) ⌝ }
-    ensures { λ r. ⌜ placeOf r ≡ entryNth (decodeLayout (now (l .entry)) .entries) index .bind ⌝ }
+    ensures { λ r. ⌜ r ≡ placeWord (entryNth (decodeLayout (now (l .entry)) .entries) index .bind) ⌝ }
 {
     entry_word(l, index, 0)
 }

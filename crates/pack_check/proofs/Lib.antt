@@ -8,6 +8,7 @@ pub mod CheckPairs
 pub mod CheckPositions
 pub mod CheckRecords
 pub mod CheckSteps
+pub mod CheckTables
 pub mod CheckVaryings
 pub mod CheckWalks
 pub mod CheckWords

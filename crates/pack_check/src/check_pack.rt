@@ -10,6 +10,7 @@ ghost use Rattle.bindings.specs.Format.{readResource};
 ghost use Rattle.interface.specs.Format.{ofWord, editionWellFormed, totalsWellFormed, readEntryPoint, readPack, damaged, decode, decodedNumber};
 ghost use Rattle.interface.specs.inner.Parts.{resourceCount, Offsets, Heads};
 ghost use Rattle.pack_check.specs.inner.Walks.{listed, roleOf, pairRoles, roleTable, packResources, Headed, entriesBehind, recordsBehind, Stops, EntryStops};
+ghost use Rattle.pack_check.specs.inner.Positions.{over, positions, entriesFrom, resourcesNoted, entriesNoted, resourcePositions, entryPositions};
 use crate::check_entry::entry_point_next;
 use crate::check_names::names_distinct;
 
@@ -47,6 +48,7 @@ fn resources_next(
     ensures { λ r. ⌜ r ≤ length (now (body .entry)) ⌝ }
     ensures { λ r. ⌜ ((r ≡ 0 → ⊥) → now (roles .exit) ≡ pairRoles (listed (several n readResource (drop from (now (body .entry))))) ++ drop n (now (roles .entry))) ⌝ }
     ensures { λ r. ⌜ ((r ≡ 0 → ⊥) → Stops readResource (now (body .entry)) from n (now (offsets .exit))) ⌝ }
+    ensures { λ _. ⌜ now (offsets .exit) ≡ over (positions readResource (now (body .entry)) n from) (now (offsets .entry)) ⌝ }
 {
     let mut at = from;
     let mut i: usize = 0;
@@ -79,6 +81,7 @@ fn entry_points_next(
     ensures { λ r. ⌜ ((r ≡ 0 → ⊥) → Headed (now (body .entry)) (take n (now (heads .exit)))
         (listed (several n (readEntryPoint (packResources count (now (body .entry)))) (drop from (now (body .entry)))))) ⌝ }
     ensures { λ r. ⌜ ((r ≡ 0 → ⊥) → Stops (readEntryPoint (packResources count (now (body .entry)))) (now (body .entry)) from n (now (heads .exit))) ⌝ }
+    ensures { λ _. ⌜ now (heads .exit) ≡ over (positions (readEntryPoint (packResources count (now (body .entry)))) (now (body .entry)) n from) (now (heads .entry)) ⌝ }
 {
     let mut at = from;
     let mut i: usize = 0;
@@ -108,6 +111,7 @@ fn entries_next(
     ensures { λ r. ⌜ restAt (now (body .entry)) r ≡ entriesBehind (packResources count (now (body .entry))) n (drop at (now (body .entry))) ⌝ }
     ensures { λ r. ⌜ r ≤ length (now (body .entry)) ⌝ }
     ensures { λ r. ⌜ ((r ≡ 0 → ⊥) → Stops (readEntryPoint (packResources count (now (body .entry)))) (now (body .entry)) at n (now (heads .exit))) ⌝ }
+    ensures { λ _. ⌜ now (heads .exit) ≡ over (positions (readEntryPoint (packResources count (now (body .entry)))) (now (body .entry)) n at) (now (heads .entry)) ⌝ }
 {
     let end = entry_points_next(body, at, n, count, roles, heads);
     if end == 0 {
@@ -149,6 +153,8 @@ fn records_next(body: &[u32], totals: u32, offsets: &mut [u16], heads: &mut [u16
     ensures { λ r. ⌜ r ≤ length (now (body .entry)) ⌝ }
     ensures { λ r. ⌜ ((r ≡ 0 → ⊥) → Stops readResource (now (body .entry)) 15 (bits 26 16 totals) (now (offsets .exit))) ⌝ }
     ensures { λ r. ⌜ ((r ≡ 0 → ⊥) → EntryStops (now (body .entry)) totals (now (heads .exit))) ⌝ }
+    ensures { λ _. ⌜ now (offsets .exit) ≡ over (positions readResource (now (body .entry)) (bits 26 16 totals) 15) (now (offsets .entry)) ⌝ }
+    ensures { λ _. ⌜ now (heads .exit) ≡ over (entriesFrom totals (now (body .entry))) (now (heads .entry)) ⌝ }
 {
     let count = totals / 0x1_0000 % 0x800;
     let mut roles: [u8; 128] = [0; 128];
@@ -201,6 +207,8 @@ fn pack_next(body: &[u32], offsets: &mut [u16], heads: &mut [u16]) -> usize
     ensures { λ r. ⌜ r ≤ length (now (body .entry)) ⌝ }
     ensures { λ r. ⌜ ((r ≡ 0 → ⊥) → Stops readResource (now (body .entry)) 15 (resourceCount (now (body .entry))) (now (offsets .exit))) ⌝ }
     ensures { λ r. ⌜ ((r ≡ 0 → ⊥) → EntryStops (now (body .entry)) (wordAt (now (body .entry)) 1) (now (heads .exit))) ⌝ }
+    ensures { λ _. ⌜ now (offsets .exit) ≡ over (resourcesNoted (now (body .entry))) (now (offsets .entry)) ⌝ }
+    ensures { λ _. ⌜ now (heads .exit) ≡ over (entriesNoted (now (body .entry))) (now (heads .entry)) ⌝ }
 {
     if !edition_well_formed(word::word(body, 0)) {
         return 0;
@@ -232,12 +240,14 @@ fn is_damaged(pack: &[u32]) -> bool
     word::word(pack, n - 1) != word::closing_sum(pack)
 }
 
-// The check of a module pack: 0, or 1 for a damaged one, or 2 for a malformed one. The tables get the positions of an accepted pack's records.
+// The check of a module pack: 0, or 1 for a damaged one, or 2 for a malformed one. The tables get the positions of records, up to the first that is malformed.
 pub fn index_pack(pack: &[u32], offsets: &mut [u16], heads: &mut [u16]) -> u32
     requires { ⌜ (128 ≤ length (now offsets)) × (16 ≤ length (now heads)) ⌝ }
     ensures { λ r. ⌜ r ≡ decodedNumber (decode (now (pack .entry))) ⌝ }
     ensures { λ _. ⌜ Offsets (now (pack .entry)) (now (offsets .exit)) ⌝ }
     ensures { λ _. ⌜ Heads (now (pack .entry)) (now (heads .exit)) ⌝ }
+    ensures { λ _. ⌜ now (offsets .exit) ≡ over (resourcePositions (now (pack .entry))) (now (offsets .entry)) ⌝ }
+    ensures { λ _. ⌜ now (heads .exit) ≡ over (entryPositions (now (pack .entry))) (now (heads .entry)) ⌝ }
 {
     if is_damaged(pack) {
         return 1;

@@ -1,5 +1,6 @@
 pub mod Kept
 pub mod DeriveLaws
+pub mod NoteLaws
 pub mod PairLaws
 pub mod ProvideLaws
 pub mod ResourceLaws

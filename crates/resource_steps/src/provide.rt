@@ -4,11 +4,12 @@ ghost use mathlib.Core.Bool.{true};
 ghost use Prim.Native.Nat.{_+_, _<_, _≤_};
 ghost use lib.ListN.{length, take, drop};
 ghost use Rattle.bindings.specs.Format.{placeOf, resourceTypeOf, resource, typeEncodable};
-ghost use Rattle.layouts.specs.Meaning.{entryNth};
+ghost use Rattle.layouts.specs.Meaning.{findEntry, entryNth};
 ghost use Rattle.layouts.specs.Format.{layoutWellFormed, decodeLayout};
 ghost use Rattle.sizes.specs.Format.{sizesWellFormed, decodeSizes};
 ghost use Rattle.interface.specs.Format.{contents};
 ghost use Rattle.resource_steps.specs.inner.Given.{resourceTable, Inside, eachEncodable, eachBelow};
+ghost use Rattle.resource_steps.specs.inner.Notes.{noteAt, stepNotes, provideNotes};
 ghost use Rattle.resource_steps.specs.Resources.{resourceNth, sizesAfter, recordSize, entryUse, providedUse, provideStep, provideResult, provideSteps};
 use crate::resources::note;
 use crate::resources::noted;
@@ -72,6 +73,7 @@ fn provided_use(
 ) -> Answer
     requires { ⌜ layoutWellFormed (now layout) ≡ true ⌝ }
     ensures { λ a. ⌜ a ≡ providedUse stage (decodeLayout (now (layout .entry))) (resource place w size) ⌝ }
+    ensures { λ _. ⌜ now (entries .exit) ≡ noteAt i (findEntry (placeOf place) (decodeLayout (now (layout .entry)))) (now (entries .entry)) ⌝ }
 {
     let found = find_entry_near(layout, place, near);
     note(entries, i, found);
@@ -100,6 +102,9 @@ fn provide_step(
         ≡ provideStep stage (decodeLayout (now (layout .entry))) (resourceNth (resourceTable (now (pack .entry)) (now (offsets .entry))) i)
         (decodeSizes (now (sizes .entry))) ⌝ }
     ensures { λ a. ⌜ sizesWellFormed (now (sizes .exit)) ≡ true ⌝ }
+    ensures { λ _. ⌜ now (entries .exit)
+        ≡ stepNotes (decodeLayout (now (layout .entry))) (resourceNth (resourceTable (now (pack .entry)) (now (offsets .entry))) i) i
+        (decodeSizes (now (sizes .entry))) (now (entries .entry)) ⌝ }
 {
     let at = position_at(offsets, i as usize) as usize;
     let place = pack[at];
@@ -131,6 +136,9 @@ pub fn provide_steps(
         ≡ provideSteps stage (decodeLayout (now (layout .entry))) (resourceTable (now (pack .entry)) (now (offsets .entry)))
         (contents (take n (drop from (now (pack .entry))))) (decodeSizes (now (sizes .entry))) ⌝ }
     ensures { λ r. ⌜ sizesWellFormed (now (sizes .exit)) ≡ true ⌝ }
+    ensures { λ _. ⌜ now (entries .exit)
+        ≡ provideNotes stage (decodeLayout (now (layout .entry))) (resourceTable (now (pack .entry)) (now (offsets .entry)))
+        (contents (take n (drop from (now (pack .entry))))) (decodeSizes (now (sizes .entry))) (now (entries .entry)) ⌝ }
 {
     let mut at = from;
     let mut passed: u32 = 0;

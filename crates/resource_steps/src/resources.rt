@@ -5,6 +5,7 @@ ghost use Prim.Native.Nat.{_<_};
 ghost use Rattle.bindings.specs.Format.{placeOf};
 ghost use Rattle.bindings.specs.Answers.{bindingAnswer};
 ghost use Rattle.places.specs.Places.{foundBelow};
+ghost use Rattle.resource_steps.specs.inner.Notes.{noteAt};
 use bindings::answers::binding_answer;
 use bindings::resource_words::place_of;
 use places::found::Found;
@@ -40,6 +41,7 @@ pub(crate) fn noted(entries: &[u8; 128], i: u32) -> usize
 // Notes the position that was found for the resource of an index.
 pub(crate) fn note(entries: &mut [u8; 128], i: u32, found: Found)
     requires { ⌜ foundBelow 256 found ≡ true ⌝ }
+    ensures { λ _. ⌜ now (entries .exit) ≡ noteAt i found (now (entries .entry)) ⌝ }
 {
     match found {
         Found::At { index } => {

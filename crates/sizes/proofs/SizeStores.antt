@@ -18,6 +18,7 @@ use Rattle.places.specs.Places.{foundBelow, placeFrom, distinctPlaces, places}
 use Rattle.places.specs.Records.{roomFor, put, past, each, countOf, records}
 use Rattle.sizes.specs.Format.{readSize, readSizes, sizeGood, sizeRecordWords, sizesWellFormed, decodeSizes, encodeSizes, sizesGood}
 use Rattle.sizes.specs.declared.size_record.SizeRecord.{SizeRecord}
+use Rattle.sizes.specs.inner.Near.{findSize, noteNext}
 use Rattle.places.specs.declared.found.Found.{Found}
 use Rattle.places.specs.declared.found.Found.the-variants.{At, Nothing}
 use Rattle.places.proofs.Words.{there}
@@ -55,6 +56,17 @@ module _ (s : List ℕ) (place : ResourceBinding) (n : ℕ) (r : Found) (en : n 
 
     pub size-fits : true ≡ sizeFits place (decodeSizes s)
     size-fits = rw size-has
+
+-- ---- the position that is noted
+
+module _ (s next : List ℕ) (place : ResourceBinding) (n : ℕ) (r : Found) (en : n ≡ countOf s) (er : r ≡ placeFrom place (places 2 n (drop 1 s)) 0) where
+  -- the position behind a record that was found is noted
+  pub next-noted : (i : ℕ) → r ≡ At i → set next 0 (i + 1) ≡ noteNext (findSize place (decodeSizes s)) next
+  next-noted i h = rw (size-there s place n r en er i h)
+
+  -- where there is none, the note stays
+  pub next-kept : r ≡ Nothing → next ≡ noteNext (findSize place (decodeSizes s)) next
+  next-kept h = let e : findSize place (decodeSizes s) ≡ Nothing = sym (sought s place n r en er) ∙ h in rw e
 
 -- the words of a record that was found
 module _ (s : List ℕ) (n i : ℕ) (r : Found) (f : sizesWellFormed s ≡ true) (en : n ≡ countOf s) (b : foundBelow n r ≡ true) (h : r ≡ At i) where

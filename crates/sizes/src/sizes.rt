@@ -8,6 +8,7 @@ ghost use Rattle.bindings.specs.Format.{placeWellFormed, placeOf, sizeLimit};
 ghost use Rattle.sizes.specs.Meaning.{sizeHas, sizeFits, recorded, sizeRecordWidth};
 ghost use Rattle.places.specs.Records.{countOf, each};
 ghost use Rattle.sizes.specs.Format.{sizeGood, sizesHead, sizesWellFormed, decodeSizes, encodeSizes};
+ghost use Rattle.sizes.specs.inner.Near.{findSize, noteNext};
 use bindings::sizes::size_word;
 use places::found::Found;
 use places::heads::counted;
@@ -124,6 +125,7 @@ pub fn record_size(s: &mut [u32], place: u32, size: u64, next: &mut [u16; 1]) ->
     ensures { λ r. ⌜ now (s .exit) ≡ encodeSizes (recorded (placeOf place) size (decodeSizes (now (s .entry)))) ⌝ }
     ensures { λ r. ⌜ decodeSizes (now (s .exit)) ≡ recorded (placeOf place) size (decodeSizes (now (s .entry))) ⌝ }
     ensures { λ r. ⌜ sizesWellFormed (now (s .exit)) ≡ true ⌝ }
+    ensures { λ _. ⌜ now (next .exit) ≡ noteNext (findSize (placeOf place) (decodeSizes (now (s .entry)))) (now (next .entry)) ⌝ }
 {
     match find_near(
         s,

@@ -1,5 +1,5 @@
 -- A variable put into a stage list by its location, over its meaning.
-use Prim.Native.Nat.{ℕ, zero, suc, _+_, _<_, _≤_}
+use Prim.Native.Nat.{ℕ, zero, suc, _+_, _*_, _<_, _≤_}
 use native.Mathlib.Omega.{arith}
 use mathlib.Core.Path.{_≡_, refl, sym, ap, _∙_}
 use mathlib.Core.Bool.{Bool, true, false}
@@ -14,6 +14,8 @@ use Rattle.varying.specs.declared.Located.{Located}
 use Rattle.word.proofs.Truth.{by-test}
 use Rattle.stage_lists.specs.Meaning.{StageIo, rising, varyingAt, isProvided, insert, inserted}
 use Rattle.stage_lists.specs.Format.{outGood}
+use Rattle.stage_lists.specs.inner.Found.{locationFrom}
+use Rattle.places.specs.declared.found.Found.the-variants.{At}
 use Rattle.stage_lists.specs.declared.types.Provided.the-variants as Pro
 use Rattle.word.proofs.Lists.{first-passes, rest-passes}
 use Rattle.stage_lists.proofs.StageLists.{Good, good, is-good}
@@ -161,14 +163,16 @@ nth-above v (w ∷ vs) zero d h k = ltb-true (v .location) (w .location) (rising
 nth-above v (w ∷ vs) (suc i) d h k =
     omega (arith, ltb-true (v .location) (w .location) (rising-first v (w ∷ vs) h), nth-above w vs i d (rising-rest v (w ∷ vs) h) (omega arith))
 
-pub varying-nth : (vs : List Located) (i : ℕ) (d : Located) → rising vs ≡ true → i < length vs → varyingAt (getD vs i d .location) vs ≡ Pro.Var (getD vs i d .var)
-unfolding varyingAt
-varying-nth [] i d h k = absurd (omega arith)
-varying-nth (v ∷ vs) zero d h k = rw (eq-eqb (v .location) (v .location) refl)
-varying-nth (v ∷ vs) (suc i) d h k =
+pub location-nth : (vs : List Located) (i at : ℕ) (d : Located) → rising vs ≡ true → i < length vs
+    → locationFrom (getD vs i d .location) vs at ≡ At (at + 2 * i)
+unfolding locationFrom
+location-nth [] i at d h k = absurd (omega arith)
+location-nth (v ∷ vs) zero at d h k = let z : at + 2 * 0 ≡ at = omega arith in rw (eq-eqb (v .location) (v .location) refl, z)
+location-nth (v ∷ vs) (suc i) at d h k =
     let m : i < length vs = omega arith in
+    let z : at + 2 + 2 * i ≡ at + 2 * suc i = omega arith in
     let a = nth-above v vs i d h m in
-    rw (ne-eqb (v .location) (getD vs i d .location) (λ e. omega arith)) (varying-nth vs i d (rising-rest v vs h) m)
+    rw (ne-eqb (v .location) (getD vs i d .location) (λ e. omega arith), location-nth vs i (at + 2) d (rising-rest v vs h) m, z)
 
 -- ---- the rules stay
 

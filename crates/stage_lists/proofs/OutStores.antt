@@ -262,18 +262,42 @@ put-head [] xs head r = refl
 put-head (w ∷ []) xs head r = let e : 2 + length xs ≡ suc (suc (length xs)) = omega arith in rw e
 put-head (w ∷ p ∷ ws) xs head r = let e : 2 + length xs ≡ suc (suc (length xs)) = omega arith in rw e
 
-pub out-inserted : (s m : List ℕ) (v : Located) (head n b r : ℕ) → outWellFormed (set s 0 head) ≡ true → locatedEncodable v ≡ true
-    → length (decodeStage (set s 0 head) .varyings) < 63 → n ≡ head % 0x10000 → b ≡ varWord (v .var)
-    → m ≡ put s 2 (flat locatedWords (insert (record { location = v .location; var = varOf b }) (readVaryings n (drop 2 s))))
-    → length (insert (record { location = v .location; var = varOf b }) (readVaryings n (drop 2 s))) ≡ n + r → r ≤ 1
-    → set m 0 (head + r) ≡ encodeStage (inserted v (decodeStage (set s 0 head)))
-out-inserted s m v head n b r f h few en eb em e o =
-    let t = set s 0 head in
-    let c : n ≡ countOf t = count-is s head f n en in
-    let vs = insert v (readVaryings (countOf t) (drop 2 t)) in
-    let k : length vs ≡ countOf t + r = rw (located-again v b h eb, c, ← behind-head s head) at e in
-    let m-is : m ≡ put s 2 (flat locatedWords vs) = em ∙ rw (located-again v b h eb, c, ← behind-head s head) in
-    rw m-is (sym (put-head s (flat locatedWords vs) head (head + r)) ∙ rw (there-head s head f) at (inserted-words t v r f k (omega (arith, count-read t))))
+-- words from the third on stored and a head set: the first word put back, and the head read
+module _ (xs : List ℕ) (r : ℕ) where
+  head-back : (s : List ℕ) → 1 ≤ length s → put s 2 xs ≡ set (set (put s 2 xs) 0 r) 0 (wordAt s 0)
+  unfolding put
+  head-back [] h = absurd (omega arith)
+  head-back (w ∷ ws) h = refl
+
+  head-read : (s : List ℕ) → 1 ≤ length s → r ≡ wordAt (set (put s 2 xs) 0 r) 0
+  unfolding put
+  head-read [] h = absurd (omega arith)
+  head-read (w ∷ ws) h = refl
+
+module _ (s m : List ℕ) (v : Located) (head n b r : ℕ) (f : outWellFormed (set s 0 head) ≡ true) (h : locatedEncodable v ≡ true)
+    (few : length (decodeStage (set s 0 head) .varyings) < 63) (en : n ≡ head % 0x10000) (eb : b ≡ varWord (v .var))
+    (em : m ≡ put s 2 (flat locatedWords (insert (record { location = v .location; var = varOf b }) (readVaryings n (drop 2 s)))))
+    (e : length (insert (record { location = v .location; var = varOf b }) (readVaryings n (drop 2 s))) ≡ n + r) (o : r ≤ 1) where
+  -- the words under the new head
+  pub out-inserted : set m 0 (head + r) ≡ encodeStage (inserted v (decodeStage (set s 0 head)))
+  out-inserted =
+      let t = set s 0 head in
+      let c : n ≡ countOf t = count-is s head f n en in
+      let vs = insert v (readVaryings (countOf t) (drop 2 t)) in
+      let k : length vs ≡ countOf t + r = rw (located-again v b h eb, c, ← behind-head s head) at e in
+      let m-is : m ≡ put s 2 (flat locatedWords vs) = em ∙ rw (located-again v b h eb, c, ← behind-head s head) in
+      rw m-is (sym (put-head s (flat locatedWords vs) head (head + r)) ∙ rw (there-head s head f) at (inserted-words t v r f k (omega (arith, count-read t))))
+
+  out-there : 1 ≤ length s
+  out-there = omega (arith, well-formed (set s 0 head) f .holds, length-set s 0 head)
+
+  -- the words but for the head, which stays as it was
+  pub out-words : m ≡ set (encodeStage (inserted v (decodeStage (set s 0 head)))) 0 (wordAt s 0)
+  out-words = rw (← out-inserted, em) (head-back _ (head + r) s out-there)
+
+  -- and the head that they need
+  pub out-head : head + r ≡ wordAt (encodeStage (inserted v (decodeStage (set s 0 head)))) 0
+  out-head = rw (← out-inserted, em) (head-read _ (head + r) s out-there)
 
 module _ (s m : List ℕ) (v : Located) (f : outWellFormed s ≡ true) (t : locatedEncodable v ≡ true) (few : length (decodeStage s .varyings) < 63)
     (e : m ≡ encodeStage (inserted v (decodeStage s))) where
@@ -297,6 +321,11 @@ module _ (l m : List ℕ) (primitive : PrimitiveIndex) (payload : Payload) (a b 
   pub begun-words : m ≡ encodeStage (bare primitive payload l)
   unfolding encodeStage put flat
   begun-words = let z : 2 ^ 25 * primitiveCode primitive + 0 ≡ 2 ^ 25 * primitiveCode primitive = omega arith in em ∙ rw (z, ea, eb)
+
+  -- the head that was stored is the first word
+  pub begun-first : a ≡ wordAt m 0
+  unfolding put
+  begun-first = rw em
 
   begun-head : set m 0 a ≡ m
   unfolding put

@@ -12,21 +12,20 @@ use Rattle.word.specs.Choice.{pick}
 use Rattle.word.specs.Words.{wordAt, kindOf, contentOf, bits}
 use Rattle.varying.specs.Format.{locationWellFormed, varWellFormed, payloadWellFormed, payloadOf}
 use Rattle.varying.specs.declared.Payload.{Payload}
-use Rattle.word.proofs.Truth.{first, second}
+use Rattle.word.proofs.Truth.{first, second, by-test}
 use Rattle.places.specs.Places.{foundBelow}
 use Rattle.stage_lists.specs.Meaning.{rising, varyingAt}
 use Rattle.places.specs.Records.{records, countOf}
 use Rattle.stage_lists.specs.Format.{primitiveAt, readLocated, locatedGood, readVaryings, variableFound, stageHead, outWellFormed, decodeStage}
+use Rattle.stage_lists.specs.inner.Found.{locationFrom}
 use Rattle.places.specs.declared.found.Found.{Found}
-use Rattle.places.specs.declared.found.Found.the-variants.{At}
+use Rattle.places.specs.declared.found.Found.the-variants.{At, Nothing}
 use Rattle.stage_lists.specs.declared.types.PrimitiveIndex.{PrimitiveIndex}
-use Rattle.stage_lists.specs.declared.types.Provided.{Provided}
-use Rattle.stage_lists.specs.declared.types.Provided.the-variants as Pro
 use Rattle.places.proofs.Records.{read-length, nth-record, left-cons, left-none}
 use Rattle.places.proofs.Words.{there}
 use Rattle.word.proofs.Parse.{first-of}
 use Rattle.stage_lists.proofs.StageLists.{well-formed}
-use Rattle.stage_lists.proofs.InsertLaws.{varying-nth}
+use Rattle.stage_lists.proofs.InsertLaws.{location-nth}
 
 -- ---- the head
 
@@ -103,26 +102,47 @@ module _ (l : List ℕ) (k at : ℕ) (goal : Bool) (inv : goal ≡ rising (readV
   pub rising-ended : k < 2 → true ≡ goal
   rising-ended h = sym (inv ∙ rising-end k (drop at l) h)
 
--- ---- the variable at a location
+-- ---- where the variable at a location stands
 
-module _ (l : List ℕ) (k at location : ℕ) (goal : Provided) (inv : goal ≡ varyingAt location (readVaryings k (drop at l))) where
-  pub varying-hit : (k ≡ 0 → ⊥) → wordAt l at % 0x800_0000 ≡ location → variableFound l (At (at + 1)) ≡ goal
-  unfolding varyingAt
-  varying-hit h q =
-      sym (inv ∙ rw (left-cons 2 readLocated l k at h, first-of l at, there l at 1, eq-eqb (contentOf (wordAt l at)) location q))
+module _ (l : List ℕ) (k at location : ℕ) (goal : Found) (inv : goal ≡ locationFrom location (readVaryings k (drop at l)) (at + 1)) where
+  pub location-hit : (k ≡ 0 → ⊥) → wordAt l at % 0x800_0000 ≡ location → At (at + 1) ≡ goal
+  unfolding locationFrom
+  location-hit h q = sym (inv ∙ rw (left-cons 2 readLocated l k at h, first-of l at, eq-eqb (contentOf (wordAt l at)) location q))
 
-  pub varying-miss : (k ≡ 0 → ⊥) → (wordAt l at % 0x800_0000 ≡ location → ⊥) → goal ≡ varyingAt location (readVaryings (k - 1) (drop (at + 2) l))
-  unfolding varyingAt
-  varying-miss h q = inv ∙ rw (left-cons 2 readLocated l k at h, first-of l at, ne-eqb (contentOf (wordAt l at)) location q)
+  pub location-miss : (k ≡ 0 → ⊥) → (wordAt l at % 0x800_0000 ≡ location → ⊥)
+      → goal ≡ locationFrom location (readVaryings (k - 1) (drop (at + 2) l)) (at + 2 + 1)
+  unfolding locationFrom
+  location-miss h q =
+      let z : at + 1 + 2 ≡ at + 2 + 1 = omega arith in
+      inv ∙ rw (left-cons 2 readLocated l k at h, first-of l at, ne-eqb (contentOf (wordAt l at)) location q, z)
 
-  pub varying-ended : k ≡ 0 → Pro.Missing ≡ goal
-  unfolding varyingAt
-  varying-ended h = sym (inv ∙ rw (left-none 2 readLocated k (drop at l) h))
+  pub location-ended : k ≡ 0 → Nothing ≡ goal
+  unfolding locationFrom
+  location-ended h = sym (inv ∙ rw (left-none 2 readLocated k (drop at l) h))
 
-pub location-found : (l : List ℕ) (n location : ℕ) (f : Found) → n ≡ countOf l → variableFound l f ≡ varyingAt location (readVaryings n (drop 2 l))
-    → variableFound l f ≡ varyingAt location (decodeStage l .varyings)
+-- the variable that is provided at a location is the one whose word stands where it is found
+found-from : (l : List ℕ) (location k at : ℕ)
+    → variableFound l (locationFrom location (readVaryings k (drop at l)) (at + 1)) ≡ varyingAt location (readVaryings k (drop at l))
+unfolding locationFrom varyingAt records
+found-from l location zero at = refl
+found-from l location (suc k) at =
+    let z : at + 1 + 2 ≡ at + 2 + 1 = omega arith in
+    by-test (eqb (contentOf (wordAt (drop at l) 0)) location) (λ t. rw (t, there l at 1))
+    (λ f. rw (f, z, drop-drop 2 at l) (found-from l location k (at + 2)))
+
+pub location-found : (l : List ℕ) (n location : ℕ) (r : Found) → r ≡ locationFrom location (readVaryings n (drop 2 l)) 3
+    → variableFound l r ≡ varyingAt location (readVaryings n (drop 2 l))
+location-found l n location r e = rw e (found-from l location n 2)
+
+pub location-decoded : (l : List ℕ) (n location : ℕ) (r : Found) → n ≡ countOf l → r ≡ locationFrom location (readVaryings n (drop 2 l)) 3
+    → r ≡ locationFrom location (decodeStage l .varyings) 3
 unfolding decodeStage
-location-found l n location f e h = rw (← e) h
+location-decoded l n location r e h = rw (← e) h
+
+pub location-provided : (l : List ℕ) (location : ℕ) (r : Found) → r ≡ locationFrom location (decodeStage l .varyings) 3
+    → variableFound l r ≡ varyingAt location (decodeStage l .varyings)
+unfolding decodeStage
+location-provided l location r e = location-found l (countOf l) location r e
 
 -- a position found lies in the list
 pub within-below : (l : List ℕ) (k at : ℕ) → (k ≡ 0 → ⊥) → at + 2 * k ≤ length l → foundBelow (length l) (At (at + 1)) ≡ true
@@ -143,11 +163,10 @@ module _ (l : List ℕ) (n : ℕ) (f : outWellFormed l ≡ true) (e : n ≡ coun
     pub near-below : foundBelow (length l) (At (3 + 2 * i)) ≡ true
     near-below = lt-ltb (3 + 2 * i) (length l) (omega (arith, varyings-within))
 
-    pub near-found : (location : ℕ) → wordAt l (2 + 2 * i) % 0x800_0000 ≡ location → variableFound l (At (3 + 2 * i)) ≡ varyingAt location (decodeStage l .varyings)
+    pub near-found : (location : ℕ) → wordAt l (2 + 2 * i) % 0x800_0000 ≡ location → At (3 + 2 * i) ≡ locationFrom location (decodeStage l .varyings) 3
     unfolding decodeStage
     near-found location q =
         let k : i < countOf l = omega arith in
         let vs = readVaryings (countOf l) (drop 2 l) in
-        let z : 2 + 2 * i + 1 ≡ 3 + 2 * i = omega arith in
-        let a = varying-nth vs i (readLocated []) (well-formed l f .rises) (omega (arith, read-length 2 readLocated (countOf l) (drop 2 l))) in
-        sym (rw (nth-record 2 readLocated (countOf l) i (drop 2 l) (readLocated []) k, drop-drop (2 * i) 2 l, first-of l (2 + 2 * i), there l (2 + 2 * i) 1, z, q) at a)
+        let a = location-nth vs i 3 (readLocated []) (well-formed l f .rises) (omega (arith, read-length 2 readLocated (countOf l) (drop 2 l))) in
+        sym (rw (nth-record 2 readLocated (countOf l) i (drop 2 l) (readLocated []) k, drop-drop (2 * i) 2 l, first-of l (2 + 2 * i), q) at a)

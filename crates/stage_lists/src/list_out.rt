@@ -4,7 +4,7 @@ ghost use mathlib.Core.Bool.{true};
 ghost use mathlib.Core.List.{[], _∷_};
 ghost use Prim.Native.Nat.{_+_, _*_, _<_, _≤_, _^_};
 ghost use lib.ListN.{length, take, drop, set};
-ghost use Rattle.word.specs.Words.{kindOf, contentOf};
+ghost use Rattle.word.specs.Words.{wordAt, kindOf, contentOf};
 ghost use Rattle.word.specs.Lists.{flat};
 ghost use Rattle.varying.specs.Format.{varWellFormed, varOf, locatedEncodable, locatedWords, payloadEncodable};
 ghost use Rattle.stage_lists.specs.Meaning.{rising, insert, inserted};
@@ -26,6 +26,7 @@ pub fn begin_out(out: &mut [u32], primitive: PrimitiveIndex, payload: Payload) -
     ensures { λ _. ⌜ now (out .exit) ≡ encodeStage (record { primitive = primitive; payload = payload; varyings = []; room = drop 2 (now (out .entry)) }) ⌝ }
     ensures { λ r. ⌜ decodeStage (set (now (out .exit)) 0 r) ≡ record { primitive = primitive; payload = payload; varyings = []; room = drop 2 (now (out .entry)) } ⌝ }
     ensures { λ r. ⌜ outWellFormed (set (now (out .exit)) 0 r) ≡ true ⌝ }
+    ensures { λ r. ⌜ r ≡ wordAt (now (out .exit)) 0 ⌝ }
 {
     let head = primitive_word(primitive);
     let second = payload_word(payload);
@@ -104,6 +105,8 @@ pub fn insert_words(out: &mut [u32], head: u32, first: u32, var: u32) -> u32
     ensures { λ r. ⌜ set (now (out .exit)) 0 r ≡ encodeStage (inserted (record { location = contentOf first; var = varOf var }) (decodeStage (set (now (out .entry)) 0 head))) ⌝ }
     ensures { λ r. ⌜ decodeStage (set (now (out .exit)) 0 r) ≡ inserted (record { location = contentOf first; var = varOf var }) (decodeStage (set (now (out .entry)) 0 head)) ⌝ }
     ensures { λ r. ⌜ outWellFormed (set (now (out .exit)) 0 r) ≡ true ⌝ }
+    ensures { λ r. ⌜ now (out .exit) ≡ set (encodeStage (inserted (record { location = contentOf first; var = varOf var }) (decodeStage (set (now (out .entry)) 0 head)))) 0 (wordAt (now (out .entry)) 0) ⌝ }
+    ensures { λ r. ⌜ r ≡ wordAt (encodeStage (inserted (record { location = contentOf first; var = varOf var }) (decodeStage (set (now (out .entry)) 0 head)))) 0 ⌝ }
 {
     let n = (head % 0x1_0000) as usize;
     let second = var_word(var);

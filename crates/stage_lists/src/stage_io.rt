@@ -9,6 +9,7 @@ ghost use Rattle.places.specs.Places.{foundBelow};
 ghost use Rattle.stage_lists.specs.Meaning.{rising, varyingAt};
 ghost use Rattle.places.specs.Records.{countOf, each};
 ghost use Rattle.stage_lists.specs.Format.{locatedGood, readVaryings, variableFound, stageHead, outWellFormed, stageWellFormed, decodeStage};
+ghost use Rattle.stage_lists.specs.inner.Found.{locationFrom};
 use crate::types::PrimitiveIndex;
 use places::found::Found;
 use places::heads::counted;
@@ -123,6 +124,7 @@ fn find_within(l: &[u32], n: usize, location: u32) -> Found
     requires { ⌜ 2 + 2 * n ≤ length (now l) ⌝ }
     ensures { λ r. ⌜ variableFound (now (l .entry)) r ≡ varyingAt location (readVaryings n (drop 2 (now (l .entry)))) ⌝ }
     ensures { λ r. ⌜ foundBelow (length (now (l .entry))) r ≡ true ⌝ }
+    ensures { λ r. ⌜ r ≡ locationFrom location (readVaryings n (drop 2 (now (l .entry)))) 3 ⌝ }
 {
     let mut at: usize = 2;
     let mut left = n;
@@ -141,6 +143,7 @@ pub fn find_location(l: &[u32], location: u32, near: usize) -> Found
     requires { ⌜ outWellFormed (now l) ≡ true ⌝ }
     ensures { λ r. ⌜ variableFound (now (l .entry)) r ≡ varyingAt location (decodeStage (now (l .entry)) .varyings) ⌝ }
     ensures { λ r. ⌜ foundBelow (length (now (l .entry))) r ≡ true ⌝ }
+    ensures { λ r. ⌜ r ≡ locationFrom location (decodeStage (now (l .entry)) .varyings) 3 ⌝ }
 {
     let n = counted(l);
     if near < n {

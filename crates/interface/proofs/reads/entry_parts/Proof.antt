@@ -1,4 +1,4 @@
-use Rattle.interface.proofs.ReadsParts.{heads-there, head-inside, entry-inside, pack-short, nth-read, nth-placed}
+use Rattle.interface.proofs.ReadsParts.{heads-there, head-inside, entry-inside, pack-short, nth-read, nth-placed, nth-parts}
 use borrow.Author.Needs.{needs}
 use Rattle.interface.proofs.reads.entry_parts.Statement.{statement}
 use Rattle.interface.proofs.reads.entry_parts.Tie as tie
@@ -10,4 +10,4 @@ entry-parts-spec =
     (λ c κs. search heads-there)  -- position-at-requires
     (λ c. search needs)  -- cast-parts-at
     (λ c κs. (search head-inside, search entry-inside, search pack-short))  -- parts-at-requires
-    (λ c. (search nth-read, search nth-placed)))  -- returns
+    (λ c. (search nth-read, (search nth-placed, search nth-parts))))  -- returns

@@ -10,11 +10,11 @@ entries-next-spec =
     (tie.spec
     (λ c κs. search needs)  -- entry-points-next-requires
     (λ c. search needs)  -- same-length
-    (λ c. (search entries-stop, (search needs, λ n. absurd (n refl))))  -- returns
+    (λ c. (search entries-stop, (search needs, (λ n. absurd (n refl), search needs))))  -- returns
     (λ c. search needs)  -- slice-reshare-prefix-names-distinct
     (λ c. search (counted-is, heads-long))  -- slice-aggregate-names-distinct
     (λ c κs. search needs)  -- names-distinct-requires
     (λ c. search needs)  -- same-length-2
-    (λ c. (search entries-twice, (search needs, λ n. absurd (n refl))))  -- returns-2
+    (λ c. (search entries-twice, (search needs, (λ n. absurd (n refl), search needs))))  -- returns-2
     (λ c. search needs)  -- same-length-3
-    (λ c. (search entries-go, (search needs, search needs))))  -- returns-3
+    (λ c. (search entries-go, (search needs, (search needs, search needs)))))  -- returns-3

@@ -1,5 +1,6 @@
 use Rattle.resource_steps.proofs.ResourceParts.{position-there}
 use Rattle.resource_steps.proofs.ResourceWalk.{encodable-there, place-inside, type-inside, size-inside}
+use Rattle.resource_steps.proofs.NoteLaws.{notes-ended, notes-went}
 use Rattle.resource_steps.proofs.ProvideLaws.{provide-ended, provide-went}
 use borrow.Author.Needs.{needs}
 use Rattle.resource_steps.proofs.provide.provide_step.Statement.{statement}
@@ -20,7 +21,7 @@ provide-step-spec =
     (λ c κs. search size-inside)  -- size-at-requires
     (λ c κs. (search needs, search encodable-there))  -- record-buffer-requires
     (λ c. search needs)  -- same-length
-    (λ c. (search provide-ended, search needs))  -- returns
+    (λ c. (search provide-ended, (search needs, search notes-ended)))  -- returns
     (λ c κs. search needs)  -- provided-use-requires
     (λ c. search needs)  -- same-length-2
-    (λ c. (search (provide-went _ _ _ (c .before .before .before .before .before .before .before .before .before .before .before .before .before .before .before .before .before .pre .1 .1)), search needs)))  -- returns-2
+    (λ c. (search (provide-went _ _ _ (c .before .before .before .before .before .before .before .before .before .before .before .before .before .before .before .before .before .pre .1 .1)), (search needs, search (notes-went _ _ _ (c .before .before .before .before .before .before .before .before .before .before .before .before .before .before .before .before .before .pre .1 .1))))))  -- returns-2

@@ -1,4 +1,5 @@
 use Rattle.resource_steps.proofs.ResourceLaws.{found-few}
+use Rattle.resource_steps.proofs.NoteLaws.{note-found}
 use Rattle.resource_steps.proofs.ProvideLaws.{provided-none, provided-at}
 use Rattle.places.proofs.PlaceWays.{found-inside}
 use borrow.Author.Needs.{needs}
@@ -16,5 +17,5 @@ provided-use-spec =
     (λ c. search needs)  -- enum-known-found
     (λ c κs. (search needs, search found-inside))  -- entry-use-requires
     (λ c κs. search needs)  -- place-answer-requires-2
-    (λ c. search provided-none)  -- returns
-    (λ c. search provided-at))  -- returns-2
+    (λ c. (search provided-none, search note-found))  -- returns
+    (λ c. (search provided-at, search note-found)))  -- returns-2

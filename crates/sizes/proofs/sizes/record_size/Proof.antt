@@ -1,5 +1,5 @@
 use Rattle.places.proofs.PlaceWays.{content-tells}
-use Rattle.sizes.proofs.SizeStores.{head-there, records-within, sizes-begin, sizes-differ, index-inside, index-scaled, index-placed, index-next, size-lacks, size-fits, size-raised, record-decoded, record-well-formed, raised-well-formed}
+use Rattle.sizes.proofs.SizeStores.{head-there, records-within, sizes-begin, sizes-differ, index-inside, index-scaled, index-placed, index-next, size-lacks, size-fits, size-raised, next-noted, next-kept, record-decoded, record-well-formed, raised-well-formed}
 use borrow.Author.Needs.{needs}
 use Rattle.sizes.proofs.sizes.record_size.Statement.{statement}
 use Rattle.sizes.proofs.sizes.record_size.Tie as tie
@@ -24,6 +24,6 @@ record-size-spec =
     (λ c. search needs)  -- enum-told
     (λ c κs. (search needs, (search needs, search (size-lacks, content-tells))))  -- push-size-requires
     (λ c. search needs)  -- same-length
-    (λ c. (search (size-fits, content-tells), (search (size-raised, content-tells), (search (record-decoded, size-raised, content-tells), search raised-well-formed))))  -- returns
+    (λ c. (search (size-fits, content-tells), (search (size-raised, content-tells), (search (record-decoded, size-raised, content-tells), (search raised-well-formed, search (next-noted, content-tells))))))  -- returns
     (λ c. search needs)  -- same-length-2
-    (λ c. (search needs, (search needs, (search record-decoded, search record-well-formed)))))  -- returns-2
+    (λ c. (search needs, (search needs, (search record-decoded, (search record-well-formed, search (next-kept, content-tells)))))))  -- returns-2

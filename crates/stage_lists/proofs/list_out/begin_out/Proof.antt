@@ -1,4 +1,4 @@
-use Rattle.stage_lists.proofs.OutStores.{begun-words, begun-decoded, begun-well-formed}
+use Rattle.stage_lists.proofs.OutStores.{begun-words, begun-first, begun-decoded, begun-well-formed}
 use borrow.Author.Needs.{needs}
 use Rattle.stage_lists.proofs.list_out.begin_out.Statement.{statement}
 use Rattle.stage_lists.proofs.list_out.begin_out.Tie as tie
@@ -11,4 +11,4 @@ begin-out-spec =
     (λ c κs. search needs)  -- payload-word-requires
     (λ c κs. search needs)  -- store-two-requires
     (λ c. search needs)  -- same-length
-    (λ c. (search begun-words, (search begun-decoded, search begun-well-formed))))  -- returns
+    (λ c. (search begun-words, (search begun-decoded, (search begun-well-formed, search begun-first)))))  -- returns
