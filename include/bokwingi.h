@@ -24,10 +24,12 @@
  *
  * Answers
  *   An answer is a number, which is returned, and three details. The details
- *   are written to details[0], details[1] and details[2], as many as
- *   details_len has room for; words behind them are left as they are. A detail
- *   that is not named below is written as 0. 0 is acceptance, any other number
- *   a refusal. docs/REFUSALS.md says of each what to do about it.
+ *   are part of the answer and no lent list: every call writes them, a refusal
+ *   too, also one that "changes no list". They are written to details[0],
+ *   details[1] and details[2], as many as details_len has room for; words
+ *   behind them are left as they are. A detail that is not named below is
+ *   written as 0. 0 is acceptance, any other number a refusal.
+ *   docs/REFUSALS.md says of each what to do about it.
  */
 #ifndef BOKWINGI_H
 #define BOKWINGI_H
@@ -203,7 +205,11 @@ uint32_t bokwingi_texture_format(uint32_t code, uint32_t *details, size_t detail
 uint32_t bokwingi_check_texture_format(uint32_t format, uint32_t type,
                                        uint32_t *details, size_t details_len);
 
-/* Whether the first type fits into the second: 1 or 0, or 82 where one is no type word. */
+/*
+ * Whether the first type fits into the second. 1 says yes and 0 says no: here
+ * they are no numbers of the table, and 1 is no damaged pack. 82 where one of the
+ * two is no type word.
+ */
 uint32_t bokwingi_is_subtype_of(uint32_t a, uint32_t b);
 
 #ifdef __cplusplus

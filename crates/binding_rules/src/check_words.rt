@@ -3,6 +3,7 @@ ghost use mathlib.Core.Path.{_≡_};
 ghost use mathlib.Core.Bool.{true};
 ghost use Rattle.word.specs.Choice.{pick};
 ghost use Rattle.word.specs.Answers.{refused};
+ghost use Rattle.word.specs.Numbers.{malformedPack, badCall};
 ghost use Rattle.word.specs.declared.answer.Answer.{Answer};
 ghost use Rattle.bindings.specs.Format.{readResource, resourceAt, resourceEncodable, entryAt};
 ghost use Rattle.bindings.specs.Answers.{onlyResource, onlyEntry, checkWords, deriveWords};
@@ -24,7 +25,7 @@ use word::answer::Answer;
 // Whether the words are a resource and nothing more.
 fn resource_alone(ws: &[u32]) -> bool
     ensures { λ r. ⌜ ((k : Resource → Answer) → onlyResource (readResource (now (ws .entry))) k
-        ≡ pick r (k (resourceAt (now (ws .entry)) 0)) (refused 2)) ⌝ }
+        ≡ pick r (k (resourceAt (now (ws .entry)) 0)) (refused malformedPack)) ⌝ }
     ensures { λ r. ⌜ (r ≡ true → resourceEncodable (resourceAt (now (ws .entry)) 0) ≡ true) ⌝ }
 {
     let end = resource_next(ws, 0);
@@ -37,7 +38,7 @@ fn resource_alone(ws: &[u32]) -> bool
 // Whether the words are an entry and nothing more.
 fn entry_alone(ws: &[u32]) -> bool
     ensures { λ r. ⌜ ((k : BindGroupLayoutEntry → Answer) → onlyEntry (now (ws .entry)) k
-        ≡ pick r (k (entryAt (now (ws .entry)) 0)) (refused 3)) ⌝ }
+        ≡ pick r (k (entryAt (now (ws .entry)) 0)) (refused badCall)) ⌝ }
 {
     if ws.len() != 4 {
         return false;

@@ -13,7 +13,7 @@ use Rattle.places.specs.Records.{roomFor}
 use Rattle.places.specs.Places.{placeFrom, placeIn, distinctPlaces}
 use Rattle.places.specs.declared.found.Found.{Found}
 
--- a layout: how many groups it has, its entries in order, and words of free room
+-- a layout: how many groups it has, its entries in order, and words of free room, which are the format's: rules ask only how many there are
 pub record Layout : Type 0 where
   pub groups : ℕ
   pub entries : List BindGroupLayoutEntry

@@ -11,7 +11,7 @@ use Rattle.places.specs.Records.{roomFor}
 use Rattle.places.specs.Places.{samePlace, placeIn, distinctPlaces}
 use Rattle.sizes.specs.declared.size_record.SizeRecord.{SizeRecord}
 
--- the buffer sizes that shaders ask for, in order, and words of free room
+-- the buffer sizes that shaders ask for, in order, and words of free room, which are the format's: rules ask only how many there are
 pub record Sizes : Type 0 where
   pub records : List SizeRecord
   pub room : List ℕ

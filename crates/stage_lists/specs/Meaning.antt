@@ -11,7 +11,7 @@ use Rattle.stage_lists.specs.declared.types.PrimitiveIndex.{PrimitiveInd
 use Rattle.stage_lists.specs.declared.types.Provided.{Provided}
 use Rattle.stage_lists.specs.declared.types.Provided.the-variants as Pro
 
--- what a stage hands to the next: its local variables by rising location, and words of free room
+-- what a stage hands to the next: its local variables by rising location, and words of free room, which are the format's
 pub record StageIo : Type 0 where
   pub primitive : PrimitiveIndex
   pub payload : Payload
