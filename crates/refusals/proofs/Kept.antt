@@ -16,7 +16,7 @@ use Rattle.sizes.specs.Meaning.{Sizes}
 use Rattle.stage_lists.specs.Meaning.{StageIo}
 use Rattle.interface.specs.Meaning.{EntryPoint, Interface}
 use Rattle.output_steps.specs.declared.types.Request.{Request}
-use Rattle.resource_steps.specs.Meaning.{State}
+use Rattle.resource_steps.specs.Meaning.{State, state}
 use Rattle.resource_steps.specs.Kept.{enteredAll, sizesEntered}
 use Rattle.resource_steps.specs.Resources.{resourceNth, namedTexture, deriveStep, deriveSteps, provideStep, provideSteps, resourceSteps}
 use Rattle.resource_steps.proofs.Kept.{DerivesAll, derive-all, ProvidesAll, provide-all}
@@ -69,74 +69,71 @@ module _ (derived : Bool) (q : Request) (i : Interface) (e : EntryPoint) (inputs
     pub layout : ran .layout ≡ pick (yes derived) (enteredAll (q .stage) (i .resources) (e .pairs) done L) L
     pub sizes : ran .sizes ≡ pick (yes derived) S (sizesEntered (i .resources) (done ++ refused) S)
 
-module _ (q : Request) (i : Interface) (e : EntryPoint) (inputs : StageIo) (L : Layout) (S : Sizes) where
-  abbrev derived-layout : List ℕ → Layout
-  derived-layout is = enteredAll (q .stage) (i .resources) (e .pairs) is L
+  abbrev went : List ℕ → State
+  went is = resourceSteps (q .stage) derived (i .resources) (e .pairs) is L S
 
-  derived-kept : DerivesAll (q .stage) (i .resources) (e .pairs) (e .resources) L (deriveSteps (q .stage) (i .resources) (e .pairs) (e .resources) L)
-      → BodyKept true q i e inputs L S
-  unfolding yes stageBody resourceSteps
-  derived-kept (DerivesAll.all h) =
-      let M = derived-layout (e .resources) in
+  abbrev layout-by : List ℕ → Layout
+  layout-by done = pick (yes derived) (enteredAll (q .stage) (i .resources) (e .pairs) done L) L
+
+  abbrev sizes-by : List ℕ → Sizes
+  sizes-by recording = pick (yes derived) S (sizesEntered (i .resources) recording S)
+
+  -- every resource passed
+  none-refused : went (e .resources) ≡ state accepted (layout-by (e .resources)) (sizes-by (e .resources)) → BodyKept
+  unfolding stageBody
+  none-refused h =
+      let a = judgement derived q i e inputs (layout-by (e .resources)) in
+      let k = judgement-known derived q i e inputs (layout-by (e .resources)) in
       record {
         done = e .resources;
         refused = [];
         left = [];
         split = append-none (e .resources);
         passed = rw h;
-        ended = rw (h, judged-other (judgement true q i e inputs M) (judgement-known true q i e inputs M));
-        answer = rw h (answer-right resourceNumbers judgementNumbers (judgement true q i e inputs M) (judgement-known true q i e inputs M));
-        layout = rw h;
-        sizes = rw h;
-      }
-  derived-kept (DerivesAll.some done j rest split before at n) =
-      let a = deriveStep (q .stage) (namedTexture j (e .pairs)) (resourceNth (i .resources) j) (derived-layout done) .answer in
-      let z : a .number ≡ 0 → ⊥ = rw at at n in
-      let f = ne-eqb (a .number) 0 z in
-      let h = placed (resourceNth (i .resources) j .bind) a (derive-known (q .stage) (namedTexture j (e .pairs)) (resourceNth (i .resources) j) (derived-layout done)) z in
-      record {
-        done = done;
-        refused = j ∷ [];
-        left = rest;
-        split = split;
-        passed = rw before;
-        ended = rw (at, f) h;
-        answer = rw (at, f) (resource-answer (resourceNth (i .resources) j .bind) a h);
-        layout = rw (at, f);
-        sizes = rw (at, f);
-      }
-
-  provided-kept : ProvidesAll (q .stage) L (i .resources) (e .resources) S (provideSteps (q .stage) L (i .resources) (e .resources) S)
-      → BodyKept false q i e inputs L S
-  unfolding yes stageBody resourceSteps
-  provided-kept (ProvidesAll.all h) =
-      record {
-        done = e .resources;
-        refused = [];
-        left = [];
-        split = append-none (e .resources);
-        passed = rw h;
-        ended = rw (h, judged-other (judgement false q i e inputs L) (judgement-known false q i e inputs L));
-        answer = rw h (answer-right resourceNumbers judgementNumbers (judgement false q i e inputs L) (judgement-known false q i e inputs L));
+        ended = rw (h, judged-other a k);
+        answer = rw h (answer-right resourceNumbers judgementNumbers a k);
         layout = rw h;
         sizes = rw (h, ← append-none (e .resources));
       }
-  provided-kept (ProvidesAll.some done j rest split before at n) =
-      let a = provideStep (q .stage) L (resourceNth (i .resources) j) (sizesEntered (i .resources) done S) .answer in
-      let z : a .number ≡ 0 → ⊥ = rw at at n in
+
+  -- one was refused
+  one-refused : (done : List ℕ) (j : ℕ) (rest : List ℕ) → e .resources ≡ done ++ (j ∷ rest) → went done .answer ≡ accepted
+      → (a : Answer) → Placed (resourceNth (i .resources) j .bind) a → (a .number ≡ 0 → ⊥)
+      → went (e .resources) ≡ state a (layout-by done) (sizes-by (done ++ (j ∷ []))) → BodyKept
+  unfolding stageBody
+  one-refused done j rest split passed a k z h =
       let f = ne-eqb (a .number) 0 z in
-      let h = placed (resourceNth (i .resources) j .bind) a (provide-known (q .stage) L (resourceNth (i .resources) j) (sizesEntered (i .resources) done S)) z in
+      let on = placed (resourceNth (i .resources) j .bind) a k z in
       record {
         done = done;
         refused = j ∷ [];
         left = rest;
         split = split;
-        passed = rw before;
-        ended = rw (at, f) h;
-        answer = rw (at, f) (resource-answer (resourceNth (i .resources) j .bind) a h);
-        layout = rw (at, f);
-        sizes = rw (at, f);
+        passed = passed;
+        ended = rw (h, f) on;
+        answer = rw (h, f) (resource-answer (resourceNth (i .resources) j .bind) a on);
+        layout = rw (h, f);
+        sizes = rw (h, f);
       }
+
+module _ (q : Request) (i : Interface) (e : EntryPoint) (inputs : StageIo) (L : Layout) (S : Sizes) where
+  derived-kept : DerivesAll (q .stage) (i .resources) (e .pairs) (e .resources) L (deriveSteps (q .stage) (i .resources) (e .pairs) (e .resources) L)
+      → BodyKept true q i e inputs L S
+  unfolding yes resourceSteps
+  derived-kept (DerivesAll.all h) = none-refused true q i e inputs L S (rw h)
+  derived-kept (DerivesAll.some done j rest split before at n) =
+      let M = enteredAll (q .stage) (i .resources) (e .pairs) done L in
+      one-refused true q i e inputs L S done j rest split (rw before) (deriveStep (q .stage) (namedTexture j (e .pairs)) (resourceNth (i .resources) j) M .answer)
+      (derive-known (q .stage) (namedTexture j (e .pairs)) (resourceNth (i .resources) j) M) (rw at at n) (rw at)
+
+  provided-kept : ProvidesAll (q .stage) L (i .resources) (e .resources) S (provideSteps (q .stage) L (i .resources) (e .resources) S)
+      → BodyKept false q i e inputs L S
+  unfolding yes resourceSteps
+  provided-kept (ProvidesAll.all h) = none-refused false q i e inputs L S (rw h)
+  provided-kept (ProvidesAll.some done j rest split before at n) =
+      let T = sizesEntered (i .resources) done S in
+      one-refused false q i e inputs L S done j rest split (rw before) (provideStep (q .stage) L (resourceNth (i .resources) j) T .answer)
+      (provide-known (q .stage) L (resourceNth (i .resources) j) T) (rw at at n) (rw at)
 
 pub body-kept : (derived : Bool) (q : Request) (i : Interface) (e : EntryPoint) (inputs : StageIo) (L : Layout) (S : Sizes) → BodyKept derived q i e inputs L S
 body-kept true q i e inputs L S = derived-kept q i e inputs L S (derive-all (q .stage) (i .resources) (e .pairs) (e .resources) L)
