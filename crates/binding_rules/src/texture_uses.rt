@@ -4,6 +4,7 @@ ghost use Rattle.word.specs.Choice.{pick};
 ghost use Rattle.bindings.specs.Rules.{storable, sampleKindCode, viewFits, classOf, sampledFits, storageFits, accessOf, isExternal, classUse, textureUse};
 ghost use Rattle.bindings.specs.declared.types.BindingUse.the-variants as Use;
 use bindings::binding_codes::view_code;
+use bindings::flags::same_bool;
 use bindings::resource_words::storable;
 use bindings::types::BindingType;
 use bindings::types::BindingUse;
@@ -13,7 +14,6 @@ use bindings::types::SampleKind;
 use bindings::types::StorageTextureAccess;
 use bindings::types::TextureSampleType;
 use bindings::types::TextureViewDimension;
-use bindings::word_uses::same_bool;
 
 // Arrayed textures are 2D or cube.
 fn view_fits(dim: ImageDimension, arrayed: bool, view: TextureViewDimension) -> bool

@@ -2,13 +2,13 @@
 ghost use mathlib.Core.Path.{_≡_};
 ghost use Rattle.bindings.specs.Rules.{spaceOf, sameSpace, sizeUse, bufferUse, comparing, samplerUse, accelerationUse, checkBindingUse, useNumber};
 use crate::texture_uses::texture_use;
+use bindings::flags::same_bool;
 use bindings::types::AddressSpace;
 use bindings::types::BindingType;
 use bindings::types::BindingUse;
 use bindings::types::BufferBindingType;
 use bindings::types::ResourceType;
 use bindings::types::SamplerBindingType;
-use bindings::word_uses::same_bool;
 
 // The address space that a buffer entry stands for.
 fn space_of(ty: BufferBindingType) -> AddressSpace

@@ -6,6 +6,3 @@ pub mod DerivedTypes
 pub mod EntryFormat
 pub mod ResourceFormat
 pub mod SameBinding
-pub mod WordLaws
-pub mod WordTextures
-pub mod WordUses

@@ -27,7 +27,7 @@ use Rattle.bindings.proofs.ReadLaws.{place-encodable}
 use Rattle.bindings.proofs.EntryFormat.{type-read, entry-well-formed, entry-read}
 use Rattle.bindings.proofs.DerivedTypes.{derived-encodable}
 use Rattle.bindings.proofs.SameBinding.{same-binding-refl, other-by-code, other-by-least}
-use Rattle.bindings.proofs.WordLaws.{derived-least}
+use Rattle.word_rules.proofs.DeriveLaws.{derived-least}
 use Rattle.layouts.specs.Meaning.{Layout, entryPlaces, findEntry, entryHas, entryNth, pushed, joined, roomForEntry}
 use Rattle.layouts.specs.Format.{entryFits}
 use Rattle.places.proofs.PlaceWays.{place-lacks}

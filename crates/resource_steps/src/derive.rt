@@ -15,8 +15,6 @@ ghost use Rattle.resource_steps.specs.Resources.{resourceNth, layoutAfte
 use crate::resources::place_answer;
 use crate::types::Checked;
 use bindings::sizes::size_at;
-use bindings::word_derives::derived_least;
-use bindings::word_derives::derived_word;
 use interface::reads::position_at;
 use interface::reads::stage_code;
 use interface::types::ShaderStage;
@@ -30,6 +28,8 @@ use layouts::visibility::stage_bit;
 use places::found::Found;
 use word::answer::Answer;
 use word::content;
+use word_rules::derives::derived_least;
+use word_rules::derives::derived_word;
 
 // Whether the entry at a position is of a type, by the type's word and least size.
 fn same_type(layout: &[u32], index: usize, ty: u32, least: u64) -> bool

@@ -16,7 +16,6 @@ use crate::resources::noted;
 use crate::resources::place_answer;
 use crate::types::Checked;
 use bindings::sizes::size_at;
-use bindings::word_uses::words_use;
 use interface::reads::position_at;
 use interface::reads::stage_code;
 use interface::types::ShaderStage;
@@ -29,6 +28,7 @@ use places::found::Found;
 use sizes::sizes::record_size;
 use word::answer::Answer;
 use word::content;
+use word_rules::uses::words_use;
 
 // Records the size that a buffer asks for; a list without room is 5.
 fn record_buffer(place: u32, w: u32, size: u64, next: &mut [u16; 1], sizes: &mut [u32]) -> Answer

@@ -6,12 +6,12 @@ ghost use Prim.Native.Nat.{_+_, _<_, _^_};
 use binding_rules::check_words::check_words;
 use binding_rules::check_words::derive_words;
 use bindings::sizes::word_size;
-use bindings::word_derives::derived_least;
-use bindings::word_derives::derived_word;
-use bindings::word_uses::words_use;
 use libc::STDOUT_FILENO;
 use word::answer::Answer;
 use word::word;
+use word_rules::derives::derived_least;
+use word_rules::derives::derived_word;
+use word_rules::uses::words_use;
 
 // Group 1, binding 7; a size of 64; no least size; visible to the vertex stage.
 const PLACE: u32 = 0x2080_0007;

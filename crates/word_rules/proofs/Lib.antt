@@ -1,0 +1,3 @@
+pub mod TextureLaws
+pub mod UseLaws
+pub mod DeriveLaws
