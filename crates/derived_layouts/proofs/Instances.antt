@@ -30,7 +30,7 @@ use Rattle.interface.specs.declared.types.Limits.{Limits}
 use Rattle.input_steps.specs.Workgroup.{workgroupUse, workgroupStep}
 use Rattle.input_steps.specs.Inputs.{inputStep, inputSteps}
 use Rattle.output_steps.specs.Outputs.{clipSlots, builtInSlots, localCount, locationUses, vertexOutputs, anyOf, attachmentUse, fragmentSlots, fragmentOutputs, slotsStep}
-use Rattle.output_steps.specs.Last.{meshUse, payloadMatch, primitiveUse, drawUse, perVertexUse, lastStep}
+use Rattle.last_steps.specs.Last.{meshUse, payloadMatch, primitiveUse, drawUse, perVertexUse, lastStep}
 use Rattle.output_steps.specs.ListOut.{localsOf, stageOut}
 use Rattle.stage.specs.Meaning.{Call, codes, lent, call}
 use Rattle.derived_layouts.specs.Theorem.{derivedOver, putAgain, packReusable, interfaceOfCall, RoomEnough, Again, runOver, lacking}

@@ -1,3 +1,2 @@
-pub mod LastLaws
 pub mod ListOutLaws
 pub mod OutputLaws

@@ -1,4 +1,3 @@
-pub mod Last
 pub mod ListOut
 pub mod Outputs
 pub mod inner

@@ -1,5 +1,4 @@
-// The outputs of an entry point, the slots between stages, what is judged last, and the list out.
-pub mod last;
+// The outputs of an entry point, the slots between stages, and the list out.
 pub mod list_out;
 pub mod outputs;
 pub mod types;

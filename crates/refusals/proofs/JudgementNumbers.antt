@@ -44,7 +44,7 @@ use Rattle.output_steps.specs.declared.types.Request.{Request}
 use Rattle.input_steps.specs.Workgroup.{workgroupUse, workgroupStep}
 use Rattle.input_steps.specs.Inputs.{vertexInput, fragmentInput, inputNumber, localStep, inputStep, inputSteps, metBuiltIn}
 use Rattle.output_steps.specs.Outputs.{locationUse, locationUses, countUse, clipSlots, pointPart, localCount, builtInSlots, anyOf, isDepth, vertexOutputs, attachmentUse, fragmentSlots, fragmentOutputs, slotsStep}
-use Rattle.output_steps.specs.Last.{valueUse, meshUse, payloadUse, payloadMatch, primitiveUse, drawUse, perVertexUse, lastStep}
+use Rattle.last_steps.specs.Last.{valueUse, meshUse, payloadUse, payloadMatch, primitiveUse, drawUse, perVertexUse, lastStep}
 use Rattle.input_steps.specs.declared.types.InputWalk.{InputWalk}
 use Rattle.input_steps.specs.declared.types.Walked.{Walked}
 use Rattle.resource_steps.specs.Resources.{resourceNth}

@@ -32,7 +32,7 @@ use Rattle.interface.specs.declared.types.Limits.{Limits}
 use Rattle.output_steps.specs.declared.types.Request.{Request}
 use Rattle.input_steps.specs.Workgroup.{workgroupStep}
 use Rattle.output_steps.specs.Outputs.{slotsStep}
-use Rattle.output_steps.specs.Last.{lastUses, lastStep}
+use Rattle.last_steps.specs.Last.{lastUses, lastStep}
 use Rattle.input_steps.specs.Inputs.{inputSteps, startWalk, walked}
 use Rattle.output_steps.specs.ListOut.{stageOut}
 use Rattle.input_steps.specs.declared.types.InputWalk.{InputWalk}

@@ -25,7 +25,7 @@ use Rattle.entry_points.specs.declared.choose.Chosen.the-variants as Ch
 use Rattle.input_steps.specs.Workgroup.{workgroupStep}
 use Rattle.input_steps.specs.Inputs.{inputSteps, startWalk}
 use Rattle.output_steps.specs.Outputs.{slotsStep, localCount}
-use Rattle.output_steps.specs.Last.{lastStep}
+use Rattle.last_steps.specs.Last.{lastStep}
 use Rattle.output_steps.specs.ListOut.{stageOut}
 use Rattle.output_steps.specs.declared.types.Request.{Request}
 use Rattle.input_steps.specs.declared.types.InputWalk.{InputWalk}

@@ -26,7 +26,7 @@ use interface::types::EntryPointMeshInfo;
 use interface::types::MeshRecord;
 use interface::types::ShaderStage;
 use interface::types::WorkgroupSize;
-use output_steps::last::last_step;
+use last_steps::last::last_step;
 use output_steps::outputs::slots_step;
 use output_steps::types::Request;
 use output_steps::types::Summary;
