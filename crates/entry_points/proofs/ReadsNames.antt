@@ -14,9 +14,9 @@ use Rattle.word.specs.Words.{wordAt, bits}
 use Rattle.interface.specs.Format.{bytesOf, nameWords, sameBytes}
 use Rattle.interface.specs.inner.Reads.{nameAt}
 use Rattle.interface.specs.inner.Parts.{workgroupAt}
-use Rattle.pack_check.specs.inner.Walks.{firstWords, nameOf, sameFirst}
+use Rattle.entry_check.specs.inner.Walks.{firstWords, nameOf, sameFirst}
 use Rattle.word.proofs.Parse.{first-of, others-of}
-use Rattle.pack_check.proofs.CheckHeads.{last-byte, name-long, name-step, other-length}
+use Rattle.entry_check.proofs.CheckHeads.{last-byte, name-long, name-step, other-length}
 use Rattle.interface.proofs.EncodeNames.{Bytes, bytes-long}
 
 -- ---- bytes put together

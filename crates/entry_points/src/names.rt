@@ -7,8 +7,8 @@ ghost use Rattle.word.specs.Words.{bits};
 ghost use Rattle.interface.specs.Format.{bytesOf, nameWords, sameBytes};
 ghost use Rattle.interface.specs.inner.Reads.{nameAt};
 ghost use Rattle.interface.specs.inner.Parts.{workgroupAt};
-ghost use Rattle.pack_check.specs.inner.Walks.{nameOf};
-use pack_check::check_names::same_first;
+ghost use Rattle.entry_check.specs.inner.Walks.{nameOf};
+use entry_check::check_names::same_first;
 
 // How many bytes a name has, by the entry point's first word.
 pub fn name_count(head: u32) -> usize

@@ -18,10 +18,11 @@ use Rattle.varying.specs.Format.{payloadWellFormed}
 use Rattle.bindings.specs.declared.types.Resource.{Resource}
 use Rattle.interface.specs.Meaning.{EntryPoint}
 use Rattle.interface.specs.Format.{headWellFormed, bytesOf, nameWellFormed, nameWords, readName, readWorkgroup, readMesh, countsWellFormed, indexWellFormed, contents, pairWellFormed, readVarying, clips, stageAt, stageCode, named, hasName, distinctNames, readEntryPoint}
-use Rattle.pack_check.specs.inner.Walks.{listed, firstWords, nameOf, sameHead, hasHead, distinctHeads, HeadAt, Headed, none, more}
+use Rattle.entry_check.specs.inner.Walks.{listed, firstWords, nameOf, sameHead, hasHead, distinctHeads}
+use Rattle.pack_check.specs.inner.Records.{HeadAt, Headed, none, more}
 use Rattle.pack_check.proofs.CheckRecords.{listed-more}
 use Rattle.interface.proofs.Passing.{yields-word, yields-known}
-use Rattle.pack_check.proofs.CheckCases.{yields-cons}
+use Rattle.entry_check.proofs.CheckCases.{yields-cons}
 
 -- ---- the name that is read
 

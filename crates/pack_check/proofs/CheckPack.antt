@@ -16,13 +16,14 @@ use Rattle.bindings.specs.declared.types.Resource.{Resource}
 use Rattle.bindings.specs.Format.{readResource}
 use Rattle.interface.specs.Meaning.{Interface}
 use Rattle.interface.specs.Format.{ofWord, editionWellFormed, totalsWellFormed, distinctNames, readEntryPoint, readPack, damaged, decode, decodedNumber, whole, body}
-use Rattle.pack_check.specs.inner.Walks.{onward, word, thence, listed, packResources, pairRoles, roleTable, distinctHeads, Headed, entriesBehind, recordsBehind}
+use Rattle.entry_check.specs.inner.Walks.{onward, word, thence, listed, packResources, pairRoles, roleTable, distinctHeads}
+use Rattle.pack_check.specs.inner.Records.{Headed, entriesBehind, recordsBehind}
 use Rattle.pack_check.proofs.CheckRecords.{listed-long}
 use Rattle.word.proofs.Truth.{first, second, neither}
-use Rattle.pack_check.proofs.CheckSteps.{step-stop, step-go, word-stop, word-go}
-use Rattle.pack_check.proofs.CheckWalks.{on-word, on-step}
+use Rattle.entry_check.proofs.CheckSteps.{step-stop, step-go, word-stop, word-go}
+use Rattle.entry_check.proofs.CheckWalks.{on-word, on-step}
 use Rattle.pack_check.proofs.CheckEntries.{distinct-named}
-use Rattle.pack_check.proofs.CheckCases.{decided, test-behind}
+use Rattle.entry_check.proofs.CheckCases.{decided, test-behind}
 
 -- ---- entry points
 

@@ -16,7 +16,8 @@ use Rattle.word.proofs.ParseReads.{Stands}
 use Rattle.bindings.specs.Format.{readResource, resourceAt, isBufferWord}
 use Rattle.interface.specs.Format.{readEntryPoint, damaged, decode, decodedNumber, body}
 use Rattle.interface.specs.inner.Reads.{resourcesAt}
-use Rattle.pack_check.specs.inner.Walks.{packResources, entriesBehind, recordsBehind, Stop, Stops, EntryStops}
+use Rattle.entry_check.specs.inner.Walks.{packResources}
+use Rattle.pack_check.specs.inner.Records.{entriesBehind, recordsBehind, Stop, Stops, EntryStops}
 use Rattle.interface.specs.inner.Parts.{recordsFrom, endFrom, resourceEnd, entryEnd, entryPointAt, resourceCount, entryCount, entriesAt, Offsets, Heads}
 use Rattle.interface.proofs.ReadsRecords.{ReadsAt, several-records}
 use Rattle.interface.proofs.ReadsEntry.{entry-stands}

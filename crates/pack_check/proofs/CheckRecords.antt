@@ -17,8 +17,9 @@ use Rattle.bindings.specs.Format.{placeWellFormed, resourceWordWellFormed, size
 use Rattle.bindings.specs.declared.types.Resource.{Resource}
 use Rattle.bindings.specs.declared.types.ResourceType.the-variants as Res
 use Rattle.bindings.specs.declared.types.ImageClass.the-variants as Class
-use Rattle.pack_check.specs.inner.Walks.{listed, pairRole, pairRoles, roleOf}
-use Rattle.pack_check.proofs.CheckPairs.{roles-long}
+use Rattle.entry_check.specs.inner.Walks.{listed, pairRole, pairRoles}
+use Rattle.pack_check.specs.inner.Records.{roleOf}
+use Rattle.entry_check.proofs.CheckPairs.{roles-long}
 use Rattle.interface.proofs.Passing.{yields-word, all-read}
 
 -- ---- what several readers list

@@ -7,14 +7,14 @@ use mathlib.Core.Bool.{Bool, true, false, not}
 use mathlib.Core.List.{List, [], _∷_, _++_, append-assoc}
 use borrow.Author.Tests.{not-true, not-false}
 use lib.ListN.{length, take, drop, set, length-drop, take-append-drop}
-use lib.Seq.{drop-cons, drop-set-lt, take-suc-set, drop-drop}
+use lib.Seq.{drop-cons, drop-set-lt, take-suc-set}
 use Rattle.word.specs.Words.{wordAt, bits}
 use Rattle.word.specs.Parse.{Parsed, one, several, behind, restAt}
 use Rattle.word.proofs.Parse.{stopped, went}
 use Rattle.bindings.specs.Format.{readResource}
 use Rattle.interface.specs.Format.{ofWord, editionWellFormed, totalsWellFormed, readEntryPoint, damaged, body}
 use Rattle.interface.specs.inner.Parts.{resourceCount}
-use Rattle.pack_check.specs.inner.Walks.{listed, packResources}
+use Rattle.entry_check.specs.inner.Walks.{listed, packResources}
 use Rattle.pack_check.specs.inner.Positions.{over, onRead, positions, entriesFrom, behindLimits, resourcesNoted, entriesNoted, resourcePositions, entryPositions}
 
 -- ---- one more position

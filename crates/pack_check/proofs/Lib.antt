@@ -1,14 +1,6 @@
-pub mod CheckCases
 pub mod CheckEntries
-pub mod CheckHeads
-pub mod CheckNames
-pub mod CheckOutputs
+pub mod CheckLimits
 pub mod CheckPack
-pub mod CheckPairs
 pub mod CheckPositions
 pub mod CheckRecords
-pub mod CheckSteps
 pub mod CheckTables
-pub mod CheckVaryings
-pub mod CheckWalks
-pub mod CheckWords

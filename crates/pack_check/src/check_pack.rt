@@ -9,10 +9,11 @@ ghost use Rattle.word.specs.Parse.{one, several, behind, restAt};
 ghost use Rattle.bindings.specs.Format.{readResource};
 ghost use Rattle.interface.specs.Format.{ofWord, editionWellFormed, totalsWellFormed, readEntryPoint, readPack, damaged, decode, decodedNumber};
 ghost use Rattle.interface.specs.inner.Parts.{resourceCount, Offsets, Heads};
-ghost use Rattle.pack_check.specs.inner.Walks.{listed, roleOf, pairRoles, roleTable, packResources, Headed, entriesBehind, recordsBehind, Stops, EntryStops};
+ghost use Rattle.entry_check.specs.inner.Walks.{listed, pairRoles, roleTable, packResources};
+ghost use Rattle.pack_check.specs.inner.Records.{roleOf, Headed, entriesBehind, recordsBehind, Stops, EntryStops};
 ghost use Rattle.pack_check.specs.inner.Positions.{over, positions, entriesFrom, resourcesNoted, entriesNoted, resourcePositions, entryPositions};
-use crate::check_entry::entry_point_next;
-use crate::check_names::names_distinct;
+use entry_check::check_entry::entry_point_next;
+use entry_check::check_names::names_distinct;
 
 // What a resource can be in a sampling pair, by its type word: 2 for a texture that is sampled, 1 for a sampler, else 0.
 fn role(w: u32) -> u8

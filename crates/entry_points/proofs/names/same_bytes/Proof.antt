@@ -3,7 +3,7 @@ use Prim.Native.Nat.{_+_, _-_, _*_, _/_, _≤_}
 use mathlib.Core.Path.{_≡_}
 use lib.ListN.{length, drop}
 use Rattle.interface.specs.Format.{sameBytes}
-use Rattle.pack_check.specs.inner.Walks.{nameOf}
+use Rattle.entry_check.specs.inner.Walks.{nameOf}
 use borrow.Author.Needs.{needs}
 use Rattle.entry_points.proofs.names.same_bytes.Statement.{statement}
 use Rattle.entry_points.proofs.names.same_bytes.Tie as tie

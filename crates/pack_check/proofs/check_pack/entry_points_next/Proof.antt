@@ -6,7 +6,8 @@ use borrow.Author.Needs.{needs}
 use Rattle.word.specs.Parse.{several, behind, restAt}
 use Rattle.word.proofs.Parse.{several-begins, several-more, several-stops, several-ended}
 use Rattle.interface.specs.Format.{readEntryPoint}
-use Rattle.pack_check.specs.inner.Walks.{listed, packResources, Headed, Stops}
+use Rattle.entry_check.specs.inner.Walks.{listed, packResources}
+use Rattle.pack_check.specs.inner.Records.{Headed, Stops}
 use Rattle.pack_check.specs.inner.Positions.{over, positions}
 use Rattle.pack_check.proofs.CheckEntries.{heads-begin, heads-go, heads-end}
 use Rattle.pack_check.proofs.CheckPositions.{stops-none, stops-more, stops-all}

@@ -5,7 +5,7 @@ use borrow.Author.Needs.{needs}
 use Rattle.word.specs.Choice.{pick}
 use Rattle.word.specs.Parse.{one, several, behind, restAt}
 use Rattle.interface.specs.Format.{ofWord}
-use Rattle.pack_check.proofs.CheckSteps.{limits-lack, limits-begin, limits-more, limits-all, limits-none}
+use Rattle.pack_check.proofs.CheckLimits.{limits-lack, limits-begin, limits-more, limits-all, limits-none}
 use Rattle.pack_check.proofs.check_pack.limits_next.Statement.{statement}
 use Rattle.pack_check.proofs.check_pack.limits_next.Tie as tie
 

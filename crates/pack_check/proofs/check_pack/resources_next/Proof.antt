@@ -6,7 +6,8 @@ use borrow.Author.Needs.{needs}
 use Rattle.word.specs.Parse.{several, behind, restAt}
 use Rattle.word.proofs.Parse.{several-begins, several-more, several-stops, several-ended}
 use Rattle.bindings.specs.Format.{readResource}
-use Rattle.pack_check.specs.inner.Walks.{listed, pairRoles, Stops}
+use Rattle.entry_check.specs.inner.Walks.{listed, pairRoles}
+use Rattle.pack_check.specs.inner.Records.{Stops}
 use Rattle.pack_check.specs.inner.Positions.{over, positions}
 use Rattle.pack_check.proofs.CheckRecords.{roles-begin, roles-go, roles-end}
 use Rattle.pack_check.proofs.CheckPositions.{stops-none, stops-more, stops-all}

@@ -1,5 +1,5 @@
 use borrow.Author.Needs.{needs}
-use Rattle.pack_check.proofs.CheckSteps.{still-is, still-not}
+use Rattle.pack_check.proofs.CheckLimits.{still-is, still-not}
 use Rattle.pack_check.proofs.check_pack.still_good.Statement.{statement}
 use Rattle.pack_check.proofs.check_pack.still_good.Tie as tie
 

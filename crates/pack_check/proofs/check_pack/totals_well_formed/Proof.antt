@@ -1,4 +1,4 @@
-use Rattle.pack_check.proofs.CheckWords.{kind-first}
+use Rattle.entry_check.proofs.CheckWords.{kind-first}
 use Rattle.word.proofs.Tests.{tests}
 use borrow.Author.Needs.{needs}
 use Rattle.pack_check.proofs.check_pack.totals_well_formed.Statement.{statement}
