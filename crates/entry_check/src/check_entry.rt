@@ -86,13 +86,13 @@ fn workgroup_next(body: &[u32], at: usize) -> usize
     kinds_next(body, at, 3, 8)
 }
 
-// The position behind a mesh record, if one is rolesOf.
-fn mesh_next(body: &[u32], at: usize, rolesOf: bool) -> usize
+// The position behind a mesh record, if one is marked.
+fn mesh_next(body: &[u32], at: usize, marked: bool) -> usize
     requires { ⌜ (1 ≤ at) × (at ≤ length (now body)) ⌝ }
-    ensures { λ r. ⌜ restAt (now (body .entry)) r ≡ behind (readMesh rolesOf (drop at (now (body .entry)))) ⌝ }
+    ensures { λ r. ⌜ restAt (now (body .entry)) r ≡ behind (readMesh marked (drop at (now (body .entry)))) ⌝ }
     ensures { λ r. ⌜ r ≤ length (now (body .entry)) ⌝ }
 {
-    if !rolesOf {
+    if !marked {
         return at;
     }
     let topology = kinds_next(body, at, 2, 10);

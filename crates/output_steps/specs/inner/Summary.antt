@@ -1,5 +1,5 @@
 -- What one pass over varyings gathers.
-use Prim.Native.Nat.{ℕ, _+_, _-_, max}
+use Prim.Native.Nat.{ℕ, _+_, max}
 use mathlib.Core.Bool.{_||_}
 use mathlib.Core.List.{List, [], _∷_}
 use Rattle.interface.specs.declared.types.BuiltIn.{BuiltIn}
