@@ -1,1 +1,1 @@
-// Demand 1: what a stage check answers, and what a refusal leaves as it was. Laws alone.
+// Demand 1: what every function answers, and what a refused stage check leaves in the lent lists. Laws alone.
