@@ -17,7 +17,8 @@ use Rattle.word.specs.declared.answer.Answer.{Answer}
 use Rattle.interface.specs.Meaning.{EntryPoint, entryPointNth}
 use Rattle.interface.specs.Format.{stageAt, stageCode, named, sameBytes, Decoded, Damaged, Malformed, Pack, decode, decodedNumber, interfaceOf}
 use Rattle.interface.specs.inner.Reads.{nameAt, standing}
-use Rattle.entry_points.specs.Rules.{ofStage, findFrom, onlyFrom, onlyEntryPoint, onlyAnswer, finalizeName, met, chosenIn}
+use Rattle.entry_points.specs.Rules.{ofStage, findFrom, onlyFrom, onlyEntryPoint, onlyAnswer, finalizeName}
+use Rattle.entry_points.specs.inner.Walk.{met, chosenIn}
 use Rattle.interface.specs.inner.Parts.{partsAt, entryEnd, entryPointAt, entryCount, entriesAt, Heads}
 use Rattle.interface.specs.declared.types.ShaderStage.{ShaderStage}
 use Rattle.entry_points.specs.declared.choose.Chosen.{Chosen}

@@ -1,6 +1,6 @@
 -- The choice of an entry point (document 01, 'Names' and refusals 10 to 12).
 use Prim.Native.Nat.{ℕ, _+_}
-use mathlib.Core.Bool.{Bool, true, false}
+use mathlib.Core.Bool.{Bool}
 use mathlib.Core.List.{List, [], _∷_}
 use lib.Dec.{eqb, ltb}
 use Rattle.word.specs.Choice.{pick}
@@ -54,18 +54,3 @@ unfoldable pub finalizeName : Decoded → ℕ → Answer
 finalizeName Damaged stage = refused (decodedNumber Damaged)
 finalizeName Malformed stage = refused (decodedNumber Malformed)
 finalizeName (Pack i) stage = pick (ltb stage 5) (onlyAnswer (onlyEntryPoint (stageAt stage) (i .entries))) (refused Number.badCall)
-
--- ---- the walk over entry points
-
--- one entry point more, of the stage or not, at a place
-abbrev pub met : Chosen → Bool → ℕ → Chosen
-met found false i = found
-met Ch.Absent true i = Ch.At i
-met (Ch.At j) true i = Ch.Several
-met Ch.Several true i = Ch.Several
-
--- a chosen place is one of as many
-abbrev pub chosenIn : Chosen → ℕ → Bool
-chosenIn (Ch.At i) n = ltb i n
-chosenIn Ch.Absent n = true
-chosenIn Ch.Several n = true

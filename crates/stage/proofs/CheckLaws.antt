@@ -22,7 +22,8 @@ use Rattle.interface.specs.Meaning.{EntryPoint, Interface, entryPointNth}
 use Rattle.interface.specs.Format.{decode, decodedNumber, stageAt, contents, pairsOf, interfaceOf}
 use Rattle.interface.specs.inner.Reads.{standing}
 use Rattle.interface.specs.inner.Parts.{Placed, Offsets}
-use Rattle.entry_points.specs.Rules.{chosenIn, findEntryPoint}
+use Rattle.entry_points.specs.Rules.{findEntryPoint}
+use Rattle.entry_points.specs.inner.Walk.{chosenIn}
 use Rattle.entry_points.specs.declared.choose.Chosen.{Chosen}
 use Rattle.entry_points.specs.declared.choose.Chosen.the-variants as Ch
 use Rattle.interface.specs.declared.types.EntryParts.{EntryParts}

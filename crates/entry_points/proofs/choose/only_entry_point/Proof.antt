@@ -3,7 +3,8 @@ use mathlib.Core.Path.{_≡_}
 use mathlib.Core.Bool.{true}
 use lib.ListN.{drop}
 use Rattle.interface.specs.Format.{decode, interfaceOf}
-use Rattle.entry_points.specs.Rules.{chosenIn, onlyFrom, onlyEntryPoint}
+use Rattle.entry_points.specs.Rules.{onlyFrom, onlyEntryPoint}
+use Rattle.entry_points.specs.inner.Walk.{chosenIn}
 use Rattle.entry_points.proofs.ReadsChoice.{only-onward, only-ended, ended-in}
 use borrow.Author.Needs.{needs}
 use Rattle.entry_points.proofs.choose.only_entry_point.Statement.{statement}
