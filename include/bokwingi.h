@@ -122,13 +122,13 @@ enum bokwingi_number {
     BOKWINGI_INPUT_SAMPLING = 53,      /* the sampling is another */
     BOKWINGI_INPUT_PER_PRIMITIVE = 54, /* one is per primitive, the other is not */
 
-    /* places between stages, and attachments */
+    /* inter-stage slots (what the limit on inter-stage variables counts), and attachments */
     BOKWINGI_VERTEX_LOCATION = 60,   /* an output past the highest location: location, limit */
-    BOKWINGI_VERTEX_COUNT = 61,      /* more outputs than places: count, limit */
+    BOKWINGI_VERTEX_COUNT = 61,      /* more outputs than slots: count, limit */
     BOKWINGI_FRAGMENT_LOCATION = 62, /* an input at or past the limit: location, limit */
-    BOKWINGI_FRAGMENT_COUNT = 63,    /* more inputs than places: count, limit */
+    BOKWINGI_FRAGMENT_COUNT = 63,    /* more inputs than slots: count, limit */
     BOKWINGI_COLOUR_LOCATION = 64,   /* an output past the attachments: location, limit */
-    BOKWINGI_PLACES_USED_UP = 65,    /* built-ins alone take more places than there are */
+    BOKWINGI_SLOTS_USED_UP = 65,     /* built-ins alone take more slots than there are */
     BOKWINGI_DUAL_SOURCE = 66,       /* dual source asked for and not supported */
     BOKWINGI_DEPTH_ATTACHMENT = 67,  /* depth written and none attached */
 

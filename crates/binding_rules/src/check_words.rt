@@ -21,6 +21,7 @@ use bindings::resource_words::resource_at;
 use bindings::resource_words::resource_next;
 use bindings::types::Derived;
 use word::answer::Answer;
+use word::numbers;
 
 // Whether the words are a resource and nothing more.
 fn resource_alone(ws: &[u32]) -> bool
@@ -51,10 +52,10 @@ pub fn check_words(resource: &[u32], entry: &[u32]) -> Answer
     ensures { λ r. ⌜ r ≡ checkWords (now (resource .entry)) (now (entry .entry)) ⌝ }
 {
     if !resource_alone(resource) {
-        return Answer::refused(2);
+        return Answer::refused(numbers::MALFORMED_PACK);
     }
     if !entry_alone(entry) {
-        return Answer::refused(3);
+        return Answer::refused(numbers::BAD_CALL);
     }
     let r = resource_at(resource, 0);
     let e = entry_at(entry, 0);
@@ -69,7 +70,7 @@ pub fn derive_words(resource: &[u32], named: bool) -> Answer
     ensures { λ r. ⌜ r ≡ deriveWords (now (resource .entry)) named ⌝ }
 {
     if !resource_alone(resource) {
-        return Answer::refused(2);
+        return Answer::refused(numbers::MALFORMED_PACK);
     }
     let r = resource_at(resource, 0);
     let ty = r.ty;
@@ -78,6 +79,9 @@ pub fn derive_words(resource: &[u32], named: bool) -> Answer
         Derived::Binding { ty: derived } => {
             Answer::new(0, binding_word(derived), least_word(derived), 0)
         }
-        Derived::WrongBufferAddressSpace => binding_answer(24, bind),
+        Derived::WrongBufferAddressSpace => binding_answer(
+            numbers::WRONG_BUFFER_ADDRESS_SPACE,
+            bind,
+        ),
     }
 }

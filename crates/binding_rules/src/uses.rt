@@ -9,6 +9,7 @@ use bindings::types::BindingUse;
 use bindings::types::BufferBindingType;
 use bindings::types::ResourceType;
 use bindings::types::SamplerBindingType;
+use word::numbers;
 
 // The address space that a buffer entry stands for.
 fn space_of(ty: BufferBindingType) -> AddressSpace
@@ -153,12 +154,12 @@ pub(crate) fn use_number(binding_use: BindingUse) -> u32
 {
     match binding_use {
         BindingUse::Accepted => 0,
-        BindingUse::WrongType => 22,
-        BindingUse::WrongAddressSpace => 23,
-        BindingUse::WrongBufferSize => 25,
-        BindingUse::WrongTextureViewDimension => 26,
-        BindingUse::WrongTextureClass => 27,
-        BindingUse::WrongSamplerComparison => 28,
-        BindingUse::BadStorageFormat => 30,
+        BindingUse::WrongType => numbers::WRONG_TYPE,
+        BindingUse::WrongAddressSpace => numbers::WRONG_ADDRESS_SPACE,
+        BindingUse::WrongBufferSize => numbers::WRONG_BUFFER_SIZE,
+        BindingUse::WrongTextureViewDimension => numbers::WRONG_TEXTURE_VIEW_DIMENSION,
+        BindingUse::WrongTextureClass => numbers::WRONG_TEXTURE_CLASS,
+        BindingUse::WrongSamplerComparison => numbers::WRONG_SAMPLER_COMPARISON,
+        BindingUse::BadStorageFormat => numbers::BAD_STORAGE_FORMAT,
     }
 }

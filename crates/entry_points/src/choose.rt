@@ -16,6 +16,7 @@ use interface::reads::stage_code;
 use interface::types::ShaderStage;
 use pack_check::check_pack::index_pack;
 use word::answer::Answer;
+use word::numbers;
 
 // Which entry point a call means, by its position among all entry points.
 pub enum Chosen {
@@ -104,8 +105,8 @@ fn only_answer(chosen: Chosen) -> Answer
 {
     match chosen {
         Chosen::At { position } => Answer::new(0, position as u32, 0, 0),
-        Chosen::Absent => Answer::refused(11),
-        Chosen::Several => Answer::refused(12),
+        Chosen::Absent => Answer::refused(numbers::ENTRY_NONE),
+        Chosen::Several => Answer::refused(numbers::ENTRY_SEVERAL),
     }
 }
 
@@ -120,7 +121,7 @@ pub fn finalize_entry_point_name(pack: &[u32], stage: u32) -> Answer
         return Answer::refused(refusal);
     }
     if 4 < stage {
-        return Answer::refused(3);
+        return Answer::refused(numbers::BAD_CALL);
     }
     let chosen = only_entry_point(pack, &heads, stage_at(stage));
     only_answer(chosen)

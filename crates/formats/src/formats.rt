@@ -10,6 +10,7 @@ use numeric::types::Scalar;
 use numeric::types::ScalarKind;
 use numeric::types::VectorSize;
 use word::answer::Answer;
+use word::numbers;
 
 // The type of a format's data, as a shader sees it.
 pub enum FormatType {
@@ -178,8 +179,8 @@ fn format_answer(format_type: FormatType) -> Answer
 {
     match format_type {
         FormatType::Known(t) => Answer::new(0, numeric::type_words::type_word(t), 0, 0),
-        FormatType::NoColour => Answer::refused(80),
-        FormatType::Unknown => Answer::refused(82),
+        FormatType::NoColour => Answer::refused(numbers::NO_COLOUR_TYPE),
+        FormatType::Unknown => Answer::refused(numbers::UNKNOWN_CODE),
     }
 }
 
@@ -200,13 +201,13 @@ pub fn check_texture_format(format: u32, output: u32) -> Answer
     ensures { λ r. ⌜ r ≡ checkTextureFormat (textureFormat format) (readType output) ⌝ }
 {
     match from_texture_format(format) {
-        FormatType::Unknown => Answer::refused(82),
+        FormatType::Unknown => Answer::refused(numbers::UNKNOWN_CODE),
         FormatType::NoColour => match numeric::type_words::read_type(output) {
-            TypeRead::Bad => Answer::refused(82),
-            TypeRead::Numeric(_) => Answer::refused(80),
+            TypeRead::Bad => Answer::refused(numbers::UNKNOWN_CODE),
+            TypeRead::Numeric(_) => Answer::refused(numbers::NO_COLOUR_TYPE),
         },
         FormatType::Known(t) => match numeric::type_words::read_type(output) {
-            TypeRead::Bad => Answer::refused(82),
+            TypeRead::Bad => Answer::refused(numbers::UNKNOWN_CODE),
             TypeRead::Numeric(written) => check_type(t, written),
         },
     }
@@ -218,5 +219,10 @@ fn check_type(t: NumericType, written: NumericType) -> Answer
     if t.fits(written) {
         return Answer::accepted();
     }
-    Answer::new(81, numeric::type_words::type_word(t), 0, 0)
+    Answer::new(
+        numbers::FORMAT_MISMATCH,
+        numeric::type_words::type_word(t),
+        0,
+        0,
+    )
 }

@@ -5,6 +5,7 @@ ghost use mathlib.Core.List.{[], _∷_};
 ghost use Prim.Native.Nat.{_+_, _<_, _≤_, _^_};
 ghost use lib.ListN.{length, drop};
 ghost use Rattle.word.specs.Choice.{pick};
+ghost use Rattle.word.specs.Numbers.{inputPerPrimitive};
 ghost use Rattle.word.specs.Words.{wordAt, contentOf};
 ghost use Rattle.bindings.specs.Rules.{sameBool};
 ghost use Rattle.varying.specs.Format.{locationWellFormed, varOf};
@@ -28,6 +29,7 @@ use varying::location_well_formed;
 use varying::var_of;
 use word::answer::Answer;
 use word::content;
+use word::numbers;
 
 // A vertex input by its word and the provided one's: the scalar kinds agree, and the shader's own is not per primitive.
 fn vertex_input(w: u32, provided: u32) -> u32
@@ -35,27 +37,27 @@ fn vertex_input(w: u32, provided: u32) -> u32
     ensures { λ r. ⌜ r ≤ 54 ⌝ }
 {
     if w / 16 % 4 != provided / 16 % 4 {
-        return 51;
+        return numbers::INPUT_TYPE;
     }
     if w / 0x4_0000 % 2 == 1 {
-        return 54;
+        return numbers::INPUT_PER_PRIMITIVE;
     }
     0
 }
 
 // Both per primitive, or neither.
 fn per_primitive_use(shader: bool, provided: bool) -> u32
-    ensures { λ r. ⌜ r ≡ pick (sameBool shader provided) 0 54 ⌝ }
+    ensures { λ r. ⌜ r ≡ pick (sameBool shader provided) 0 inputPerPrimitive ⌝ }
     ensures { λ r. ⌜ r ≤ 54 ⌝ }
 {
     if shader {
         if provided {
             return 0;
         }
-        return 54;
+        return numbers::INPUT_PER_PRIMITIVE;
     }
     if provided {
-        return 54;
+        return numbers::INPUT_PER_PRIMITIVE;
     }
     0
 }
@@ -66,17 +68,17 @@ fn fragment_values(iv: InterfaceVar, provided: InterfaceVar) -> u32
     ensures { λ r. ⌜ r ≤ 54 ⌝ }
 {
     if iv.interpolation != provided.interpolation {
-        return 52;
+        return numbers::INPUT_INTERPOLATION;
     }
     if iv.sampling != provided.sampling {
-        return 53;
+        return numbers::INPUT_SAMPLING;
     }
     let ty = iv.ty;
     let provided_ty = provided.ty;
     if ty.fits(provided_ty) {
         return per_primitive_use(iv.per_primitive, provided.per_primitive);
     }
-    51
+    numbers::INPUT_TYPE
 }
 
 // A fragment input by its word and the provided one's, which may be the same.
@@ -98,9 +100,9 @@ fn provided_number(stage: ShaderStage, w: u32, provided: u32) -> u32
     match stage {
         ShaderStage::Vertex => vertex_input(w, provided),
         ShaderStage::Fragment => fragment_input(w, provided),
-        ShaderStage::Compute => 51,
-        ShaderStage::Task => 51,
-        ShaderStage::Mesh => 51,
+        ShaderStage::Compute => numbers::INPUT_TYPE,
+        ShaderStage::Task => numbers::INPUT_TYPE,
+        ShaderStage::Mesh => numbers::INPUT_TYPE,
     }
 }
 
@@ -112,7 +114,7 @@ fn input_number(stage: ShaderStage, inputs: &[u32], location: u32, w: u32, near:
 {
     match find_location(inputs, location, near) {
         Found::At { index } => provided_number(stage, w, inputs[index]),
-        Found::Nothing => 50,
+        Found::Nothing => numbers::INPUT_MISSING,
     }
 }
 

@@ -9,6 +9,7 @@ use interface::types::Limits;
 use interface::types::ShaderStage;
 use interface::types::WorkgroupSize;
 use word::answer::Answer;
+use word::numbers;
 
 // The three dimensions that are judged, and the limit on their product.
 pub struct WorkgroupSizeCheck<'a> {
@@ -70,10 +71,10 @@ fn dimensions_use(dimensions: &[u32], x: u32, y: u32, z: u32, total: u32) -> Ans
         z: dimensions[2],
     };
     if too_large(size, x, y, z, total) {
-        return Answer::new(40, size.x, size.y, size.z);
+        return Answer::new(numbers::WORKGROUP_TOO_LARGE, size.x, size.y, size.z);
     }
     if product_zero(size.x, size.y, size.z) {
-        return Answer::new(41, size.x, size.y, size.z);
+        return Answer::new(numbers::WORKGROUP_ZERO, size.x, size.y, size.z);
     }
     Answer::accepted()
 }

@@ -12,6 +12,7 @@ use output_steps::types::Request;
 use stage_lists::types::PrimitiveIndex;
 use varying::Payload;
 use word::answer::Answer;
+use word::numbers;
 
 // The number of a topology.
 fn topology_code(topology: PrimitiveTopology) -> u32
@@ -40,17 +41,25 @@ fn value_use(number: u32, value: u32, limit: u32) -> Answer
 fn mesh_info_use(topology: u32, limits: Limits, info: EntryPointMeshInfo) -> Answer
     ensures { λ r. ⌜ r ≡ meshUse topology limits (MeshRecord.Info info) ⌝ }
 {
-    let vertices = value_use(70, info.max_vertices, limits.max_mesh_output_vertices);
+    let vertices = value_use(
+        numbers::MESH_VERTICES,
+        info.max_vertices,
+        limits.max_mesh_output_vertices,
+    );
     if vertices.number != 0 {
         return vertices;
     }
-    let primitives = value_use(71, info.max_primitives, limits.max_mesh_output_primitives);
+    let primitives = value_use(
+        numbers::MESH_PRIMITIVES,
+        info.max_primitives,
+        limits.max_mesh_output_primitives,
+    );
     if primitives.number != 0 {
         return primitives;
     }
     let primitive_topology = info.primitive_topology;
     if topology != topology_code(primitive_topology) {
-        return Answer::refused(72);
+        return Answer::refused(numbers::MESH_TOPOLOGY);
     }
     Answer::accepted()
 }
@@ -71,7 +80,7 @@ pub(crate) fn payload_use(limit: u32, payload: Payload) -> Answer
 {
     match payload {
         Payload::Absent => Answer::accepted(),
-        Payload::Size { bytes } => value_use(73, bytes, limit),
+        Payload::Size { bytes } => value_use(numbers::PAYLOAD_LARGE, bytes, limit),
     }
 }
 
@@ -82,7 +91,7 @@ fn mesh_payload_match(shader: Payload, input: Payload) -> Answer
     if varying::same_payload(shader, input) {
         return Answer::accepted();
     }
-    Answer::refused(74)
+    Answer::refused(numbers::PAYLOAD_MISMATCH)
 }
 
 // A mesh stage has the payload of the stage before it.
@@ -106,7 +115,7 @@ fn fragment_primitive_use(read: bool, written: PrimitiveIndex) -> Answer
         PrimitiveIndex::None => Answer::accepted(),
         PrimitiveIndex::False => {
             if read {
-                return Answer::refused(75);
+                return Answer::refused(numbers::INVALID_PRIMITIVE_INDEX);
             }
             Answer::accepted()
         }
@@ -114,7 +123,7 @@ fn fragment_primitive_use(read: bool, written: PrimitiveIndex) -> Answer
             if read {
                 return Answer::accepted();
             }
-            Answer::refused(76)
+            Answer::refused(numbers::MISSING_PRIMITIVE_INDEX)
         }
     }
 }
@@ -141,7 +150,7 @@ fn mesh_draw_use(draw: bool, input: Payload) -> Answer
     }
     match input {
         Payload::Absent => Answer::accepted(),
-        Payload::Size { bytes: _ } => Answer::refused(77),
+        Payload::Size { bytes: _ } => Answer::refused(numbers::DRAW_INDEX),
     }
 }
 
@@ -171,7 +180,7 @@ pub(crate) fn per_vertex_use(per_vertex: bool, topology: u32) -> Answer
     if topology == 4 {
         return Answer::accepted();
     }
-    Answer::refused(78)
+    Answer::refused(numbers::PER_VERTEX_NOT_TRIANGLES)
 }
 
 // Payload, primitive index, draw index and per-vertex inputs against the stage before and the topology.

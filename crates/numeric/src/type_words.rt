@@ -10,6 +10,7 @@ use crate::types::ScalarKind;
 use crate::types::VectorSize;
 use crate::types::kind_code;
 use crate::types::size_code;
+use word::numbers;
 
 // What a lone type word holds.
 pub enum TypeRead {
@@ -166,6 +167,6 @@ pub fn subtype_number(compared: Compared) -> u32
             Fit::OtherKind => 0,
             Fit::OtherShape => 0,
         },
-        Compared::Unknown => 82,
+        Compared::Unknown => numbers::UNKNOWN_CODE,
     }
 }

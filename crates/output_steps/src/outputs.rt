@@ -23,6 +23,7 @@ use interface::types::ShaderStage;
 use word::answer::Answer;
 use word::content;
 use word::kind;
+use word::numbers;
 
 // A size over four, rounded up.
 fn quarters(size: u32) -> u32
@@ -213,15 +214,15 @@ pub(crate) fn vertex_outputs(
     let clip = outputs.clip_slots;
     let taken = point_part(topology) + clip;
     if limit < taken {
-        return Answer::refused(65);
+        return Answer::refused(numbers::SLOTS_USED_UP);
     }
     if limit < 1 + clip {
-        return Answer::refused(65);
+        return Answer::refused(numbers::SLOTS_USED_UP);
     }
     if limit - clip < outputs.reach {
-        return location_uses(pack, from, n, 60, limit - clip, limit);
+        return location_uses(pack, from, n, numbers::VERTEX_LOCATION, limit - clip, limit);
     }
-    count_use(61, outputs.locals, limit - taken, limit)
+    count_use(numbers::VERTEX_COUNT, outputs.locals, limit - taken, limit)
 }
 
 // The inputs of a fragment stage against the slots that its built-in inputs leave.
@@ -232,12 +233,12 @@ pub(crate) fn fragment_slots(pack: &[u32], from: usize, n: usize, limit: u32, lo
     let s = summary(pack, from, n);
     let taken = s.built_in_slots;
     if limit < taken {
-        return Answer::refused(65);
+        return Answer::refused(numbers::SLOTS_USED_UP);
     }
     if limit < s.reach {
-        return location_uses(pack, from, n, 62, limit, limit);
+        return location_uses(pack, from, n, numbers::FRAGMENT_LOCATION, limit, limit);
     }
-    count_use(63, locals, limit - taken, limit)
+    count_use(numbers::FRAGMENT_COUNT, locals, limit - taken, limit)
 }
 
 // What is wanted is not given.
@@ -263,10 +264,10 @@ pub(crate) fn attachment_use(
     let head = parts.head;
     let shader = pack[head] % 2 == 1;
     if lacks(request.dual_source, shader) {
-        return Answer::refused(66);
+        return Answer::refused(numbers::DUAL_SOURCE);
     }
     if lacks(outputs.depth, request.depth) {
-        return Answer::refused(67);
+        return Answer::refused(numbers::DEPTH_ATTACHMENT);
     }
     Answer::accepted()
 }
@@ -294,7 +295,7 @@ pub(crate) fn fragment_outputs(
     let most = limits.max_color_attachments;
     if most < outputs.reach {
         let n = outputs_counted(counts);
-        return location_uses(pack, parts.outputs, n, 64, most, most);
+        return location_uses(pack, parts.outputs, n, numbers::COLOUR_LOCATION, most, most);
     }
     attachment_use(pack, parts, outputs, request)
 }

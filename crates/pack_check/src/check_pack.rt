@@ -14,6 +14,7 @@ ghost use Rattle.pack_check.specs.inner.Records.{roleOf, Headed, entries
 ghost use Rattle.pack_check.specs.inner.Positions.{over, positions, entriesFrom, resourcesNoted, entriesNoted, resourcePositions, entryPositions};
 use entry_check::check_entry::entry_point_next;
 use entry_check::check_names::names_distinct;
+use word::numbers;
 
 // What a resource can be in a sampling pair, by its type word: 2 for a texture that is sampled, 1 for a sampler, else 0.
 fn role(w: u32) -> u8
@@ -251,11 +252,11 @@ pub fn index_pack(pack: &[u32], offsets: &mut [u16], heads: &mut [u16]) -> u32
     ensures { λ _. ⌜ now (heads .exit) ≡ over (entryPositions (now (pack .entry))) (now (heads .entry)) ⌝ }
 {
     if is_damaged(pack) {
-        return 1;
+        return numbers::DAMAGED_PACK;
     }
     let last = pack.len() - 1;
     if pack_next(&pack[..last], offsets, heads) != last {
-        return 2;
+        return numbers::MALFORMED_PACK;
     }
     0
 }

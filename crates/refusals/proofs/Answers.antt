@@ -10,7 +10,10 @@ use Rattle.word.specs.Parse.{Parsed, fault, got}
 use Rattle.word.specs.Answers.{refused}
 use Rattle.word.specs.declared.answer.Answer.{Answer}
 use Rattle.word.proofs.Truth.{by-test}
-use Rattle.numeric.specs.Types.{fits}
+use Rattle.numeric.specs.Types.{fits, isFit}
+use Rattle.numeric.specs.TypeWords.{subtypeNumber}
+use Rattle.numeric.specs.declared.type_words.Compared.{Compared}
+use Rattle.numeric.specs.declared.type_words.Compared.the-variants as C
 use Rattle.numeric.specs.declared.types.NumericType.{NumericType}
 use Rattle.numeric.specs.declared.type_words.TypeRead.{TypeRead}
 use Rattle.numeric.specs.declared.type_words.TypeRead.the-variants.{Numeric, Bad}
@@ -27,18 +30,26 @@ use Rattle.bindings.specs.declared.types.BindingUse.{BindingUse}
 use Rattle.bindings.specs.declared.types.BindingUse.the-variants as Use
 use Rattle.bindings.specs.declared.types.Derived.{Derived}
 use Rattle.bindings.specs.declared.types.Derived.the-variants as Der
-use Rattle.interface.specs.Format.{Decoded, Damaged, Malformed, Pack, stageAt}
+use Rattle.interface.specs.Format.{Decoded, Damaged, Malformed, Pack, decodedNumber, stageAt}
 use Rattle.entry_points.specs.Rules.{onlyEntryPoint, onlyAnswer, finalizeName}
 use Rattle.entry_points.specs.declared.choose.Chosen.{Chosen}
 use Rattle.entry_points.specs.declared.choose.Chosen.the-variants as Ch
-use Rattle.refusals.specs.Table.{early, stageNumbers, nameNumbers, vertexFormatNumbers, textureFormatNumbers, formatUseNumbers, wordsUseNumbers, derivationNumbers, table, answered}
+use Rattle.refusals.specs.Table.{early, stageNumbers, packNumbers, subtypeNumbers, nameNumbers, vertexFormatNumbers, textureFormatNumbers, formatUseNumbers, wordsUseNumbers, derivationNumbers, table, answered}
 use Rattle.refusals.proofs.Known.{either}
 
 -- ---- every function's numbers are in the table
 
-pub numbers-listed : every (every (among table)) (early ∷ stageNumbers ∷ nameNumbers ∷ vertexFormatNumbers ∷ textureFormatNumbers ∷ formatUseNumbers ∷ wordsUseNumbers ∷ derivationNumbers ∷ []) ≡ true
+pub numbers-listed : every (every (among table)) (early ∷ stageNumbers ∷ packNumbers ∷ nameNumbers ∷ vertexFormatNumbers ∷ textureFormatNumbers ∷ formatUseNumbers ∷ wordsUseNumbers ∷ derivationNumbers ∷ []) ≡ true
 unfolding every among
 numbers-listed = refl
+
+-- ---- a pack alone
+
+pub pack-answered : (d : Decoded) → among packNumbers (decodedNumber d) ≡ true
+unfolding among
+pack-answered Damaged = refl
+pack-answered Malformed = refl
+pack-answered (Pack i) = refl
 
 -- ---- the choice of a name: acceptance names the position
 
@@ -127,6 +138,13 @@ format-use-answered NoColour Bad = refl
 format-use-answered (Known t) Bad = refl
 format-use-answered NoColour (Numeric output) = refl
 format-use-answered (Known t) (Numeric output) = type-answered t output
+
+-- ---- whether a type is below another
+
+pub subtype-answered : (c : Compared) → among subtypeNumbers (subtypeNumber c) ≡ true
+unfolding among
+subtype-answered (C.Types fit) = by-test (isFit fit) (λ y. rw y) (λ n. rw n)
+subtype-answered C.Unknown = refl
 
 -- ---- words of a resource against those of an entry: acceptance names nothing
 

@@ -44,6 +44,10 @@ stageNumbers = 0 ∷ (callNumbers ++ (resourceNumbers ++ judgementNumbers))
 
 -- ---- the other functions that answer
 
+-- the check of a pack alone
+abbrev pub packNumbers : List ℕ
+packNumbers = 0 ∷ Number.damagedPack ∷ Number.malformedPack ∷ []
+
 -- 'Choosing a name where none is given: 1, 2, 3, 11, 12'
 abbrev pub nameNumbers : List ℕ
 nameNumbers = 0 ∷ Number.damagedPack ∷ Number.malformedPack ∷ Number.badCall ∷ Number.entryNone ∷ Number.entrySeveral ∷ []
@@ -68,6 +72,10 @@ wordsUseNumbers =
 -- the derivation of an entry's type from the words of a resource
 abbrev pub derivationNumbers : List ℕ
 derivationNumbers = 0 ∷ Number.malformedPack ∷ Number.wrongBufferAddressSpace ∷ []
+
+-- whether a lone type is below another: no and yes, which are no numbers of the table, or 82
+abbrev pub subtypeNumbers : List ℕ
+subtypeNumbers = 0 ∷ 1 ∷ Number.unknownCode ∷ []
 
 -- ---- all of them
 

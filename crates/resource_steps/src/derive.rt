@@ -28,6 +28,7 @@ use layouts::visibility::stage_bit;
 use places::found::Found;
 use word::answer::Answer;
 use word::content;
+use word::numbers;
 use word_rules::derives::derived_least;
 use word_rules::derives::derived_word;
 
@@ -64,7 +65,7 @@ fn occupied(
         join_visibility(layout, index, stage_code(stage));
         return Answer::accepted();
     }
-    place_answer(29, place)
+    place_answer(numbers::INCONSISTENTLY_DERIVED_TYPE, place)
 }
 
 // A place that has no entry gets one; a list without room is 5.
@@ -81,7 +82,7 @@ fn vacant(stage: ShaderStage, place: u32, ty: u32, least: u64, layout: &mut [u32
     if push_entry(layout, 0x2000_0000 + content(place), ty, least, visibility) {
         return Answer::accepted();
     }
-    place_answer(5, place)
+    place_answer(numbers::FULL_LIST, place)
 }
 
 // A derived type, by its word and least size, at its place.
@@ -116,13 +117,13 @@ fn derive_step(
     ensures { λ a. ⌜ layoutWellFormed (now (layout .exit)) ≡ true ⌝ }
 {
     if group_count(layout) <= place / 0x80_0000 % 16 {
-        return place_answer(20, place);
+        return place_answer(numbers::MISSING, place);
     }
     let ty = derived_word(w, named);
     if 0 < ty {
         return place_step(stage, place, ty, derived_least(w, size), layout);
     }
-    place_answer(24, place)
+    place_answer(numbers::WRONG_BUFFER_ADDRESS_SPACE, place)
 }
 
 // Whether some pair names an index as its texture.

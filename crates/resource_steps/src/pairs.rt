@@ -17,6 +17,7 @@ use layouts::layout::find_entry_near;
 use places::found::Found;
 use word::answer::Answer;
 use word::content;
+use word::numbers;
 
 // Whether a type word is a filtering sampler's.
 fn filtering(sampler: u32) -> bool
@@ -31,12 +32,12 @@ fn sample_number(texture: u32) -> u32
 {
     let code = texture / 16 % 8;
     if code == 1 {
-        return 32;
+        return numbers::FILTERING_FLOAT;
     }
     if code < 3 {
         return 0;
     }
-    33
+    numbers::FILTERING_INTEGER
 }
 
 // The type words of a texture's entry and of a sampler's entry: 34 where the first is no texture.
@@ -53,7 +54,7 @@ fn pair_number(texture: u32, sampler: u32) -> u32
     if code == 5 {
         return 0;
     }
-    34
+    numbers::PAIR_NO_TEXTURE
 }
 
 // The type word of the entry at a word's place, tried at a position first; where there is none, one that is no texture and no sampler.

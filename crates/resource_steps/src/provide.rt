@@ -28,6 +28,7 @@ use places::found::Found;
 use sizes::sizes::record_size;
 use word::answer::Answer;
 use word::content;
+use word::numbers;
 use word_rules::uses::words_use;
 
 // Records the size that a buffer asks for; a list without room is 5.
@@ -44,7 +45,7 @@ fn record_buffer(place: u32, w: u32, size: u64, next: &mut [u16; 1], sizes: &mut
     if record_size(sizes, 0x2000_0000 + content(place), size, next) {
         return Answer::accepted();
     }
-    place_answer(5, place)
+    place_answer(numbers::FULL_LIST, place)
 }
 
 // Whether the entry at a position serves a resource: 21 where the stage does not see it.
@@ -54,7 +55,7 @@ fn entry_use(stage: ShaderStage, w: u32, size: u64, layout: &[u32], index: usize
     ensures { λ r. ⌜ r ≡ entryUse stage (resourceTypeOf w size) (entryNth (decodeLayout (now (layout .entry)) .entries) index) ⌝ }
 {
     if !sees(entry_visibility(layout, index), stage_code(stage)) {
-        return 21;
+        return numbers::INVISIBLE;
     }
     let ty = entry_type(layout, index);
     words_use(w, size, ty, entry_least(layout, index))
@@ -78,7 +79,7 @@ fn provided_use(
     let found = find_entry_near(layout, place, near);
     note(entries, i, found);
     match found {
-        Found::Nothing => place_answer(20, place),
+        Found::Nothing => place_answer(numbers::MISSING, place),
         Found::At { index } => place_answer(entry_use(stage, w, size, layout, index), place),
     }
 }

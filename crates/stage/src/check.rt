@@ -40,6 +40,7 @@ use resource_steps::provide::provide_steps;
 use sizes::sizes::sizes_well_formed;
 use stage_lists::stage_io::stage_well_formed;
 use word::answer::Answer;
+use word::numbers;
 
 // The resources of an entry point against the layout and the sizes.
 fn check_resources(
@@ -203,7 +204,7 @@ fn on_entry_point(
     let parts = entry_parts(pack, heads, position);
     let outputs = output_summary(pack, parts);
     if out.len() < 2 + 2 * outputs.locals as usize {
-        return Answer::refused(4);
+        return Answer::refused(numbers::SHORT_OUT);
     }
     run_body(
         pack,
@@ -247,8 +248,8 @@ fn on_named(
             out,
             codes,
         ),
-        Chosen::Absent => Answer::refused(10),
-        Chosen::Several => Answer::refused(10),
+        Chosen::Absent => Answer::refused(numbers::ENTRY_ABSENT),
+        Chosen::Several => Answer::refused(numbers::ENTRY_ABSENT),
     }
 }
 
@@ -322,7 +323,7 @@ fn check_call(
             codes,
         );
     }
-    Answer::refused(3)
+    Answer::refused(numbers::BAD_CALL)
 }
 
 // Checks one stage: whether the entry point of this stage and name fits the layout, what the stage before hands on, and the limits.

@@ -1,4 +1,4 @@
--- The numbers that answers carry (document 01, 'Numbers'), each written here and nowhere else; include/bokwingi.h has the same names.
+-- The numbers that answers carry (document 01, 'Numbers'), each written here and in no other definition; src/numbers.rt and include/bokwingi.h have the same names.
 use Prim.Native.Nat.{ℕ}
 
 -- ---- the pack and the call

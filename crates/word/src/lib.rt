@@ -1,5 +1,6 @@
 // Words of 32 bits: a total read, the kind and the content of a word, the closing sum, and the answer of a check.
 pub mod answer;
+pub mod numbers;
 
 ghost use mathlib.Core.Path.{_≡_};
 ghost use Prim.Native.Nat.{_<_, _^_};

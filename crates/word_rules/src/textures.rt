@@ -6,6 +6,7 @@ ghost use Rattle.bindings.specs.Rules.{viewFits, classOf, sampledFits, storageF
 ghost use Rattle.bindings.specs.Format.{typeCode, bitSet, dimensionAt, sampleKindAt, resourceTypeOf, viewAt, sampleAt, accessAt, bindingTypeOf};
 ghost use Rattle.bindings.specs.declared.types.ImageClass.the-variants as Class;
 use bindings::resource_words::storable;
+use word::numbers;
 
 // Whether a texture stands in a view: arrayed textures are 2D or cube.
 fn view_fits(w: u32, view: u32) -> bool
@@ -63,7 +64,11 @@ fn depth_fits(w: u32, entry: u32) -> bool
 fn class_number(fits: bool) -> u32
     ensures { λ r. ⌜ r ≡ useNumber (classUse fits) ⌝ }
 {
-    if fits { 0 } else { 27 }
+    if fits {
+        0
+    } else {
+        numbers::WRONG_TEXTURE_CLASS
+    }
 }
 
 // Whether a sampled entry serves a sampled texture.
@@ -74,7 +79,7 @@ pub(crate) fn sampled_number(w: u32, entry: u32) -> u32
     if view_fits(w, entry % 8) {
         return class_number(sampled_fits(w, entry));
     }
-    26
+    numbers::WRONG_TEXTURE_VIEW_DIMENSION
 }
 
 // Whether a sampled entry serves a depth texture.
@@ -85,7 +90,7 @@ pub(crate) fn depth_number(w: u32, entry: u32) -> u32
     if view_fits(w, entry % 8) {
         return class_number(depth_fits(w, entry));
     }
-    26
+    numbers::WRONG_TEXTURE_VIEW_DIMENSION
 }
 
 // Whether a sampled entry serves a resource of another sort: a texture of another class is 27 in its view.
@@ -94,12 +99,12 @@ pub(crate) fn unsampled_number(w: u32, entry: u32) -> u32
     ensures { λ r. ⌜ ((size least : ℕ) → useNumber (checkBindingUse (resourceTypeOf w size) (bindingTypeOf entry least)) ≡ r) ⌝ }
 {
     if 6 <= w / 0x80_0000 % 16 {
-        return 22;
+        return numbers::WRONG_TYPE;
     }
     if view_fits(w, entry % 8) {
-        return 27;
+        return numbers::WRONG_TEXTURE_CLASS;
     }
-    26
+    numbers::WRONG_TEXTURE_VIEW_DIMENSION
 }
 
 // Whether a storage texture is of the format and access of a storage entry: load and store serve store alone too.
@@ -129,15 +134,15 @@ fn storage_number(w: u32, entry: u32) -> u32
     ensures { λ r. ⌜ ((size least : ℕ) → useNumber (checkBindingUse (resourceTypeOf w size) (bindingTypeOf entry least)) ≡ r) ⌝ }
 {
     if !view_fits(w, entry % 8) {
-        return 26;
+        return numbers::WRONG_TEXTURE_VIEW_DIMENSION;
     }
     if !storable(entry / 256 % 128) {
-        return 30;
+        return numbers::BAD_STORAGE_FORMAT;
     }
     if w / 0x80_0000 % 16 == 4 {
         return class_number(storage_fits(w, entry));
     }
-    27
+    numbers::WRONG_TEXTURE_CLASS
 }
 
 // Whether the external entry serves a texture: it is 2D, and serves external textures alone.
@@ -148,7 +153,7 @@ fn external_number(w: u32, entry: u32) -> u32
     if view_fits(w, 1) {
         return class_number(w / 0x80_0000 % 16 == 5);
     }
-    26
+    numbers::WRONG_TEXTURE_VIEW_DIMENSION
 }
 
 // Whether an entry that is not sampled serves a texture.
@@ -163,5 +168,5 @@ pub(crate) fn texture_number(w: u32, entry: u32) -> u32
     if provided == 5 {
         return external_number(w, entry);
     }
-    26
+    numbers::WRONG_TEXTURE_VIEW_DIMENSION
 }

@@ -9,6 +9,7 @@ use crate::textures::sampled_number;
 use crate::textures::texture_number;
 use crate::textures::unsampled_number;
 use bindings::flags::same_bool;
+use word::numbers;
 
 // Whether a buffer's address space is that of a buffer entry: read-only storage is load, other storage load with store.
 fn spaces_agree(w: u32, entry: u32) -> bool
@@ -32,7 +33,7 @@ fn size_number(size: u64, least: u64) -> u32
         return 0;
     }
     if least < size {
-        return 25;
+        return numbers::WRONG_BUFFER_SIZE;
     }
     0
 }
@@ -42,12 +43,12 @@ fn buffer_number(w: u32, size: u64, entry: u32, least: u64) -> u32
     ensures { λ r. ⌜ r ≡ useNumber (bufferUse size (spaceAt (bits 4 3 w) (bits 2 0 w)) (bindingTypeOf entry least)) ⌝ }
 {
     if entry / 0x80_0000 % 16 != 0 {
-        return 22;
+        return numbers::WRONG_TYPE;
     }
     if spaces_agree(w, entry) {
         return size_number(size, least);
     }
-    23
+    numbers::WRONG_ADDRESS_SPACE
 }
 
 // Whether an entry serves a sampler.
@@ -55,12 +56,12 @@ fn sampler_number(w: u32, entry: u32) -> u32
     ensures { λ r. ⌜ ((least : ℕ) → useNumber (samplerUse (bitSet 0 w) (bindingTypeOf entry least)) ≡ r) ⌝ }
 {
     if entry / 0x80_0000 % 16 != 1 {
-        return 22;
+        return numbers::WRONG_TYPE;
     }
     if same_bool(w % 2 == 1, 2 <= entry % 0x80_0000) {
         return 0;
     }
-    28
+    numbers::WRONG_SAMPLER_COMPARISON
 }
 
 // Whether an entry serves an acceleration structure: codes that are no other type's, 3 and those above 5, are read as one.
@@ -68,7 +69,7 @@ fn acceleration_number(w: u32, entry: u32) -> u32
     ensures { λ r. ⌜ ((least : ℕ) → useNumber (accelerationUse (bitSet 0 w) (bindingTypeOf entry least)) ≡ r) ⌝ }
 {
     if w % 2 != entry % 2 {
-        return 22;
+        return numbers::WRONG_TYPE;
     }
     let provided = entry / 0x80_0000 % 16;
     if 6 <= provided {
@@ -77,7 +78,7 @@ fn acceleration_number(w: u32, entry: u32) -> u32
     if provided == 3 {
         return 0;
     }
-    22
+    numbers::WRONG_TYPE
 }
 
 // Whether an entry serves a resource, by the type words and the sizes of both: 0, or the number of the refusal.
