@@ -3,10 +3,12 @@
 tests/expected/NAME.txt for each samples/NAME.pack, and tests/expected/calls.txt, the shortest generated call for each
 sort of call, number and mode, of accepted ones also for each stage and for lists that change or not, as 'CASE = ANSWER' in the form that oracle/README.md has.
 
-    tools/link_expected.py"""
+    tools/link_expected.py
+    tools/link_expected.py check        # the stored texts of the samples against the model and the Rust (program oracle)"""
 import glob
 import os
 import subprocess
+import sys
 
 ROOT = os.path.join(os.path.dirname(os.path.abspath(__file__)), '..')
 PROGRAMS = os.path.join(ROOT, 'oracle/target/release')
@@ -38,15 +40,15 @@ def entry_points(pack):
             at += 2 if pack[at] >> 27 == 12 else 1
 
 
-def program_text(pack):
-    """What document 01's program prints, each stage answered by the model."""
-    number = run('model', text='name %s 0\n' % listed(pack)).split()[0]
+def program_text(pack, judge):
+    """What document 01's program prints, each stage answered by a program of oracle/."""
+    number = run(judge, text='name %s 0\n' % listed(pack)).split()[0]
     if number in ('1', '2'):
         return '9 %s 0 0 0\n' % number
     layout, fed, lines = listed([17 << 27 | 8 << 16] + [0] * 1023), listed([11 << 27, 9 << 27]), []
     for stage, name in entry_points(pack):
         case = 'stage %s %s %s %s %s %s %d 3 1 0 1\n' % (listed(pack), layout, listed([20 << 27]), fed, listed(ROOM), name, stage)
-        number, first, second, third, layout, _, out = run('model', text=case).split()
+        number, first, second, third, layout, _, out = run(judge, text=case).split()
         lines.append('%d %s %d %d %d\n' % (stage, number, int(first, 16), int(second, 16), int(third, 16)))
         fed = out if number == '0' else fed
     words = [int(w, 16) for w in layout.split(',')]
@@ -76,11 +78,30 @@ def chosen_calls():
     return [best[key] for key in sorted(best)]
 
 
-if __name__ == '__main__':
+def samples():
+    """Each sample's words, and the file that has what is printed of it."""
     for path in sorted(glob.glob(os.path.join(ROOT, 'samples/*.pack'))):
         data = open(path, 'rb').read()
         pack = [int.from_bytes(data[i:i + 4], 'little') for i in range(0, len(data), 4)]
-        with open(os.path.join(EXPECTED, os.path.basename(path).replace('.pack', '.txt')), 'w') as text:
-            text.write(program_text(pack))
+        yield pack, os.path.join(EXPECTED, os.path.basename(path).replace('.pack', '.txt'))
+
+
+def check():
+    """Whether the stored texts are those of the model and of the Rust."""
+    differ = [(judge, path) for pack, path in samples() for judge in ('model', 'oracle') if open(path).read() != program_text(pack, judge)]
+    for judge, path in differ:
+        print('%s answers otherwise: %s' % (judge, os.path.relpath(path, ROOT)))
+    print('%d samples, %d differences' % (len(list(samples())), len(differ)))
+    return 1 if differ else 0
+
+
+def write():
+    for pack, path in samples():
+        with open(path, 'w') as text:
+            text.write(program_text(pack, 'model'))
     with open(os.path.join(EXPECTED, 'calls.txt'), 'w') as text:
         text.writelines('%s = %s\n' % call for call in chosen_calls())
+
+
+if __name__ == '__main__':
+    sys.exit(check() if sys.argv[1:] == ['check'] else write())
