@@ -104,4 +104,6 @@ def write():
 
 
 if __name__ == '__main__':
-    sys.exit(check() if sys.argv[1:] == ['check'] else write())
+    if sys.argv[1:] not in ([], ['check']):
+        sys.exit(__doc__)
+    sys.exit(check() if sys.argv[1:] else write())

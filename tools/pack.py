@@ -159,7 +159,7 @@ def resource_words(line):
 def varying_words(line):
     what = line.code(['location'] + BUILT_INS, 'a varying')
     if what:
-        words = [word(14, what - 1 << 24 | (line.number(256, 'the places') if line.fields else 0))]
+        words = [word(14, what - 1 << 24 | (line.number(256, 'the slots') if line.fields else 0))]
     else:
         location = line.number(CONTENT, 'the location')
         content = type_code(line.take('the type')) | line.option('interpolation', 8) << 12
