@@ -1,7 +1,11 @@
 #!/usr/bin/env python3
-"""Writes what tests/link expects, from the programs gen and model of oracle/ (document 01's steps, no code of the product):
-tests/expected/NAME.txt for each samples/NAME.pack, and tests/expected/calls.txt, the shortest generated call for each
-sort of call, number and mode, of accepted ones also for each stage and for lists that change or not, as 'CASE = ANSWER' in the form that oracle/README.md has.
+"""Writes what tests/link and tests/board expect, from the programs gen and model of oracle/ (document 01's steps, no code of the
+product): tests/expected/NAME.txt for each samples/NAME.pack, and tests/expected/calls.txt, the shortest generated call for each
+sort of call, number and mode, of accepted ones also for each stage and for lists that change or not.
+
+A line of calls.txt is FUNCTION ARGUMENT... = NUMBER DETAIL... LIST... FUNCTION is the name in include/bokwingi.h. Its arguments
+stand in the header's order, without lengths and details: lists and bytes as oracle/README.md has them in cases, numbers in hex.
+The answer is the number, in decimal, the details in hex, and each list that is lent to be written, whole, as it is after the call.
 
     tools/link_expected.py
     tools/link_expected.py check        # the stored texts of the samples against the model and the Rust (program oracle)"""
@@ -14,6 +18,16 @@ ROOT = os.path.join(os.path.dirname(os.path.abspath(__file__)), '..')
 PROGRAMS = os.path.join(ROOT, 'oracle/target/release')
 EXPECTED = os.path.join(ROOT, 'tests/expected')
 ROOM = [0xfeedbeef] * 128                       # a list out before it is written
+
+# the C function for each sort of case, and which fields of a case are decimal
+FUNCTIONS = {
+    'stage': ('bokwingi_check_stage', slice(6, None)),
+    'name': ('bokwingi_entry_point', slice(1, None)),
+    'vertex': ('bokwingi_vertex_format', slice(0, None)),
+    'texture': ('bokwingi_texture_format', slice(0, None)),
+    'format': ('bokwingi_check_texture_format', slice(0, 1)),
+    'subtype': ('bokwingi_is_subtype_of', slice(0, 0)),
+}
 
 
 def run(program, *words, text=''):
@@ -53,6 +67,14 @@ def program_text(pack, judge):
         fed = out if number == '0' else fed
     words = [int(w, 16) for w in layout.split(',')]
     return ''.join(lines) + ''.join('%08x\n' % w for w in words[:1 + 4 * (words[0] & 0xffff)])
+
+
+def c_call(case):
+    """A case as calls.txt has it."""
+    sort, *fields = case.split()
+    function, decimal = FUNCTIONS[sort]
+    fields[decimal] = ['%x' % int(field) for field in fields[decimal]]
+    return ' '.join([function] + fields)
 
 
 def sort_of(case, answer):
@@ -100,7 +122,7 @@ def write():
         with open(path, 'w') as text:
             text.write(program_text(pack, 'model'))
     with open(os.path.join(EXPECTED, 'calls.txt'), 'w') as text:
-        text.writelines('%s = %s\n' % call for call in chosen_calls())
+        text.writelines('%s = %s\n' % (c_call(case), answer) for case, answer in chosen_calls())
 
 
 if __name__ == '__main__':

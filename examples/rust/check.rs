@@ -2,8 +2,9 @@
 //!
 //!     check FILE
 //!
-//! A line is `CASE = ANSWER`, in the form that oracle/README.md has. Each call is made with room for 0 to 4 details. The
-//! answer, every word of the lent lists and every word beside them must be as expected; the exit status is 1 if one is not.
+//! A line is `FUNCTION ARGUMENT... = ANSWER`, in the form that tools/link_expected.py has. Each call is made with room for 0 to
+//! 4 details. The answer, every word of the lent lists and every word beside them must be as expected; the exit status is 1 if
+//! one is not.
 
 use std::process::ExitCode;
 
@@ -93,7 +94,6 @@ fn stage_call(case: &[&str], answer: &[&str], details: &mut Lent) -> Option<u32>
     let mut layout = Lent::new(&list(case[2]));
     let mut sizes = Lent::new(&list(case[3]));
     let mut out = Lent::new(&list(case[5]));
-    let code = |i: usize| decimal(case[i]);
     // SAFETY: each pointer comes with the length of its own buffer, and no two buffers overlap.
     let number = unsafe {
         bokwingi_check_stage(
@@ -109,11 +109,11 @@ fn stage_call(case: &[&str], answer: &[&str], details: &mut Lent) -> Option<u32>
             out.len,
             name.as_ptr(),
             name.len(),
-            code(7),
-            code(8),
-            code(9),
-            code(10),
-            code(11),
+            hex(case[7]),
+            hex(case[8]),
+            hex(case[9]),
+            hex(case[10]),
+            hex(case[11]),
             details.pointer(),
             details.len,
         )
@@ -127,15 +127,15 @@ fn call(case: &[&str], answer: &[&str], details: &mut Lent) -> Option<u32> {
     // SAFETY: as above.
     unsafe {
         match case[0] {
-            "stage" => stage_call(case, answer, details),
-            "name" => {
+            "bokwingi_check_stage" => stage_call(case, answer, details),
+            "bokwingi_entry_point" => {
                 let pack = list(case[1]);
-                Some(bokwingi_entry_point(pack.as_ptr(), pack.len(), decimal(case[2]), at, room))
+                Some(bokwingi_entry_point(pack.as_ptr(), pack.len(), hex(case[2]), at, room))
             }
-            "vertex" => Some(bokwingi_vertex_format(decimal(case[1]), at, room)),
-            "texture" => Some(bokwingi_texture_format(decimal(case[1]), at, room)),
-            "format" => Some(bokwingi_check_texture_format(decimal(case[1]), hex(case[2]), at, room)),
-            "subtype" => Some(bokwingi_is_subtype_of(hex(case[1]), hex(case[2]))),
+            "bokwingi_vertex_format" => Some(bokwingi_vertex_format(hex(case[1]), at, room)),
+            "bokwingi_texture_format" => Some(bokwingi_texture_format(hex(case[1]), at, room)),
+            "bokwingi_check_texture_format" => Some(bokwingi_check_texture_format(hex(case[1]), hex(case[2]), at, room)),
+            "bokwingi_is_subtype_of" => Some(bokwingi_is_subtype_of(hex(case[1]), hex(case[2]))),
             _ => None,
         }
     }
@@ -145,10 +145,8 @@ fn call(case: &[&str], answer: &[&str], details: &mut Lent) -> Option<u32> {
 fn passes(case: &[&str], answer: &[&str], room: usize) -> bool {
     let before = [0xdead_0001, 0xdead_0002, 0xdead_0003, 0xdead_0004];
     let mut after = before;
-    if case[0] != "subtype" {
-        for (i, detail) in answer[1..4].iter().enumerate() {
-            after[i] = hex(detail);
-        }
+    for (i, detail) in answer.iter().skip(1).take(3).enumerate() {
+        after[i] = hex(detail);
     }
     let mut details = Lent::new(&before[..room]);
     call(case, answer, &mut details) == Some(decimal(answer[0])) && details.is(&after[..room])
