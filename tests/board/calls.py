@@ -99,8 +99,9 @@ class Call:
         if fields:
             sys.exit('calls.py: a call of %s has too many arguments' % name)
         self.guard()
-        if len(self.block) > 4 * MOST_WORDS:
-            sys.exit('calls.py: a call of %s is too long for the board' % name)
+
+    def fits(self):
+        return len(self.block) <= 4 * MOST_WORDS
 
     def guard(self):
         self.block += struct.pack('<I', GUARD)[:4 - len(self.block) % 4] + struct.pack('<I', GUARD)
@@ -136,7 +137,10 @@ class Call:
 def calls(functions, path, rooms):
     for line_number, line in enumerate(open(path).read().splitlines(), 1):
         for room in rooms:
-            yield line_number, room, Call(functions, line, room)
+            call = Call(functions, line, room)
+            if not call.fits():
+                sys.exit('calls.py: line %d is too long for the board' % line_number)
+            yield line_number, room, call
 
 
 def compare(functions, path, rooms):

@@ -218,7 +218,8 @@ pub fn all() -> Vec<(String, StageCall)> {
     out
 }
 
-/// Packs of growing size with one small entry point asked for, and an entry point that grows with its lists.
+/// Packs of growing size with one small entry point asked for, an entry point that grows with its lists, and lists of which
+/// nothing is asked for.
 pub fn series() -> Vec<(String, StageCall)> {
     let (mut out, sorts) = (Vec::new(), Sorts::InTurn);
     for words in [64usize, 128, 256, 512, 1024, 2048, 4096] {
@@ -240,6 +241,16 @@ pub fn series() -> Vec<(String, StageCall)> {
         let m = Measure { resources: 2 * n, entries: 1, listed: n, pairs: n as usize / 4, varyings: n, name: 8, sorts };
         let beside = Beside { layout: 4 * n as usize, sizes: 8 * n as usize, inputs: n as usize, one_mark: false, reversed: false };
         out.push((format!("growing entry point and lists, {n}"), call(&pack(&m, &[1]), 0, 0, beside)));
+    }
+    let m = Measure { resources: 1, entries: 1, listed: 0, pairs: 0, varyings: 0, name: 4, sorts };
+    for (said, layout, sizes, one_mark) in [
+        ("empty lists", 0, 0, false),
+        ("255 entries", 255, 0, false),
+        ("511 sizes", 0, 511, false),
+        ("511 sizes with one mark", 0, 511, true),
+    ] {
+        let beside = Beside { layout, sizes, one_mark, ..NOTHING };
+        out.push((format!("no resources, {said}"), call(&pack(&m, &[0]), 0, 0, beside)));
     }
     out
 }

@@ -131,16 +131,14 @@ fn main() {
     std::fs::remove_file(&file).unwrap();
 
     let nothing = found["nothing"];
-    println!("| call | words | answer | archive | `bokwingi_entry_point` | Rust | archive / Rust | per word | ms at 48 MHz |");
-    println!("|---|---|---|---|---|---|---|---|---|");
+    println!("| call | words | answer | archive | `bokwingi_entry_point` | Rust | archive / Rust |");
+    println!("|---|---|---|---|---|---|---|");
     for line in String::from_utf8(run.stdout).unwrap().lines() {
         let [label, words, number] = line.split('\t').collect::<Vec<_>>()[..] else { unreachable!() };
         let [ours, pack] = ["archive", "pack"].map(|side| found[&format!("{side}: {label}")] - nothing);
         let rust = median(&found, label) - nothing;
         let ratio = ours as f64 / rust as f64;
-        let each = ours as f64 / words.parse::<f64>().unwrap();
-        let time = ours as f64 / 48e3;
         let [ours, pack, rust] = [ours, pack, rust].map(grouped);
-        println!("| {label} | {words} | {number} | {ours} | {pack} | {rust} | {ratio:.2} | {each:.0} | {time:.2} |");
+        println!("| {label} | {words} | {number} | {ours} | {pack} | {rust} | {ratio:.2} |");
     }
 }
