@@ -92,7 +92,13 @@ static void put_hex(struct text *text, uint32_t value, int least)
     }
 }
 
-/* %u, %x and, for at least N digits, %0Nx; any other byte of the form stands for itself. */
+static void put_string(struct text *text, const char *from)
+{
+    while (*from != 0)
+        put(text, *from++);
+}
+
+/* %s, %u, %x and, for at least N digits, %0Nx; any other byte of the form stands for itself. */
 static void print(FILE *file, const char *form, va_list values)
 {
     struct text text = {.file = file};
@@ -106,7 +112,9 @@ static void print(FILE *file, const char *form, va_list values)
             least = form[1] - '0';
             form += 2;
         }
-        if (*form == 'x')
+        if (*form == 's')
+            put_string(&text, va_arg(values, const char *));
+        else if (*form == 'x')
             put_hex(&text, va_arg(values, uint32_t), least);
         else
             put_decimal(&text, va_arg(values, uint32_t));

@@ -35,12 +35,16 @@ def differ(lines):
         return subprocess.run([calls.__file__, 'compare', path, '3'], stdin=written).returncode != 0
 
 
+def parts(count, seed):
+    """The words for gen that give so many cases, a part at a time."""
+    return [['--count', str(min(AT_ONCE, count - at)), '--seed', str(seed), '--from', str(at)] for at in range(0, count, AT_ONCE)]
+
+
 def main(count=100000, seed=11):
     functions = header.functions(calls.HEADER)
     wrong = 0
-    for sort, of in [('stage', count), ('name', count // 5), ('vertex', 0), ('texture', 0), ('format', 0), ('subtype', 0)]:
-        parts = [['--count', str(min(AT_ONCE, of - at)), '--seed', str(seed), '--from', str(at)] for at in range(0, of, AT_ONCE)] or [[]]
-        for words in parts:
+    for sort, of in [('stage', count), ('name', count // 5), ('vertex', None), ('texture', None), ('format', None), ('subtype', None)]:
+        for words in [[]] if of is None else parts(of, seed):
             lines = generated(sort, words)
             short = [line for line in lines if calls.Call(functions, line, 3).fits()]
             print('%s: %d generated, %d left out' % (sort, len(lines), len(lines) - len(short)))

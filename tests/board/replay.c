@@ -11,17 +11,13 @@
 #include "replay.h"
 
 #include "board.h"
+#include "clock.h"
 
 #include <stdio.h>
 
 enum { MOST_WORDS = 12 * 1024, MOST_ARGUMENTS = 32 };
 uint32_t replay_block[MOST_WORDS];
 __attribute__((aligned(8))) uint32_t replay_arguments[MOST_ARGUMENTS][2];
-
-/* The processor's clock: it counts 24 bits down, once a cycle. On an emulator an instruction is a cycle, or a steady number of them. */
-#define CLOCK_CONTROL (*(volatile uint32_t *)0xe000e010u)
-#define CLOCK_RELOAD (*(volatile uint32_t *)0xe000e014u)
-#define CLOCK (*(volatile uint32_t *)0xe000e018u)
 
 static uint32_t nothing(uint32_t ignored)
 {
@@ -42,12 +38,11 @@ static __attribute__((noinline)) uint32_t ticks(uint32_t (*run)(uint32_t), uint3
     return (before - CLOCK) & 0xffffff;
 }
 
-static uint32_t start_clock(void)
+/* How far it counts in a thousand instructions of one cycle. */
+static uint32_t try_clock(void)
 {
     uint32_t ignored = 0;
-    CLOCK_RELOAD = 0xffffff;
-    CLOCK = 0;
-    CLOCK_CONTROL = 5;
+    start_clock();
     return ticks(thousand, &ignored) - ticks(nothing, &ignored);
 }
 
@@ -82,7 +77,7 @@ int main(int argc, char **argv)
     FILE *cases = argc > 2 ? fopen(argv[1], "rb") : NULL;
     FILE *written = argc > 2 ? fopen(argv[2], "wb") : NULL;
     FILE *costs_to = argc > 3 ? fopen(argv[3], "wb") : NULL;
-    uint32_t head[2], costs[2] = {start_clock(), 0}, answer, block;
+    uint32_t head[2], costs[2] = {try_clock(), 0}, answer, block;
     if (cases == NULL || written == NULL || !read_words(cases, head, 2)) {
         fprintf(stderr, "usage: replay CASES WRITTEN [COSTS]\n");
         return 2;

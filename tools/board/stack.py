@@ -99,10 +99,9 @@ class Stack:
             self.frames.update(each.frames)
             self.calls.update(each.calls)
 
-    def frame(self, name):
-        if name not in self.frames:
-            stop('%s is called, and no object has it' % name)
-        return self.frames[name]
+        missing = {other for called in self.calls.values() for other in called} - self.frames.keys()
+        if missing:
+            stop('called, and no object has it: %s; tools/board/helpers.c is to have the run-time helpers' % ' '.join(sorted(missing)))
 
     def group(self, name):
         """The compiled functions that a function calls itself by way of; else the function alone."""
@@ -115,7 +114,7 @@ class Stack:
         for member in group:
             if member in self.recursive and member not in self.depth:
                 stop('%s calls itself, and the file of recursions does not say how deep' % member)
-            own += self.frame(member) * self.depth.get(member, 1)
+            own += self.frames[member] * self.depth.get(member, 1)
         below = {other for member in group for other in self.calls[member]} - group
         return own + max((self.most(other) for other in below), default=0)
 

@@ -1,4 +1,8 @@
-# For scripts that source it: the toolchain's own clang as a compiler for the board.
+# For scripts that source it in the repository's root: the toolchain's own clang as a compiler for the board.
+if [ -z "${RATTLE_HOME:-}" ] && ! command -v rt > /dev/null; then
+    echo "$0: the Rattle toolchain (rt) is not on the PATH" >&2
+    exit 2
+fi
 rattle_home=${RATTLE_HOME:-$(dirname "$(dirname "$(readlink -f "$(command -v rt)")")")}
 toolchain=on/$(uname -m)/toolchain
 board_triple=thumbv6m-none-eabi

@@ -1,4 +1,4 @@
-/* As much of it as the programs use. A size in fread and fwrite is 1 or 4; the forms are %u, %x and %0Nx. */
+/* As much of it as the programs use. A size in fread and fwrite is 1 or 4; the forms are %s, %u, %x and %0Nx. */
 #ifndef STDIO_H
 #define STDIO_H
 #include <stddef.h>
