@@ -68,7 +68,7 @@ def run(program, words, text=None):
 
 
 def planted(module, where, lines):
-    """The module with lines behind the first place that matches."""
+    """The module with lines behind the first that match."""
     match = re.search(where, module)
     if lines is None:
         return module.replace(match[0], match[0].replace('i64', 'i32'))

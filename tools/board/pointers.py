@@ -3,7 +3,7 @@
 The code reserves 8 bytes for a pointer, a cell, of which the board fills 4. So no byte of a cell may be read, written or copied
 but as the whole pointer, and a pointer may be read only from a cell that holds one. What a pointer may point to is worked out for
 all functions together: objects are the variables of functions and the buffers that callers lend, and neither the order of
-instructions nor the places that a function is called from are told apart. So a finding need not be a fault; where there is
+instructions nor the callers of a function are told apart. So a finding need not be a fault; where there is
 none there is no fault."""
 import collections
 
