@@ -101,7 +101,8 @@ def recursions(module, folder):
     objects = [os.path.join(BOARD, name) for name in ('bokwingi.o', 'helpers.o')]
     yield 'a function that calls itself', refused(*run('stack.py', [HEADER, text, untold] + objects), 'calls itself')
     yield 'the same with its depth', run('stack.py', [HEADER, text, told] + objects)[0] == 0
-    yield 'helpers that no object has', refused(*run('stack.py', [HEADER, text, told] + objects[:1]), 'no object has it')
+    yield 'helpers that no object has', refused(*run('stack.py', [HEADER, text, told] + 2 * objects[:1]), 'no object has it')
+    yield 'a function that the module has not', refused(*run('stack.py', [HEADER, text, told] + objects[::-1]), 'the module does not have')
 
 
 def main():

@@ -2,7 +2,7 @@
 """The most bytes of stack that each function of the header takes on the board: a bound, from the frames that the compiler states
 and the calls of the compiled code.
 
-    stack.py HEADER MODULE.ll RECURSION OBJECT...       objects compiled with -fstack-size-section and -ffunction-sections
+    stack.py HEADER MODULE.ll RECURSION LIBRARY.o HELPERS.o      objects compiled with -fstack-size-section and -ffunction-sections
 
 A function takes its frame and the most that one of the functions takes that it calls; a function of the header also what its
 caller pushes, since only four words of arguments stand in registers. Functions that call themselves, also by way of others, are
@@ -98,7 +98,6 @@ class Stack:
         for each in objects:
             self.frames.update(each.frames)
             self.calls.update(each.calls)
-
         missing = {other for called in self.calls.values() for other in called} - self.frames.keys()
         if missing:
             stop('called, and no object has it: %s; tools/board/helpers.c is to have the run-time helpers' % ' '.join(sorted(missing)))
@@ -128,15 +127,19 @@ def pushed(function):
     return bytes_pushed + bytes_pushed % 8
 
 
-def main(path, text, recursion, objects):
+def main(path, text, recursion, library, helpers):
     functions = module.functions(module.read(open(text).read()))
     recursive = {name.strip('"'): {other.strip('"') for other in others} for name, others in cycles(functions).items()}
-    stack = Stack([Object(o) for o in objects], recursive, depths(recursion))
+    objects = [Object(library), Object(helpers)]
+    unknown = objects[0].frames.keys() - {name.strip('"') for name in functions}
+    if unknown:
+        stop('the compiler made functions that the module does not have: ' + ' '.join(sorted(unknown)))
+    stack = Stack(objects, recursive, depths(recursion))
     for function in header.functions(path):
         print(function.name, stack.most(function.name) + pushed(function))
 
 
 if __name__ == '__main__':
-    if len(sys.argv) < 5:
+    if len(sys.argv) != 6:
         sys.exit(__doc__)
-    main(sys.argv[1], sys.argv[2], sys.argv[3], sys.argv[4:])
+    main(*sys.argv[1:])
