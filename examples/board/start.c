@@ -52,14 +52,14 @@ _Noreturn void board_reset(void)
     board_exit(status);
 }
 
-/* Every exception but reset: nothing here lets one happen, so it is a fault. */
+/* Every other exception: nothing here asks for one, so it is a fault. */
 static void fault(void)
 {
     fprintf(stderr, "fault\n");
     board_exit(FAULT);
 }
 
-/* The first stack pointer, then the sixteen exceptions of the processor; 0 where it has none. */
+/* The first stack pointer, then the fifteen exceptions of the processor, reset first; 0 where it has none. */
 __attribute__((section(".vectors"), used)) static void *const vectors[16] = {
     board_stack_top, (void *)board_reset, (void *)fault, (void *)fault, 0, 0, 0, 0, 0, 0, 0, (void *)fault, 0, 0, (void *)fault, (void *)fault,
 };
