@@ -4,8 +4,9 @@ them (tools/link_expected.py says how); where a line has no answer, a call is ma
 
     calls.py dispatch                    writes target/board/dispatch.c, which makes a call of any function of include/bokwingi.h
     calls.py recorded INPUT OUTPUT       writes the recorded cases of crates/test_stages as such lines
-    calls.py cases CALLS PAINT ROOM...   writes what replay reads: each call with so much room for details, on a stack of PAINT (hex)
-    calls.py compare CALLS ROOM...       reads what replay wrote, and ends with 1 where an answer or a word is not as recorded
+    calls.py cases CALLS PAINT [ROOM]    writes what replay reads: each call with ROOM words for details, or once for every room from none to
+                                         one word more than the details that are recorded, on a stack of PAINT (hex)
+    calls.py compare CALLS [ROOM]        reads what replay wrote, and ends with 1 where an answer or a word is not as recorded
     calls.py uncalled CALLS              writes the functions of the header of which CALLS has no call; ends with 1 if there are any"""
 import os
 import struct
@@ -81,9 +82,14 @@ class Call:
     def __init__(self, functions, line, room):
         text, _, answer = line.partition(' = ')
         name, *fields = text.split()
-        self.number = next(i for i, f in enumerate(functions) if f.name == name)
-        self.parameters, self.block, self.pairs, self.answer = arguments(functions[self.number]), bytearray(), [], answer.split()
-        self.spans = {}
+        names = [f.name for f in functions]
+        if name not in names:
+            sys.exit('calls.py: the header declares no function ' + name)
+        self.number = names.index(name)
+        self.parameters, self.answer = arguments(functions[self.number]), answer.split()
+        self.block, self.pairs, self.spans = bytearray(), [], {}
+        if len(fields) != len([p for p in self.parameters if p.name != 'details']):
+            sys.exit('calls.py: a call of %s has %d arguments' % (name, len(fields)))
         for parameter in self.parameters:
             if parameter.name == 'details':
                 self.lend(parameter.name, b''.join(struct.pack('<I', UNWRITTEN + i) for i in range(room)), 4)
@@ -96,8 +102,6 @@ class Call:
             else:
                 value = int(fields.pop(0), 16)
                 self.pairs.append((value % 2**32, value // 2**32))
-        if fields:
-            sys.exit('calls.py: a call of %s has too many arguments' % name)
         self.guard()
 
     def fits(self):
@@ -118,34 +122,42 @@ class Call:
         flat = [number for pair in self.pairs for number in pair]
         return struct.pack('<%dI' % (3 + len(flat)), self.number, len(self.block) // 4, len(self.pairs), *flat) + self.block
 
+    def written(self):
+        """The names of the lists that are lent to be written, but for the details."""
+        return [p.name for p in self.parameters if p.sort == 'written words' and p.name != 'details']
+
+    def details(self):
+        """The details that are recorded."""
+        return [int(detail, 16) for detail in self.answer[1:len(self.answer) - len(self.written())]]
+
     def expected(self):
         """The answer's number and the block as they are to be after the call."""
-        block, rest = bytearray(self.block), self.answer[1:]
-        written = [p.name for p in self.parameters if p.sort == 'written words' and p.name != 'details']
-        details = rest[:len(rest) - len(written)]
-        for name, texts in [('details', details)] + list(zip(written, [text.split(',') for text in rest[len(details):]])):
-            if name in self.spans:
-                start, size = self.spans[name]
-                data = b''.join(struct.pack('<I', int(text, 16)) for text in texts if text != '-')
-                block[start:start + min(size, len(data))] = data[:size]
+        block, details = bytearray(self.block), self.details()
+        lists = [('details', details)] if details else []
+        lists += zip(self.written(), map(words, self.answer[1 + len(details):]))
+        for name, after in lists:
+            start, size = self.spans[name]
+            data = struct.pack('<%dI' % len(after), *after)[:size]
+            block[start:start + len(data)] = data
         return struct.pack('<I', int(self.answer[0])) + block
 
     def size(self):
         return 4 + len(self.block)
 
 
-def calls(functions, path, rooms):
+def calls(functions, path, only=None):
+    """Each call of a file, with so much room for details or with every room."""
     for line_number, line in enumerate(open(path).read().splitlines(), 1):
-        for room in rooms:
+        for room in range(len(Call(functions, line, 0).details()) + 2) if only is None else [only]:
             call = Call(functions, line, room)
             if not call.fits():
                 sys.exit('calls.py: line %d is too long for the board' % line_number)
             yield line_number, room, call
 
 
-def compare(functions, path, rooms):
+def compare(functions, path, *rooms):
     data, at, differ, count = sys.stdin.buffer.read(), 0, 0, 0
-    for line_number, room, call in calls(functions, path, rooms):
+    for line_number, room, call in calls(functions, path, *rooms):
         written, at, count = data[at:at + call.size()], at + call.size(), count + 1
         if call.answer and written != call.expected():
             differ += 1
@@ -164,10 +176,10 @@ def main(command, *rest):
         for line in recorded(open(rest[0], 'rb').read(), open(rest[1]).read()):
             print(line)
     elif command == 'cases':
-        made = [call.case() for _, _, call in calls(functions, rest[0], [int(room) for room in rest[2:]])]
+        made = [call.case() for _, _, call in calls(functions, rest[0], *map(int, rest[2:]))]
         sys.stdout.buffer.write(struct.pack('<2I', len(made), int(rest[1], 16)) + b''.join(made))
     elif command == 'compare':
-        return compare(functions, rest[0], [int(room) for room in rest[1:]])
+        return compare(functions, rest[0], *map(int, rest[1:]))
     elif command == 'uncalled':
         called = {line.split()[0] for line in open(rest[0])}
         missing = [f.name for f in functions if f.name not in called]

@@ -1,8 +1,8 @@
 /*
  * What the library asks for on armv6-m, under the names of Arm's run-time ABI.
  * libgcc has the first two and a C library the third; firmware with neither
- * links this file. Every definition is weak, so that theirs are taken where
- * they are linked too.
+ * links this file. Every definition is weak, so that it never clashes with
+ * another of its name.
  *
  * Nothing here shifts or multiplies 64 bits, and the file is compiled with
  * -fno-builtin: else the compiler would call the helper that it compiles.
