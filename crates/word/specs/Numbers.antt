@@ -214,3 +214,17 @@ formatMismatch = 81
 -- no such format code or type word
 abbrev pub unknownCode : ℕ
 unknownCode = 82
+
+-- ---- declared types
+
+-- a type list or a binding is malformed, no such type, or clip distances where they cannot stand
+abbrev pub badTypes : ℕ
+badTypes = 90
+
+-- structs nest more than 8 deep
+abbrev pub nestedTooDeep : ℕ
+nestedTooDeep = 91
+
+-- a type gives a sixty-fourth varying
+abbrev pub tooManyVaryings : ℕ
+tooManyVaryings = 92

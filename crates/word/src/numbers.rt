@@ -106,3 +106,10 @@ pub const NO_COLOUR_TYPE: u32 = 80;
 pub const FORMAT_MISMATCH: u32 = 81;
 
 pub const UNKNOWN_CODE: u32 = 82;
+
+// declared types
+pub const BAD_TYPES: u32 = 90;
+
+pub const NESTED_TOO_DEEP: u32 = 91;
+
+pub const TOO_MANY_VARYINGS: u32 = 92;

@@ -1,0 +1,10 @@
+pub mod Taken
+pub mod Gives
+pub mod Noting
+pub mod Words
+pub mod Bindings
+pub mod ClipWays
+pub mod GivenWays
+pub mod MemberWays
+pub mod TypeWays
+pub mod ListWays

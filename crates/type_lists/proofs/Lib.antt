@@ -1,0 +1,4 @@
+pub mod Numbered
+pub mod Encode
+pub mod Restore
+pub mod Examples
