@@ -19,7 +19,7 @@ use Rattle.interface.specs.declared.types.Varying.the-variants as Var
 use Rattle.interface.proofs.RestoreRecords.{Restores, got-as, one-then}
 
 -- a built-in's code and number are written again
-code-back : (c n : ℕ) → c < 5
+pub code-back : (c n : ℕ) → c < 5
     → builtInCode (pick (eqb c 0) (In.Other n) (pick (eqb c 1) (In.PrimitiveIndex n) (pick (eqb c 2) (In.DrawIndex n) (pick (eqb c 3) (In.FragDepth n) (In.ClipDistances n)))))
     ≡ 2 ^ 24 * c + n
 code-back c n l =

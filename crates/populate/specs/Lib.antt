@@ -1,0 +1,2 @@
+pub mod Populate
+pub mod inner

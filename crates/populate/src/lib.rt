@@ -1,0 +1,4 @@
+// The varyings that a declared type gives.
+pub mod call;
+pub mod put;
+pub mod walk;
