@@ -1,3 +1,4 @@
 pub mod Puts
 pub mod PutWays
 pub mod WalkWays
+pub mod CallWays

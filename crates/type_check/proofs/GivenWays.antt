@@ -84,7 +84,6 @@ shaped-lone (D.Vector size) s = refl
 shaped-lone (D.Matrix columns rows) s = refl
 
 module _ (types : List TypeInner) (ws notes : List ℕ) (s : Noted types ws notes) (n : ℕ) (h : n < length types) where
-
   now-is : typeNumbered types n ≡ typeAt (drop (startIn (getD notes n 0)) ws)
   now-is = s .each n h .is
 
@@ -120,8 +119,8 @@ module _ (types : List TypeInner) (ws notes : List ℕ) (s : Noted types ws note
       by-kind
       (λ k e. let o : isStruct (typeNumbered types n) ≡ false = rw e (shaped-lone (typeOf (wordAt ws (startIn (getD notes n 0))) .dim) (typeOf (wordAt ws (startIn (getD notes n 0))) .scalar)) in
       let p : populate types n (bindingAt l) ≡ numericGives (typeOf (wordAt ws (startIn (getD notes n 0)))) (bindingAt l) =
-          lone-gives types n (bindingAt l) h o
-          ∙ rw e (shaped-gives (typeOf (wordAt ws (startIn (getD notes n 0))) .dim) (typeOf (wordAt ws (startIn (getD notes n 0))) .scalar) (bindingAt l)) in
+      lone-gives types n (bindingAt l) h o
+      ∙ rw e (shaped-gives (typeOf (wordAt ws (startIn (getD notes n 0))) .dim) (typeOf (wordAt ws (startIn (getD notes n 0))) .scalar) (bindingAt l)) in
       rw (k, p, numeric-note (nesting types n) (typeOf (wordAt ws (startIn (getD notes n 0)))) l, depth-noted))
       (λ k e. let o : isStruct (typeNumbered types n) ≡ false = rw e in
       let p : populate types n (bindingAt l) ≡ arrayGives (contentOf (wordAt ws (startIn (getD notes n 0) + 1))) (bindingAt l) = lone-gives types n (bindingAt l) h o ∙ rw e in

@@ -17,7 +17,6 @@ use Rattle.type_lists.proofs.Numbered.{numbered-last, numbered-earlier, by-last
 use Rattle.type_check.specs.inner.Positions.{membersBelow, namesBelow}
 use Rattle.type_check.specs.inner.Notes.{isStruct}
 
-
 -- what is given of the last type, and of an earlier one
 module _ (t : TypeInner) (earlier : List TypeInner) (binding : Binding) where
   pub gives-last : populate (t ∷ earlier) (length earlier) binding ≡ typeGives (populate earlier) t binding
@@ -25,7 +24,6 @@ module _ (t : TypeInner) (earlier : List TypeInner) (binding : Binding) where
 
   pub gives-earlier : (n : ℕ) → n < length earlier → populate (t ∷ earlier) n binding ≡ populate earlier n binding
   gives-earlier n h = ap (λ (f : Binding → List Varying). f binding) (by-earlier t earlier typeGives (λ binding. []) n h)
-
 
 -- a type that is no struct asks for no other
 lone-type : (given : ℕ → Binding → List Varying) (t : TypeInner) (binding : Binding) → isStruct t ≡ false → typeGives given t binding ≡ typeGives (λ n binding. []) t binding

@@ -128,8 +128,8 @@ module _ (ws : List ℕ) (i at : ℕ) (e : restAt ws at ≡ behind (readTypes i 
           more-read λ v q y z.
           let p : earlierOf ws (i + 1) ≡ v ∷ earlierOf ws i = of-read ws (i + 1) (v ∷ earlierOf ws i) (drop (x .next) ws) z in
           let d : Noted (v ∷ earlierOf ws i) ws (set notes (length (earlierOf ws i)) (noteWord at (x .note))) =
-              noted-more (earlierOf ws i) ws notes at v (drop (x .next) ws) (x .note) s q y (type-inside few) (record { depth = a; count = b; words = c })
-              (omega (arith, earlier-length)) (omega (arith, earlier-length)) in
+          noted-more (earlierOf ws i) ws notes at v (drop (x .next) ws) (x .note) s q y (type-inside few) (record { depth = a; count = b; words = c })
+          (omega (arith, earlier-length)) (omega (arith, earlier-length)) in
           rw (p, u, o) (rw earlier-length at d)
 
 pub types-done : (ws : List ℕ) (i count at : ℕ) → restAt ws at ≡ behind (readTypes i [] (drop 1 ws)) → i ≤ count → count ≤ i → restAt ws at ≡ behind (readTypes count [] (drop 1 ws))

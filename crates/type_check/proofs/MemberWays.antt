@@ -72,7 +72,7 @@ module _ (types : List TypeInner) (ws : List ℕ) (n at w : ℕ) (l : length typ
             went-on (readBinding (drop (at + 1) ws)) ws r i j λ a q.
             let (y, z) = binding-took 0 (drop (at + 1) ws) a (drop r ws) q in
             let h : bindingGood types m (bindingAt (drop (at + 1) ws)) ≡ g =
-                good-is types ws notes s m (drop (at + 1) ws) (omega (arith, named-below)) ∙ rw (first-of ws (at + 1), ← u) (sym k) in
+            good-is types ws notes s m (drop (at + 1) ws) (omega (arith, named-below)) ∙ rw (first-of ws (at + 1), ← u) (sym k) in
             member-reads ∙ rw (q, y, ← c, h)
 
         pub member-bad : not g ≡ true → restAt ws 0 ≡ behind (readMember types (drop at ws))
@@ -117,7 +117,7 @@ module _ (types : List TypeInner) (ws : List ℕ) (at r : ℕ) (e : restAt ws r 
       note-is : t ≡ memberNote types (memberAt (drop at ws))
       note-is =
           let a : givenNote ws notes m w ≡ noteOf (nesting types m) (populate types m (bindingAt (drop (at + 1) ws))) =
-              rw (f, ← first-of ws (at + 1)) (given-is types ws notes s m member-below (drop (at + 1) ws)) in
+          rw (f, ← first-of ws (at + 1)) (given-is types ws notes s m member-below (drop (at + 1) ws)) in
           let b : noteOf (nesting types m) (populate types m (bindingAt (drop (at + 1) ws))) ≡ memberNote types (memberAt (drop at ws)) = rw (first-of ws at, ← c, others-of ws at) in
           g ∙ a ∙ b
 

@@ -117,8 +117,16 @@ module _ (types : List TypeInner) (ws : List ℕ) (n at w : ℕ) (l : length typ
     module _ (x : ℕ) (k : x ≡ kindOf w) where
       pub type-numeric : (r : Reading) → x ≡ 22 → r .next ≡ at + 1 → r .note ≡ note 0 1 1 → reachedAt ws r ≡ typeReached types (readType types (drop at ws))
       type-numeric r z p q =
-          rw (type-headed, ← k, z, p, q, ne-eqb (at + 1) 0 (λ z. omega arith), lone-last types (numericType (typeOf w)) (shaped-lone (typeOf w .dim) (typeOf w .scalar)),
-          shaped-nests types (typeOf w .dim) (typeOf w .scalar))
+          rw (
+            type-headed,
+            ← k,
+            z,
+            p,
+            q,
+            ne-eqb (at + 1) 0 (λ z. omega arith),
+            lone-last types (numericType (typeOf w)) (shaped-lone (typeOf w .dim) (typeOf w .scalar)),
+            shaped-nests types (typeOf w .dim) (typeOf w .scalar),
+          )
 
       module _ (y : x ≡ 22 → ⊥) (z : x ≡ 23) where
         element-below : bits 15 0 w < n

@@ -191,8 +191,8 @@ types-got (t ∷ earlier) rest few h =
     let a : typeEncodable earlier t ≡ true = first (typeEncodable earlier t) (typesEncodable earlier) h in
     let b : typesEncodable earlier ≡ true = second (typeEncodable earlier t) (typesEncodable earlier) h in
     let g : readTypes (length earlier + 1) [] (typesWords earlier ++ (typeWords t ++ rest)) ≡ got (t ∷ earlier) rest =
-        types-one (length earlier) [] (typesWords earlier ++ (typeWords t ++ rest))
-        ∙ rw (types-got earlier (typeWords t ++ rest) (omega arith) b) (rw (type-got earlier (omega arith) t rest a)) in
+    types-one (length earlier) [] (typesWords earlier ++ (typeWords t ++ rest))
+    ∙ rw (types-got earlier (typeWords t ++ rest) (omega arith) b) (rw (type-got earlier (omega arith) t rest a)) in
     rw (append-assoc (typesWords earlier) (typeWords t) rest) (rw (add-one (length earlier)) at g)
 
 list-got : (types : List TypeInner) (rest : List ℕ) → length types ≤ mostTypes → typesEncodable types ≡ true → readList (encode types ++ rest) ≡ got types rest

@@ -28,9 +28,9 @@ f32 = record { kind = K.Float; width = 4 }
 pub types : List TypeInner
 types =
     Struct (
-      record { ty = 3; binding = Location 7 1 2 true }
-      ∷ record { ty = 2; binding = BuiltIn (In.ClipDistances 0) }
-      ∷ record { ty = 1; binding = BuiltIn (In.Other 2) } ∷ []
+    record { ty = 3; binding = Location 7 1 2 true }
+    ∷ record { ty = 2; binding = BuiltIn (In.ClipDistances 0) }
+    ∷ record { ty = 1; binding = BuiltIn (In.Other 2) } ∷ []
     )
     ∷ Struct (record { ty = 0; binding = Location 3 1 2 true } ∷ record { ty = 1; binding = Unbound } ∷ [])
     ∷ Array 0 5 ∷ Vector Tri f32 ∷ Scalar f32 ∷ []

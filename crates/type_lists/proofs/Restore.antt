@@ -109,8 +109,11 @@ type-back earlier ws t rest h e =
     by-test (eqb (kindOf w) 22)
     (λ k. got-as (λ t rest. ws ≡ typeWords t ++ rest) (numericType (typeOf w)) t r rest (rw k at g)
     (let v : eqb (bits 26 10 w) 0 && typeWellFormed w ≡ true = rw k at f in
-    rw (q, shaped-words (typeOf w .dim) (typeOf w .scalar),
-    numeric-back w (eqb-true (kindOf w) 22 k) (eqb-true (bits 26 10 w) 0 (first (eqb (bits 26 10 w) 0) (typeWellFormed w) v)) (second (eqb (bits 26 10 w) 0) (typeWellFormed w) v))))
+    rw (
+      q,
+      shaped-words (typeOf w .dim) (typeOf w .scalar),
+      numeric-back w (eqb-true (kindOf w) 22 k) (eqb-true (bits 26 10 w) 0 (first (eqb (bits 26 10 w) 0) (typeWellFormed w) v)) (second (eqb (bits 26 10 w) 0) (typeWellFormed w) v),
+    )))
     λ n. by-test (eqb (kindOf w) 23)
     (λ k. let v : eqb (bits 26 16 w) 0 && ltb (bits 15 0 w) (length earlier) ≡ true = rw (n, k) at f in
     let a : kindOf w ≡ 23 = eqb-true (kindOf w) 23 k in
