@@ -15,7 +15,7 @@
  *   - A buffer that is written (layout, sizes, out, details) overlaps no other
  *     buffer of the same call; the list handed out by one stage and the list
  *     fed to the next are therefore two buffers. Buffers that are only read
- *     (pack, inputs, name) may overlap each other.
+ *     (pack, inputs, name, types, binding) may overlap each other.
  *
  * Threads and interrupts
  *   A call touches its buffers and its stack and nothing else. So calls may run
@@ -41,12 +41,15 @@
 extern "C" {
 #endif
 
-/* The most words of a pack, and of a lent layout, size or stage list. */
+/* The most words of a pack, and of a lent layout, size, stage or type list. */
 #define BOKWINGI_PACK_WORDS 4096
 #define BOKWINGI_LIST_WORDS 1024
 
 /* A list out of this many words is long enough for every entry point. */
 #define BOKWINGI_OUT_WORDS 128
+
+/* Room of this many words is long enough for the varyings of every type. */
+#define BOKWINGI_VARYINGS_WORDS 126
 
 /* The first words of lists with nothing in them. A layout says how many groups
  * it has, 0 to 8. A stage list is two words: "nothing handed on", "no payload". */
@@ -54,6 +57,9 @@ extern "C" {
 #define BOKWINGI_EMPTY_SIZES UINT32_C(0xa0000000)
 #define BOKWINGI_EMPTY_STAGE UINT32_C(0x58000000)
 #define BOKWINGI_NO_PAYLOAD UINT32_C(0x48000000)
+
+/* The one word of the binding of a type that has none. */
+#define BOKWINGI_NO_BINDING UINT32_C(0x30000000)
 
 enum bokwingi_stage {
     BOKWINGI_VERTEX = 0,
@@ -85,7 +91,7 @@ enum bokwingi_number {
     BOKWINGI_DAMAGED_PACK = 1,   /* not 16 to 4,096 words, or total or sum wrong */
     BOKWINGI_MALFORMED_PACK = 2, /* a word, code, index or rule of the pack is bad */
     BOKWINGI_BAD_CALL = 3,       /* a lent list is bad, or stage, topology, mode or flag */
-    BOKWINGI_SHORT_OUT = 4,      /* out has under 2 + 2 * (outputs with a location) words */
+    BOKWINGI_SHORT_OUT = 4,      /* out has under 2 + 2 * (outputs with a location) words, or under the varyings' */
     BOKWINGI_FULL_LIST = 5,      /* no free words for a new record: group, binding */
 
     /* the choice of an entry point */
@@ -146,7 +152,12 @@ enum bokwingi_number {
     /* formats and lone types */
     BOKWINGI_NO_COLOUR_TYPE = 80,   /* the format is depth, stencil or planar */
     BOKWINGI_FORMAT_MISMATCH = 81,  /* the type does not fit: the format's type word */
-    BOKWINGI_UNKNOWN_CODE = 82      /* no such format code or type word; tried first */
+    BOKWINGI_UNKNOWN_CODE = 82,     /* no such format code or type word; tried first */
+
+    /* declared types */
+    BOKWINGI_BAD_TYPES = 90,        /* type list or binding bad, no such type, or clip distances misplaced */
+    BOKWINGI_NESTED_TOO_DEEP = 91,  /* structs nest more than 8 deep */
+    BOKWINGI_TOO_MANY_VARYINGS = 92 /* the type gives more than 63 varyings */
 };
 
 /*
@@ -211,6 +222,36 @@ uint32_t bokwingi_check_texture_format(uint32_t format, uint32_t type,
  * two is no type word.
  */
 uint32_t bokwingi_is_subtype_of(uint32_t a, uint32_t b);
+
+/*
+ * The varyings that a declared type gives, as the inputs and outputs of an entry
+ * point have them. A struct gives those of its members, in order, whatever its own
+ * binding. A scalar, vector or matrix gives a variable where it has a location, the
+ * built-in where it has one, and nothing without a binding. An array with clip
+ * distances gives clip distances of its length; any other array gives nothing.
+ *
+ *   types        the type list, at most 1,024 words with its free room
+ *   asked        the number of the asked type in that list, from 0
+ *   binding      the words of the asked type's binding and no other: the word
+ *                BOKWINGI_NO_BINDING where it has none
+ *   out          room for the varyings, any length
+ *   details      room for the details, any length
+ *
+ * What is written:
+ *   0            the varyings' words from the start of out, one varying behind
+ *                the other, two words for a variable and one for a built-in;
+ *                words behind them are left as they are. The first detail is
+ *                the count of varyings
+ *   any other    nothing but the details
+ *
+ * The refusals are 90, 91, 92 and 4, tried in this order. Clip distances on a
+ * scalar, vector or matrix, or on an array that is not of 1 to 255 f32, are 90
+ * wherever the list has them. 91 counts the asked struct, and structs in arrays.
+ */
+uint32_t bokwingi_populate(const uint32_t *types, size_t types_len, uint32_t asked,
+                           const uint32_t *binding, size_t binding_len,
+                           uint32_t *out, size_t out_len,
+                           uint32_t *details, size_t details_len);
 
 #ifdef __cplusplus
 }

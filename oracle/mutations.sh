@@ -2,8 +2,8 @@
 # Changes a temporary copy of validation.rs in one place at a time and sees that the comparison notices each change.
 #   oracle/mutations.sh [FIRST [LAST]]      changes FIRST to LAST, all of them by default
 # The changed file is compared with the proved library where its archive is, else with the model. The recorded answers of
-# crates/test_stages are held to it as well. Nothing is written inside the repository. The last line says how many changes
-# were noticed, and how many of them by the recorded answers too.
+# crates/test_stages and crates/test_populate are held to it as well. Nothing is written inside the repository. The last line
+# says how many changes were noticed, and how many of them by the recorded answers too.
 set -u
 here=$(cd "$(dirname "$0")" && pwd)
 file=${BOKWINGI_VALIDATION_RS:-$here/../../shared/docs/src/src/validation.rs}
@@ -23,7 +23,8 @@ run() {
 }
 
 recorded() {
-    nice "$tmp/target/release/record" check "$here/../crates/test_stages" >"$tmp/record.log" 2>&1
+    nice "$tmp/target/release/record" check "$here/../crates/test_stages" >"$tmp/record.log" 2>&1 &&
+        nice "$tmp/target/release/record" populate-check "$here/../crates/test_populate" >"$tmp/record.log" 2>&1
 }
 
 cp "$file" "$tmp/validation.rs"
@@ -86,6 +87,24 @@ s/&& inputs.primitive_index == Some(true)/\&\& inputs.primitive_index.is_some()/
 s/has_draw_id = true/has_draw_id = false/
 s/primitive_topology.is_none_or/primitive_topology.is_some_and/
 s/Some(this_stage_primitive_index)/None/
+s/for member in members {/for member in members.iter().rev() {/
+s/for member in members {/for member in members.iter().skip(1) {/
+s/member.binding.as_ref(), member.ty/binding, member.ty/
+s/Some(naga::Binding::BuiltIn(naga::BuiltIn::ClipDistances)),/Some(_),/
+s/Some(naga::Binding::BuiltIn(naga::BuiltIn::ClipDistances)),/None,/
+s/let array_size = array_size.get();/let array_size = array_size.get() - 1;/
+/Missing binding for a varying/{n;s/return;/Varying::BuiltIn(BuiltIn::ViewIndex)/;}
+/}) => Varying::Local {/{n;s/location,/location: location + 1,/;}
+/ty: numeric_ty,/,/}/s/interpolation,/interpolation: None,/
+/ty: numeric_ty,/,/}/s/sampling,/sampling: None,/
+/ty: numeric_ty,/,/}/s/per_primitive,/per_primitive: !per_primitive,/
+/ty: numeric_ty,/,/}/s/per_primitive,/per_primitive: sampling.is_some(),/
+s/NumericDimension::Matrix(columns, rows)/NumericDimension::Matrix(rows, columns)/
+s/NumericDimension::Vector(size)/NumericDimension::Scalar/
+s/naga::BuiltIn::DrawIndex => BuiltIn::DrawIndex,/naga::BuiltIn::DrawIndex => BuiltIn::PrimitiveIndex,/;s/naga::BuiltIn::PrimitiveIndex => BuiltIn::PrimitiveIndex,/naga::BuiltIn::PrimitiveIndex => BuiltIn::DrawIndex,/
+s/naga::BuiltIn::FragDepth => BuiltIn::FragDepth,/naga::BuiltIn::FragDepth => BuiltIn::PointCoord,/
+s/naga::BuiltIn::HitKind => BuiltIn::HitKind,/naga::BuiltIn::HitKind => BuiltIn::FragDepth,/
+s/list.push(varying);/list.insert(0, varying);/
 CHANGES
 
 at=0

@@ -1,12 +1,17 @@
 #!/usr/bin/env python3
 """Builds a shader pack from a readable description, and prints a pack as such a description.
 
-    tools/pack.py build DESCRIPTION > PACK      the pack's words, low byte first
-    tools/pack.py show PACK > DESCRIPTION       a description that builds the same pack
+    tools/pack.py build DESCRIPTION > PACK             the pack's words, low byte first
+    tools/pack.py show PACK > DESCRIPTION              a description that builds the same pack
+    tools/pack.py varyings DESCRIPTION STRUCT          the varyings that a struct of the description gives, a line each
+    tools/pack.py types DESCRIPTION STRUCT > TYPES     its structs as a type list, low byte first, for bokwingi_populate; the
+                                                       number of STRUCT in it is told on standard error
 
 A convenience for those who write packs, beside the product: nothing here is proved, and a pack that it builds is judged
-by the product as any other. It sees to it that numbers fit their fields, and leaves every rule to the product.
-docs/PACKS.md has the form of a description. Python 3, standard library only."""
+by the product as any other. It sees to it that numbers fit their fields, flattens structs by the rule of populate and
+refuses those that populate refuses, and leaves every other rule to the product. docs/PACKS.md has the form of a
+description. Python 3, standard library only."""
+import collections
 import re
 import sys
 
@@ -25,6 +30,13 @@ LIMITS = ['inter-stage', 'colour', 'compute-x', 'compute-y', 'compute-z', 'compu
 DEFAULTS = [16, 8, 256, 256, 64, 256, 128, 128, 128, 128, 256, 256, 16384]
 PLAIN = set(range(33, 127)) - set(b'#%')
 CONTENT = 1 << 27
+TYPE = re.compile('(?:vec([234])|mat([234])x([234]))?([iufb])(8|16|32|64)')
+
+# how many codes of interpolation and of sampling fit their fields, and how many there are
+FITTING, EXISTING = (8, 8), (5, 6)
+
+# of structs: how deep they nest, the varyings that one gives, and the types and words of a type list
+MOST_NESTED, MOST_VARYINGS, MOST_TYPES, MOST_TYPE_WORDS = 8, 63, 256, 1024
 
 
 class Bad(Exception):
@@ -43,10 +55,13 @@ class Line:
         return self.fields.pop(0)
 
     def number(self, below, what):
+        return number(self.take(what), below, what)
+
+    def identifier(self, what):
         text = self.take(what)
-        if not re.fullmatch('[0-9]+', text) or int(text) >= below:
-            raise Bad('%s is a number from 0 to %d, not %r' % (what, below - 1, text))
-        return int(text)
+        if not text.isidentifier() or TYPE.fullmatch(text):
+            raise Bad('%s has letters, digits and _ and is no type, not %r' % (what, text))
+        return text
 
     def code(self, names, what):
         text = self.take(what)
@@ -82,12 +97,18 @@ class Line:
             raise Bad('%r is not expected here' % ' '.join(self.fields))
 
 
+def number(text, below, what):
+    if not re.fullmatch('[0-9]{1,10}', text) or int(text) >= below:
+        raise Bad('%s is a number from 0 to %d, not %r' % (what, below - 1, text))
+    return int(text)
+
+
 def access_text(access):
     return '+'.join(name for i, name in enumerate(ACCESSES) if access >> i & 1) or 'none'
 
 
 def type_code(text):
-    match = re.fullmatch('(?:vec([234])|mat([234])x([234]))?([iufb])(8|16|32|64)', text)
+    match = TYPE.fullmatch(text)
     if not match:
         raise Bad('%r is no type: write one such as f32, vec3u16 or mat3x2f32 (columns, rows)' % text)
     size, columns, rows, scalar, width = match.groups()
@@ -156,17 +177,144 @@ def resource_words(line):
     return [place] + words
 
 
+def built_in_word(code, line):
+    return word(14, code << 24 | (line.number(256, 'the slots') if line.fields else 0))
+
+
+def local_words(location, ty, line, codes):
+    content = ty | line.option('interpolation', codes[0]) << 12 | line.option('sampling', codes[1]) << 15
+    return [word(12, location), word(13, content | line.flag('per-primitive') << 18)]
+
+
 def varying_words(line):
     what = line.code(['location'] + BUILT_INS, 'a varying')
     if what:
-        words = [word(14, what - 1 << 24 | (line.number(256, 'the slots') if line.fields else 0))]
+        words = [built_in_word(what - 1, line)]
     else:
         location = line.number(CONTENT, 'the location')
-        content = type_code(line.take('the type')) | line.option('interpolation', 8) << 12
-        words = [word(12, location), word(13, content | line.option('sampling', 8) << 15 | line.flag('per-primitive') << 18)]
+        words = local_words(location, type_code(line.take('the type')), line, FITTING)
     line.end()
     return words
 
+
+# ---- structs. A type is the code of a scalar, vector or matrix, an Array or a Struct
+
+F32 = type_code('f32')
+CLIP_DISTANCES = word(14, BUILT_INS.index('clip-distances') << 24)
+Array = collections.namedtuple('Array', 'element length')
+
+
+def declared_type(text, structs):
+    """A member's type: a scalar, vector or matrix, one of the structs, or an array of one of these."""
+    name, *lengths = text.split('[')
+    if name in structs:
+        ty = structs[name]
+    elif TYPE.fullmatch(name):
+        ty = type_code(name)
+    else:
+        raise Bad('%r is no struct that is declared above, and no type such as f32, vec3u16, mat3x2f32 or f32[4]' % name)
+    if len(lengths) >= MOST_TYPES:
+        raise Bad('arrays nest at most %d deep' % (MOST_TYPES - 1))
+    for length in lengths:
+        if not length.endswith(']'):
+            raise Bad('the length of an array stands in brackets, as in f32[4], not as in %r' % text)
+        ty = Array(ty, number(length[:-1], CONTENT, 'the length of an array'))
+    return ty
+
+
+def binding_words(line):
+    """A member's binding as a type list has it; no words where there is none."""
+    if not line.fields:
+        return []
+    what = line.code(['location'] + BUILT_INS, 'a binding')
+    if what == 0:
+        return local_words(line.number(CONTENT, 'the location'), 0, line, EXISTING)
+    if BUILT_INS[what - 1] == 'clip-distances':
+        return [CLIP_DISTANCES]
+    return [built_in_word(what - 1, line)]
+
+
+def check_clip_distances(ty, binding):
+    if binding != [CLIP_DISTANCES] or isinstance(ty, Struct):
+        return
+    if not isinstance(ty, Array) or ty.element != F32 or not 1 <= ty.length <= 255:
+        raise Bad('clip distances stand on an array of 1 to 255 f32, and on nothing else')
+
+
+def nesting(ty):
+    """How deep structs nest in a type, also through arrays."""
+    while isinstance(ty, Array):
+        ty = ty.element
+    return ty.nesting if isinstance(ty, Struct) else 0
+
+
+def given(ty, binding):
+    """The varyings, each as its words, that a type with this binding gives: the rule of populate."""
+    if isinstance(ty, Struct):
+        return ty.varyings
+    if isinstance(ty, Array):
+        return [[CLIP_DISTANCES | ty.length]] if binding == [CLIP_DISTANCES] else []
+    if len(binding) == 2:
+        return [[binding[0], binding[1] | ty]]
+    return [binding] if binding else []
+
+
+class Struct:
+    """A struct, and the line that declares it: its members by name, how deep structs nest in it, and the varyings that it gives, no more
+    of them than tell that they are too many."""
+
+    def __init__(self, name, at):
+        self.name, self.at, self.members, self.nesting, self.varyings = name, at, {}, 1, []
+
+    def add(self, line, structs):
+        name = line.identifier('the name of a member')
+        if name in self.members:
+            raise Bad('it has a member %s already' % name)
+        ty, binding = declared_type(line.take('the type'), structs), binding_words(line)
+        check_clip_distances(ty, binding)
+        self.members[name] = ty, binding
+        self.nesting = max(self.nesting, 1 + nesting(ty))
+        self.varyings = (self.varyings + given(ty, binding))[:MOST_VARYINGS + 1]
+
+    def check(self):
+        """Whether it may be asked for its varyings."""
+        if self.nesting > MOST_NESTED:
+            raise Bad('struct %s of line %d: structs nest %d deep in it, and at most %d may' % (self.name, self.at, self.nesting, MOST_NESTED))
+        if len(self.varyings) > MOST_VARYINGS:
+            raise Bad('struct %s of line %d gives more than %d varyings' % (self.name, self.at, MOST_VARYINGS))
+
+
+class TypeList:
+    """A type list: the number of each type, and the records, each type once and behind those that it names."""
+
+    def __init__(self, structs):
+        self.numbers, self.records = {}, []
+        for struct in structs:
+            self.number(struct)
+            if len(self.numbers) > MOST_TYPES or len(self.records) >= MOST_TYPE_WORDS:
+                raise Bad('struct %s of line %d: with it the list has %d types and %d words, and at most %d and %d may stand in one' % (
+                    struct.name, struct.at, len(self.numbers), 1 + len(self.records), MOST_TYPES, MOST_TYPE_WORDS))
+
+    def number(self, ty):
+        if ty not in self.numbers:
+            record = self.record(ty)
+            self.numbers[ty] = len(self.numbers)
+            self.records += record
+        return self.numbers[ty]
+
+    def record(self, ty):
+        if isinstance(ty, Struct):
+            members = [[word(5, self.number(of))] + (binding or [word(6, 0)]) for of, binding in ty.members.values()]
+            return [word(24, len(members))] + [w for member in members for w in member]
+        if isinstance(ty, Array):
+            return [word(23, self.number(ty.element)), word(6, ty.length)]
+        return [word(22, ty)]
+
+    def words(self):
+        return [word(21, len(self.numbers))] + self.records
+
+
+# ---- entry points and the whole
 
 class Entry:
     def __init__(self, line):
@@ -174,7 +322,7 @@ class Entry:
         self.dual, self.workgroup, self.payload, self.mesh = line.flag('dual-source'), [0, 0, 0], 0, []
         self.resources, self.pairs, self.inputs, self.outputs = [], [], [], []
 
-    def add(self, key, line):
+    def add(self, key, line, structs):
         if key == 'workgroup':
             self.workgroup = [line.number(CONTENT, axis) for axis in 'xyz']
         elif key == 'payload':
@@ -190,6 +338,10 @@ class Entry:
             self.inputs.append(varying_words(line))
         elif key == 'output':
             self.outputs.append(varying_words(line))
+        elif key == 'inputs':
+            self.inputs += struct_varyings(line, structs)
+        elif key == 'outputs':
+            self.outputs += struct_varyings(line, structs)
         else:
             raise Bad('%r is no word of a description' % key)
 
@@ -206,36 +358,99 @@ class Entry:
         return words + [w for varying in self.inputs + self.outputs for w in varying]
 
 
-def build(text):
-    limits, resources, entries = list(DEFAULTS), [], []
-    for at, written in enumerate(text.split('\n'), 1):
-        line = Line(written)
-        if not line.fields:
-            continue
+def struct_named(name, structs):
+    """A struct that may be asked for its varyings."""
+    if name not in structs:
+        raise Bad('there is no struct %s' % name)
+    structs[name].check()
+    return structs[name]
+
+
+def struct_varyings(line, structs):
+    if line.take("'of'") != 'of':
+        raise Bad("'of' and the name of a struct are to follow")
+    return struct_named(line.take('the name of a struct'), structs).varyings
+
+
+class Description:
+    """What the lines of a description say."""
+
+    def __init__(self, text):
+        self.limits, self.resources, self.structs, self.entries = list(DEFAULTS), [], {}, []
+        self.last_struct = None
+        for at, written in enumerate(text.split('\n'), 1):
+            line = Line(written)
+            if not line.fields:
+                continue
+            try:
+                self.add(line, at)
+                line.end()
+            except Bad as bad:
+                raise Bad('line %d: %s' % (at, bad))
+
+    def add(self, line, at):
+        key = line.take('a word')
+        if key == 'limit':
+            limit = line.code(LIMITS, 'a limit')
+            self.limits[limit] = line.number(CONTENT, LIMITS[limit])
+        elif key == 'resource':
+            self.resources.append(resource_words(line))
+        elif key == 'struct':
+            self.add_struct(line, at)
+        elif key == 'member':
+            self.add_member(line)
+        elif key == 'entry':
+            self.entries.append(Entry(line))
+        elif not self.entries:
+            raise Bad('%r stands before the first entry point' % key)
+        else:
+            self.entries[-1].add(key, line, self.structs)
+
+    def add_struct(self, line, at):
+        name = line.identifier('the name of a struct')
+        if self.entries:
+            raise Bad('struct %s stands behind an entry point, and structs stand before all of them' % name)
+        if name in self.structs:
+            raise Bad('there is a struct %s already, of line %d' % (name, self.structs[name].at))
+        self.structs[name] = self.last_struct = Struct(name, at)
+
+    def add_member(self, line):
+        struct = self.last_struct
+        if struct is None or self.entries:
+            raise Bad('a member stands behind its struct, and before the first entry point')
         try:
-            key = line.take('a word')
-            if key == 'limit':
-                limit = line.code(LIMITS, 'a limit')
-                limits[limit] = line.number(CONTENT, LIMITS[limit])
-            elif key == 'resource':
-                resources.append(resource_words(line))
-            elif key == 'entry':
-                entries.append(Entry(line))
-            elif not entries:
-                raise Bad('%r stands before the first entry point' % key)
-            else:
-                entries[-1].add(key, line)
+            struct.add(line, {name: other for name, other in self.structs.items() if other is not struct})
             line.end()
         except Bad as bad:
-            raise Bad('line %d: %s' % (at, bad))
-    if len(resources) > 128 or len(entries) > 16:
-        raise Bad('a pack has at most 128 resources and 16 entry points')
-    words = [word(2, len(resources) << 16 | len(entries))] + [word(3, x) for x in limits]
-    words += [w for r in resources for w in r] + [w for e in entries for w in e.words()]
-    if len(words) + 2 > 4096:
-        raise Bad('a pack has at most 4096 words, and this one %d' % (len(words) + 2))
-    words.insert(0, word(1, 1 << 16 | len(words) + 2))
-    return words + [sum(words) % (1 << 32)]
+            raise Bad('struct %s: %s' % (struct.name, bad))
+
+    def words(self):
+        if len(self.resources) > 128 or len(self.entries) > 16:
+            raise Bad('a pack has at most 128 resources and 16 entry points')
+        words = [word(2, len(self.resources) << 16 | len(self.entries))] + [word(3, x) for x in self.limits]
+        words += [w for r in self.resources for w in r] + [w for e in self.entries for w in e.words()]
+        if len(words) + 2 > 4096:
+            raise Bad('a pack has at most 4096 words, and this one %d' % (len(words) + 2))
+        words.insert(0, word(1, 1 << 16 | len(words) + 2))
+        return words + [sum(words) % (1 << 32)]
+
+
+def build(text):
+    return Description(text).words()
+
+
+def types(text, name):
+    """The words of the type list that has all structs, and the number of the one that is named."""
+    structs = Description(text).structs
+    struct = struct_named(name, structs)
+    type_list = TypeList(structs.values())
+    return type_list.words(), type_list.numbers[struct]
+
+
+def varyings(text, name):
+    """The varyings of a struct, each in the form of a description."""
+    struct = struct_named(name, Description(text).structs)
+    return text_of(varying_fields(Reader(words + [0])) for words in struct.varyings)
 
 
 # ---- from words to a description
@@ -283,16 +498,16 @@ def resource_line(reader):
     return line
 
 
-def varying_line(reader, key):
+def varying_fields(reader):
     w = reader.raw()
     if w >> 27 == 14:
-        return ['  ' + key, reader.name(BUILT_INS, bits(w, 26, 24)), bits(w, 7, 0)]
+        return [reader.name(BUILT_INS, bits(w, 26, 24)), bits(w, 7, 0)]
     reader.at -= 1
     location, w = reader.take(12), reader.take(13)
-    line = ['  ' + key, 'location', location, type_text(w)]
+    fields = ['location', location, type_text(w)]
     for option, value in (('interpolation', bits(w, 14, 12)), ('sampling', bits(w, 17, 15))):
-        line += [option, value] if value else []
-    return line + ['per-primitive'] * bits(w, 18, 18)
+        fields += [option, value] if value else []
+    return fields + ['per-primitive'] * bits(w, 18, 18)
 
 
 def entry_lines(reader):
@@ -314,8 +529,12 @@ def entry_lines(reader):
         lines.append(['  uses'] + resources)
     for pair in [reader.take(5) for _ in range(bits(counts, 17, 12))]:
         lines.append(['  pair', pair >> 8, pair & 255])
-    lines += [varying_line(reader, 'input') for _ in range(bits(counts, 11, 6))]
-    return lines + [varying_line(reader, 'output') for _ in range(bits(counts, 5, 0))]
+    lines += [['  input'] + varying_fields(reader) for _ in range(bits(counts, 11, 6))]
+    return lines + [['  output'] + varying_fields(reader) for _ in range(bits(counts, 5, 0))]
+
+
+def text_of(lines):
+    return ''.join(' '.join(str(field) for field in line) + '\n' for line in lines)
 
 
 def description(words):
@@ -325,7 +544,7 @@ def description(words):
     lines = [['limit', limit, reader.take(3)] for limit in LIMITS] + [[]]
     lines += [resource_line(reader) for _ in range(totals >> 16)]
     lines += [line for _ in range(totals & 65535) for line in entry_lines(reader)]
-    text = ''.join(' '.join(str(field) for field in line) + '\n' for line in lines)
+    text = text_of(lines)
     if build(text) != words:
         raise Bad('a bit is set that has no meaning, or words are left over')
     return text
@@ -333,36 +552,54 @@ def description(words):
 
 def show(data):
     if len(data) % 4:
-        raise Bad('torn: %d bytes are no whole number of words' % len(data))
+        raise Bad('damaged: %d bytes are no whole number of words' % len(data))
     words = [int.from_bytes(data[i:i + 4], 'little') for i in range(0, len(data), 4)]
     if not 16 <= len(words) <= 4096:
-        raise Bad('torn: a pack has 16 to 4096 words, and this one %d' % len(words))
+        raise Bad('damaged: a pack has 16 to 4096 words, and this one %d' % len(words))
     if words[0] & 65535 != len(words):
-        raise Bad('torn: it says that it has %d words, and has %d' % (words[0] & 65535, len(words)))
+        raise Bad('damaged: it says that it has %d words, and has %d' % (words[0] & 65535, len(words)))
     if sum(words[:-1]) % (1 << 32) != words[-1]:
-        raise Bad('torn: its words sum to %08x, and its closing word is %08x' % (sum(words[:-1]) % (1 << 32), words[-1]))
+        raise Bad('damaged: its words sum to %08x, and its closing word is %08x' % (sum(words[:-1]) % (1 << 32), words[-1]))
     try:
         return description(words)
     except Bad as bad:
-        raise Bad('misfiled: %s' % bad)
+        raise Bad('malformed: %s' % bad)
+
+
+def stored(words):
+    return b''.join(w.to_bytes(4, 'little') for w in words)
+
+
+def read_text(path):
+    with open(path, encoding='utf-8') as file:
+        return file.read()
+
+
+def run(command, path, *names):
+    """What a command writes, in bytes, and what it tells beside that."""
+    if command == 'show':
+        with open(path, 'rb') as file:
+            return show(file.read()).encode(), ''
+    if command == 'varyings':
+        return varyings(read_text(path), *names).encode(), ''
+    if command == 'types':
+        words, asked = types(read_text(path), *names)
+        return stored(words), '%s is type %d\n' % (names[0], asked)
+    return stored(build(read_text(path))), ''
 
 
 def main():
-    if len(sys.argv) != 3 or sys.argv[1] not in ('build', 'show'):
+    if len(sys.argv) != {'build': 3, 'show': 3, 'varyings': 4, 'types': 4}.get(''.join(sys.argv[1:2])):
         sys.exit(__doc__)
     path = sys.argv[2]
     try:
-        if sys.argv[1] == 'build':
-            with open(path, encoding='utf-8') as file:
-                words = build(file.read())
-            sys.stdout.buffer.write(b''.join(w.to_bytes(4, 'little') for w in words))
-        else:
-            with open(path, 'rb') as file:
-                sys.stdout.write(show(file.read()))
+        data, told = run(*sys.argv[1:])
     except (Bad, UnicodeDecodeError) as bad:
         sys.exit('%s: %s' % (path, bad))
     except OSError as error:
         sys.exit('%s: %s' % (path, error.strerror))
+    sys.stdout.buffer.write(data)
+    sys.stderr.write(told)
 
 
 if __name__ == '__main__':

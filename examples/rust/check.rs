@@ -41,6 +41,17 @@ extern "C" {
     fn bokwingi_texture_format(code: u32, details: *mut u32, details_len: usize) -> u32;
     fn bokwingi_check_texture_format(format: u32, ty: u32, details: *mut u32, details_len: usize) -> u32;
     fn bokwingi_is_subtype_of(a: u32, b: u32) -> u32;
+    fn bokwingi_populate(
+        types: *const u32,
+        types_len: usize,
+        asked: u32,
+        binding: *const u32,
+        binding_len: usize,
+        out: *mut u32,
+        out_len: usize,
+        details: *mut u32,
+        details_len: usize,
+    ) -> u32;
 }
 
 /// Words that stand behind every lent list and must stay.
@@ -122,6 +133,27 @@ fn stage_call(case: &[&str], answer: &[&str], details: &mut Lent) -> Option<u32>
     kept.then_some(number)
 }
 
+/// The number of a call of `bokwingi_populate`, if the room for the varyings is left as the answer has it.
+fn populate_call(case: &[&str], answer: &[&str], details: &mut Lent) -> Option<u32> {
+    let (types, binding) = (list(case[1]), list(case[3]));
+    let mut out = Lent::new(&list(case[4]));
+    // SAFETY: as above.
+    let number = unsafe {
+        bokwingi_populate(
+            types.as_ptr(),
+            types.len(),
+            hex(case[2]),
+            binding.as_ptr(),
+            binding.len(),
+            out.pointer(),
+            out.len,
+            details.pointer(),
+            details.len,
+        )
+    };
+    out.is(&list(answer[4])).then_some(number)
+}
+
 fn call(case: &[&str], answer: &[&str], details: &mut Lent) -> Option<u32> {
     let (at, room) = (details.pointer(), details.len);
     // SAFETY: as above.
@@ -136,6 +168,7 @@ fn call(case: &[&str], answer: &[&str], details: &mut Lent) -> Option<u32> {
             "bokwingi_texture_format" => Some(bokwingi_texture_format(hex(case[1]), at, room)),
             "bokwingi_check_texture_format" => Some(bokwingi_check_texture_format(hex(case[1]), hex(case[2]), at, room)),
             "bokwingi_is_subtype_of" => Some(bokwingi_is_subtype_of(hex(case[1]), hex(case[2]))),
+            "bokwingi_populate" => populate_call(case, answer, details),
             _ => None,
         }
     }

@@ -88,18 +88,19 @@ def foreign_lines(module):
 
 
 def recursions(module, folder):
-    """A function of the module that calls itself, with and without a line that says how deep."""
-    compiled = stack.Object(os.path.join(BOARD, 'bokwingi.o')).frames
+    """A function of the module that is made to call itself, with and without a line that says how deep."""
+    known = os.path.join(TOOLS, 'recursion.txt')
+    compiled = stack.Object(os.path.join(BOARD, 'bokwingi.o')).frames.keys() - stack.depths(known).keys()
     heads = re.finditer(r'(?m)^define internal .*?@"(?P<name>[^"]+)"\((?P<parameters>.*)\) #0 {\nstart:\n', module)
     function = next(head for head in heads if head['name'] in compiled)
     arguments = re.sub(r'noundef (?:zeroext )?', '', function['parameters'])
     text, told, untold = (os.path.join(folder, name) for name in ('module.ll', 'told', 'untold'))
     call = '  call void @"%s"(%s)\n' % (function['name'], arguments)
     open(text, 'w').write(module[:function.end()] + call + module[function.end():])
-    open(told, 'w').write('%s 3\n' % function['name'])
-    open(untold, 'w').close()
+    open(untold, 'w').write(open(known).read())
+    open(told, 'w').write('%s%s 3\n' % (open(known).read(), function['name']))
     objects = [os.path.join(BOARD, name) for name in ('bokwingi.o', 'helpers.o')]
-    yield 'a function that calls itself', refused(*run('stack.py', [HEADER, text, untold] + objects), 'calls itself')
+    yield 'a function that calls itself', refused(*run('stack.py', [HEADER, text, untold] + objects), function['name'] + ' calls itself')
     yield 'the same with its depth', run('stack.py', [HEADER, text, told] + objects)[0] == 0
     yield 'helpers that no object has', refused(*run('stack.py', [HEADER, text, told] + 2 * objects[:1]), 'no object has it')
     yield 'a function that the module has not', refused(*run('stack.py', [HEADER, text, told] + objects[::-1]), 'the module does not have')

@@ -1,6 +1,7 @@
 #!/usr/bin/env python3
 """Generated calls of the C functions on the emulated board, held to the answers of oracle/'s model: COUNT stage checks, a fifth as many
-choices of an entry point, and every case of formats and types. Calls that are longer than the board's memory are left out.
+choices of an entry point and as many calls of populate, and every case of formats and types. Calls that are longer than the board's
+memory are left out.
 
     tests/board/generated.py [COUNT [SEED]]        100000 and 11; needs oracle/ built, and target/board/replay.elf by tests/board/run"""
 import os
@@ -43,7 +44,8 @@ def parts(count, seed):
 def main(count=100000, seed=11):
     functions = header.functions(calls.HEADER)
     wrong = 0
-    for sort, of in [('stage', count), ('name', count // 5), ('vertex', None), ('texture', None), ('format', None), ('subtype', None)]:
+    for sort, of in [('stage', count), ('name', count // 5), ('populate', count // 5),
+                     ('vertex', None), ('texture', None), ('format', None), ('subtype', None)]:
         for words in [[]] if of is None else parts(of, seed):
             lines = generated(sort, words)
             short = [line for line in lines if calls.Call(functions, line, 3).fits()]

@@ -65,6 +65,15 @@ module _ (a : Answer) (layout sizes out : List ℕ) (x : Outcome) (e : outcome a
   pub stage-out : out ≡ x .out
   stage-out = ap (λ (y : Outcome). y .out) e
 
+-- ---- an answer and one list
+
+module _ (a : Answer) (out : List ℕ) (x : Answer × List ℕ) (e : (a, out) ≡ x) where
+  pub pair-handed : (r : ℕ) (before after : List ℕ) → Handed a r before after → Handed (x .0) r before after
+  pair-handed r before after h = handed-on a (x .0) r before after (ap (λ (y : Answer × List ℕ). y .0) e) h
+
+  pub pair-out : out ≡ x .1
+  pair-out = ap (λ (y : Answer × List ℕ). y .1) e
+
 -- ---- two types compared
 
 pub compared-number : (compared which : Compared) (r : ℕ) → compared ≡ which → r ≡ subtypeNumber compared → r ≡ subtypeNumber which

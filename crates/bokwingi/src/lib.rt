@@ -4,6 +4,7 @@ ghost use Rattle.formats.specs.Formats.{vertexFormat, textureFormat, formatAnsw
 ghost use Rattle.numeric.specs.TypeWords.{readType, compareTypes, subtypeNumber};
 ghost use Rattle.interface.specs.Format.{decode};
 ghost use Rattle.entry_points.specs.Rules.{finalizeName};
+ghost use Rattle.populate.specs.Populate.{populateCall};
 ghost use Rattle.stage.specs.Stage.{checkStage};
 ghost use Rattle.stage.specs.Meaning.{call, codes, lent};
 ghost use Rattle.bokwingi.specs.Details.{Handed};
@@ -13,6 +14,7 @@ use formats::formats::texture_format;
 use formats::formats::vertex_format;
 use numeric::type_words::is_subtype_of;
 use numeric::type_words::subtype_number;
+use populate::call::populate_types;
 use stage::check::check_stage;
 use stage::types::Codes;
 use word::answer::Answer;
@@ -114,4 +116,20 @@ pub extern "C" fn bokwingi_is_subtype_of(a: u32, b: u32) -> u32
     ensures { λ r. ⌜ r ≡ subtypeNumber (compareTypes (readType a) (readType b)) ⌝ }
 {
     subtype_number(is_subtype_of(a, b))
+}
+
+// The varyings that a declared type gives with its binding: their count is the first detail, and their words stand from the start of the destination on.
+#[no_mangle]
+pub extern "C" fn bokwingi_populate(
+    types: &[u32],
+    asked: u32,
+    binding: &[u32],
+    out: &mut [u32],
+    details: &mut [u32],
+) -> u32
+    ensures { λ r. ⌜ Handed (populateCall (now (types .entry)) asked (now (binding .entry)) (now (out .entry)) .0) r (now (details .entry)) (now (details .exit)) ⌝ }
+    ensures { λ r. ⌜ now (out .exit) ≡ populateCall (now (types .entry)) asked (now (binding .entry)) (now (out .entry)) .1 ⌝ }
+{
+    let a = populate_types(types, asked, binding, out);
+    hand_out(a, details)
 }

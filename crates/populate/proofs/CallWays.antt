@@ -95,8 +95,12 @@ module _ (types : List TypeInner) (ws notes : List ℕ) (s : Noted types ws note
         pub too-short : length l < t .words → r ≡ refused Number.shortOut → (r, l) ≡ populated types n (bindingAt bs) l
         unfolding populated
         too-short k q =
-            rw (flat-enough, le-ltb 63 (length (populate types n (bindingAt bs))) few,
-            lt-ltb (length l) (length (wordsOf (populate types n (bindingAt bs)))) (omega (arith, words-are)), q)
+            rw (
+              flat-enough,
+              le-ltb 63 (length (populate types n (bindingAt bs))) few,
+              lt-ltb (length l) (length (wordsOf (populate types n (bindingAt bs)))) (omega (arith, words-are)),
+              q,
+            )
 
         module _ (k : t .words ≤ length l) where
           pub enough : 0 + length (wordsOf (populate types n (bindingAt (drop 0 bs)))) ≤ room l
@@ -109,7 +113,7 @@ module _ (types : List TypeInner) (ws notes : List ℕ) (s : Noted types ws note
               let c : t .count ≡ length (populate types n (bindingAt bs)) = omega (arith, count-is, few) in
               let o : length (wordsOf (populate types n (bindingAt bs))) ≤ length l = omega (arith, words-are) in
               let p : later ≡ wordsOf (populate types n (bindingAt bs)) ++ drop (length (wordsOf (populate types n (bindingAt bs)))) l =
-                  g ∙ put-first l (wordsOf (populate types n (bindingAt bs))) o in
+              g ∙ put-first l (wordsOf (populate types n (bindingAt bs))) o in
               rw (flat-enough, le-ltb 63 (length (populate types n (bindingAt bs))) few, le-ltb (length l) (length (wordsOf (populate types n (bindingAt bs)))) o, q, c, p)
 
 -- ---- the binding

@@ -65,10 +65,10 @@ again-is (w ∷ ws) l from to h same =
     let z : from + zero ≡ from = add-zero from in
     let a : getD l from 0 ≡ w = rw z at (same zero (omega arith)) in
     let b : again (set l to (getD l from 0)) (from + 1) (to + 1) (length ws) ≡ put (set l to w) (to + 1) ws =
-        rw a
-        (again-is ws (set l to w) (from + 1) (to + 1) (omega arith) λ k i.
-        let q : from + 1 + k ≡ from + suc k = omega arith in
-        getD-set-other l to (from + 1 + k) w 0 (λ y. omega arith) ∙ rw q (same (suc k) (omega arith))) in
+    rw a
+    (again-is ws (set l to w) (from + 1) (to + 1) (omega arith) λ k i.
+    let q : from + 1 + k ≡ from + suc k = omega arith in
+    getD-set-other l to (from + 1 + k) w 0 (λ y. omega arith) ∙ rw q (same (suc k) (omega arith))) in
     b
 
 -- the loop: its start, one word more, its end

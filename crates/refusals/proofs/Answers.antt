@@ -34,12 +34,12 @@ use Rattle.interface.specs.Format.{Decoded, Damaged, Malformed, Pack, decodedNu
 use Rattle.entry_points.specs.Rules.{onlyEntryPoint, onlyAnswer, finalizeName}
 use Rattle.entry_points.specs.declared.choose.Chosen.{Chosen}
 use Rattle.entry_points.specs.declared.choose.Chosen.the-variants as Ch
-use Rattle.refusals.specs.Table.{early, stageNumbers, packNumbers, subtypeNumbers, nameNumbers, vertexFormatNumbers, textureFormatNumbers, formatUseNumbers, wordsUseNumbers, derivationNumbers, table, answered}
+use Rattle.refusals.specs.Table.{early, stageNumbers, packNumbers, subtypeNumbers, nameNumbers, vertexFormatNumbers, textureFormatNumbers, formatUseNumbers, wordsUseNumbers, derivationNumbers, populateNumbers, table, answered}
 use Rattle.refusals.proofs.Known.{either}
 
 -- ---- every function's numbers are in the table
 
-pub numbers-listed : every (every (among table)) (early ∷ stageNumbers ∷ packNumbers ∷ nameNumbers ∷ vertexFormatNumbers ∷ textureFormatNumbers ∷ formatUseNumbers ∷ wordsUseNumbers ∷ derivationNumbers ∷ []) ≡ true
+pub numbers-listed : every (every (among table)) (early ∷ stageNumbers ∷ packNumbers ∷ nameNumbers ∷ vertexFormatNumbers ∷ textureFormatNumbers ∷ formatUseNumbers ∷ wordsUseNumbers ∷ derivationNumbers ∷ populateNumbers ∷ []) ≡ true
 unfolding every among
 numbers-listed = refl
 

@@ -5,3 +5,4 @@ pub mod Calls
 pub mod Kept
 pub mod Demand1
 pub mod Answers
+pub mod Declared

@@ -77,10 +77,16 @@ derivationNumbers = 0 ∷ Number.malformedPack ∷ Number.wrongBufferAddressSpac
 abbrev pub subtypeNumbers : List ℕ
 subtypeNumbers = 0 ∷ 1 ∷ Number.unknownCode ∷ []
 
+-- the varyings of a declared type: '90, … 91 … and … 92, in that order …; then … 4'
+abbrev pub populateNumbers : List ℕ
+populateNumbers = 0 ∷ Number.badTypes ∷ Number.nestedTooDeep ∷ Number.tooManyVaryings ∷ Number.shortOut ∷ []
+
 -- ---- all of them
 
 abbrev pub table : List ℕ
-table = early ++ (0 ∷ (resourceNumbers ++ (judgementNumbers ++ (Number.noColourType ∷ Number.formatMismatch ∷ Number.unknownCode ∷ []))))
+table =
+    early ++ (0 ∷ (resourceNumbers ++ (judgementNumbers
+    ++ (Number.noColourType ∷ Number.formatMismatch ∷ Number.unknownCode ∷ Number.badTypes ∷ Number.nestedTooDeep ∷ Number.tooManyVaryings ∷ []))))
 
 -- 'An answer is the number and three details, 0 unless named': acceptance names as many details as a function says
 abbrev pub plainFrom : ℕ → Answer → Bool

@@ -83,3 +83,28 @@ pub fn check_texture_format(format: u32, ty: u32, details: &mut [u32]) -> u32 {
 pub fn is_subtype_of(a: u32, b: u32) -> u32 {
     unsafe { raw::bokwingi_is_subtype_of(a, b) }
 }
+
+/// The buffers of `populate`.
+pub struct PopulateLent<'a> {
+    pub types: &'a [u32],
+    pub binding: &'a [u32],
+    pub out: &'a mut [u32],
+    pub details: &'a mut [u32],
+}
+
+#[inline(always)]
+pub fn populate(lent: &mut PopulateLent, asked: u32) -> u32 {
+    unsafe {
+        raw::bokwingi_populate(
+            lent.types.as_ptr(),
+            lent.types.len(),
+            asked,
+            lent.binding.as_ptr(),
+            lent.binding.len(),
+            lent.out.as_mut_ptr(),
+            lent.out.len(),
+            lent.details.as_mut_ptr(),
+            lent.details.len(),
+        )
+    }
+}

@@ -1,7 +1,9 @@
-//! The calls that are counted: small ones, middle ones, the largest, and a series of growing packs.
+//! The calls that are counted: small ones, middle ones, the largest, and a series of growing packs; and type lists, of which
+//! the largest are made to take long.
 
-use cases::StageCall;
+use cases::{PopulateCall, StageCall};
 use gen::build::*;
+use gen::types::{Binding, List, Type, F32};
 use model::binding;
 
 /// A vector of four f32.
@@ -253,4 +255,106 @@ pub fn series() -> Vec<(String, StageCall)> {
         out.push((format!("no resources, {said}"), call(&pack(&m, &[0]), 0, 0, beside)));
     }
     out
+}
+
+type Member = (u32, Binding);
+
+fn located(ty: u32, location: u32) -> Member {
+    (ty, Binding::Local(location, 0))
+}
+
+fn unbound(ty: u32) -> Member {
+    (ty, Binding::None)
+}
+
+/// A call that asks for the last type of a list, with room for all varyings that are let through.
+fn populate_call(list: List) -> PopulateCall {
+    PopulateCall {
+        asked: list.types.len() as u32 - 1,
+        types: list.words(),
+        binding: Binding::None.words(),
+        out: vec![0; 126],
+    }
+}
+
+/// Vectors at eight locations.
+fn eight_members() -> List {
+    let mut list = List::new((0..4).map(|shape| Type::Numeric(F32 | shape)));
+    list.add(Type::Struct((0..8).map(|i| located(i % 4, i)).collect()));
+    list
+}
+
+/// 63 varyings, eight structs deep: three members, that struct seven times, that one three times, and five around it.
+fn nested() -> List {
+    let mut list = List::new([Type::Numeric(F32 | 3)]);
+    let mut last = list.add(Type::Struct((0..3).map(|i| located(0, i)).collect()));
+    for times in [7, 3, 1, 1, 1, 1, 1] {
+        last = list.add(Type::Struct(vec![unbound(last); times]));
+    }
+    list
+}
+
+/// Up to 1,024 words, eight structs deep: a chain of structs with one varying at its end, and structs above that name the chain
+/// so many times in turn. The chain has as many members as there is room for. All but the last of each struct are of type 1
+/// and give nothing.
+fn chains((idle, binding): (Type, Binding), above: &[usize]) -> List {
+    let mut list = List::new([Type::Numeric(F32), idle]);
+    let length = 8 - above.len() - list.nesting(1) as usize;
+    // The first words, the structs above, the heads of the chain, and one word more for the location.
+    let taken = list.words().len() + above.iter().map(|times| 1 + 2 * times).sum::<usize>() + length + 1;
+    let members = (1024 - taken) / 2;
+    let mut last = located(0, 0);
+    for level in 0..length {
+        let mut made = vec![(1, binding); members / length + (level < members % length) as usize - 1];
+        made.push(last);
+        last = unbound(list.add(Type::Struct(made)));
+    }
+    for times in above {
+        last = unbound(list.add(Type::Struct(vec![last; *times])));
+    }
+    list
+}
+
+/// All 256 types, structs of one member as far as the words last.
+fn most_types() -> List {
+    let mut list = List::new([Type::Numeric(F32)]);
+    while list.types.len() < 256 {
+        list.add(Type::Struct(vec![located(0, list.types.len() as u32)]));
+    }
+    list
+}
+
+/// As many members with a location as fit, many more than are let through.
+fn most_members() -> List {
+    List::new([Type::Numeric(F32), Type::Struct((0..340).map(|i| located(0, i)).collect())])
+}
+
+/// Seven levels of structs that name the one before 72 times, over one without members: a walk that enters them all takes
+/// 72 to the power 7 steps and finds nothing.
+fn nothing_given() -> List {
+    let mut list = List::new([Type::Struct(Vec::new())]);
+    for last in 0..7 {
+        list.add(Type::Struct(vec![unbound(last); 72]));
+    }
+    list
+}
+
+/// Calls of `populate`, with their labels.
+pub fn populate() -> Vec<(String, PopulateCall)> {
+    let scalar = || (Type::Numeric(F32), Binding::None);
+    let empty = || (Type::Struct(Vec::new()), Binding::None);
+    let array = || (Type::Array(0, 4), Binding::BuiltIn(0, 0));
+    [
+        ("eight members", eight_members()),
+        ("nested", nested()),
+        ("63 chains of seven, unbound members", chains(scalar(), &[63])),
+        ("63 chains of five, unbound members", chains(scalar(), &[7, 3, 3])),
+        ("63 chains of four, empty structs", chains(empty(), &[7, 3, 3])),
+        ("63 chains of five, arrays", chains(array(), &[7, 3, 3])),
+        ("most types", most_types()),
+        ("most members", most_members()),
+        ("structs that give nothing", nothing_given()),
+    ]
+    .map(|(label, list)| (format!("populate, {label}"), populate_call(list)))
+    .into()
 }

@@ -19,6 +19,15 @@ pub struct StageCall {
     pub depth: u32,
 }
 
+/// One call of `populate`.
+#[derive(Clone, Debug, Default, Eq, PartialEq)]
+pub struct PopulateCall {
+    pub types: Vec<u32>,
+    pub asked: u32,
+    pub binding: Vec<u32>,
+    pub out: Vec<u32>,
+}
+
 #[derive(Clone, Debug, Eq, PartialEq)]
 pub enum Case {
     Stage(Box<StageCall>),
@@ -29,6 +38,7 @@ pub enum Case {
     Format(u32, u32),
     Use { resource: Vec<u32>, entry: Vec<u32> },
     Derive { resource: Vec<u32>, named: u32 },
+    Populate(Box<PopulateCall>),
 }
 
 #[derive(Clone, Debug, Eq, PartialEq)]
@@ -41,6 +51,10 @@ pub enum Answer {
     Bare(u32),
     /// A derived entry: number, type word, least-size word.
     Derived { number: u32, ty: u32, size: u32 },
+    /// `populate`: number, details, and the list out after the call.
+    Populate { number: u32, details: [u32; 3], out: Vec<u32> },
+    /// The Rust was not run, because its walk would take too many steps.
+    Long,
     /// The Rust panicked where no refusal of document 01 accounts for it.
     Panic,
 }
@@ -51,8 +65,9 @@ impl Answer {
             Answer::Stage { number, .. }
             | Answer::Plain { number, .. }
             | Answer::Bare(number)
-            | Answer::Derived { number, .. } => Some(number),
-            Answer::Panic => None,
+            | Answer::Derived { number, .. }
+            | Answer::Populate { number, .. } => Some(number),
+            Answer::Long | Answer::Panic => None,
         }
     }
 }
@@ -113,6 +128,9 @@ impl fmt::Display for Case {
             Case::Format(code, ty) => write!(f, "format {code} {ty:x}"),
             Case::Use { resource, entry } => write!(f, "use {} {}", Words(resource), Words(entry)),
             Case::Derive { resource, named } => write!(f, "derive {} {named}", Words(resource)),
+            Case::Populate(c) => {
+                write!(f, "populate {} {} {} {}", Words(&c.types), c.asked, Words(&c.binding), Words(&c.out))
+            }
         }
     }
 }
@@ -126,6 +144,10 @@ impl fmt::Display for Answer {
             Answer::Plain { number, details: [a, b, c] } => write!(f, "{number} {a:x} {b:x} {c:x}"),
             Answer::Bare(number) => write!(f, "{number}"),
             Answer::Derived { number, ty, size } => write!(f, "{number} {ty:x} {size:x}"),
+            Answer::Populate { number, details: [a, b, c], out } => {
+                write!(f, "{number} {a:x} {b:x} {c:x} {}", Words(out))
+            }
+            Answer::Long => f.write_str("long"),
             Answer::Panic => f.write_str("panic"),
         }
     }
@@ -186,6 +208,12 @@ impl Case {
             ["format", c, ty] => Case::Format(code(c)?, word(ty)?),
             ["use", resource, entry] => Case::Use { resource: words(resource)?, entry: words(entry)? },
             ["derive", resource, named] => Case::Derive { resource: words(resource)?, named: code(named)? },
+            ["populate", types, asked, binding, out] => Case::Populate(Box::new(PopulateCall {
+                types: words(types)?,
+                asked: code(asked)?,
+                binding: words(binding)?,
+                out: words(out)?,
+            })),
             _ => return None,
         })
     }

@@ -68,6 +68,38 @@ impl Tally {
     }
 }
 
+/// Calls of `populate`; the number of differences.
+fn populate(seed: u64, count: u64, quiet: bool, by: &str, other: impl Fn(&Case) -> Option<Answer>) -> u64 {
+    let (mut all, mut long) = (Tally::default(), Tally::default());
+    let (mut accepted, mut with_varyings, mut varyings) = (0u64, 0u64, 0u64);
+    for i in 0..count {
+        let case = Case::Populate(Box::new(gen::populate::call(seed, i)));
+        let by_oracle = oracle::answer(&case);
+        let by_other = other(&case).unwrap();
+        if by_oracle == Answer::Long {
+            // The Rust was not run; here the model is the judge.
+            long.add("populate, long", i, &case, ("model", &model::answer(&case)), (by, &by_other));
+            continue;
+        }
+        all.add("populate", i, &case, ("oracle", &by_oracle), (by, &by_other));
+        if let Answer::Populate { number: 0, details: [count, ..], .. } = by_oracle {
+            accepted += 1;
+            with_varyings += (count > 0) as u64;
+            varyings += u64::from(count);
+        }
+    }
+    all.line("populate");
+    println!("  {accepted} lists accepted, {with_varyings} of them with {varyings} varyings");
+    if !quiet {
+        all.numbers("  populate");
+    }
+    println!("  {} others skipped, because the Rust would walk too long", long.same + long.differ);
+    if by == "library" {
+        println!("  {} of them not as the model has it", long.differ);
+    }
+    all.differ + long.differ
+}
+
 fn main() {
     let (mut count, mut seed, mut leaves, mut quiet, mut linked) = (300_000u64, 1u64, true, false, false);
     let mut args = std::env::args().skip(1);
@@ -114,6 +146,8 @@ fn main() {
     }
     names.line("name");
     failed += names.differ;
+
+    failed += populate(seed, count / 3, quiet, by, other);
 
     let (mut inside, mut outside, mut order) = (Tally::default(), Tally::default(), Tally::default());
     let mut another_first = 0u64;

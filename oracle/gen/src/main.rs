@@ -7,7 +7,7 @@ use std::process::exit;
 fn usage() -> ! {
     eprintln!(
         "usage: gen SORT [--count N] [--seed N] [--from N] [--only-domain]
-  SORT   stage, name, or a leaf sort: vertex, texture, subtype, format, use, derive (all cases of it)"
+  SORT   stage, name, populate, or a leaf sort: vertex, texture, subtype, format, use, derive (all cases of it)"
     );
     exit(2)
 }
@@ -54,6 +54,7 @@ fn main() -> io::Result<()> {
         let case = match &sort[..] {
             "stage" => Case::Stage(Box::new(gen::stage::stage_call(seed, i))),
             "name" => gen::stage::name_case(seed, i),
+            "populate" => Case::Populate(Box::new(gen::populate::call(seed, i))),
             _ => usage(),
         };
         let mark = mark(&case);

@@ -1,6 +1,6 @@
 //! The archive's functions on cases, between guard words.
 
-use cases::{Answer, Case, StageCall};
+use cases::{Answer, Case, PopulateCall, StageCall};
 
 use crate::raw::*;
 
@@ -109,6 +109,27 @@ fn name(pack: &[u32], stage: u32) -> Answer {
     found
 }
 
+fn populate(call: &PopulateCall) -> Answer {
+    let (mut types, mut binding, mut out) = (words(&call.types), words(&call.binding), words(&call.out));
+    let mut room = details();
+    let number = unsafe {
+        bokwingi_populate(
+            types.ptr(),
+            types.len(),
+            call.asked,
+            binding.ptr(),
+            binding.len(),
+            out.ptr(),
+            out.len(),
+            room.ptr(),
+            room.len(),
+        )
+    };
+    unchanged(&types, &call.types);
+    unchanged(&binding, &call.binding);
+    Answer::Populate { number, details: handed(&room), out: out.part().to_vec() }
+}
+
 /// What the library answers; nothing for `use` and `derive`, which it has no C function for.
 pub fn answer(case: &Case) -> Option<Answer> {
     Some(match case {
@@ -118,6 +139,7 @@ pub fn answer(case: &Case) -> Option<Answer> {
         Case::Texture(code) => plain(|d, n| unsafe { bokwingi_texture_format(*code, d, n) }),
         Case::Format(code, ty) => plain(|d, n| unsafe { bokwingi_check_texture_format(*code, *ty, d, n) }),
         Case::Subtype(a, b) => Answer::Bare(unsafe { bokwingi_is_subtype_of(*a, *b) }),
+        Case::Populate(call) => populate(call),
         Case::Use { .. } | Case::Derive { .. } => return None,
     })
 }

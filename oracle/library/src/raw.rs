@@ -33,4 +33,15 @@ extern "C" {
     pub fn bokwingi_texture_format(code: u32, details: *mut u32, details_len: usize) -> u32;
     pub fn bokwingi_check_texture_format(format: u32, output: u32, details: *mut u32, details_len: usize) -> u32;
     pub fn bokwingi_is_subtype_of(a: u32, b: u32) -> u32;
+    pub fn bokwingi_populate(
+        types: *const u32,
+        types_len: usize,
+        asked: u32,
+        binding: *const u32,
+        binding_len: usize,
+        out: *mut u32,
+        out_len: usize,
+        details: *mut u32,
+        details_len: usize,
+    ) -> u32;
 }

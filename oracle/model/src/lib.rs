@@ -1,10 +1,12 @@
-//! Document 01's steps, whole, written from that document and not from the Rust: answers every case, with any words.
+//! Document 01's steps, whole, and document 02's `populate`, written from these documents and not from the Rust: answers
+//! every case, with any words.
 
 pub mod binding;
 pub mod domain;
 mod leaf;
 mod lists;
 pub mod pack;
+pub mod populate;
 mod stage;
 
 use cases::{Answer, Case};
@@ -87,5 +89,9 @@ pub fn answer(case: &Case) -> Answer {
         Case::Format(code, ty) => plain(leaf::format(*code, *ty).map(|()| 0)),
         Case::Use { resource, entry } => Answer::Bare(binding_use(resource, entry)),
         Case::Derive { resource, named } => derive(resource, *named),
+        Case::Populate(call) => {
+            let (number, first, out) = populate::answer(call);
+            Answer::Populate { number, details: [first, 0, 0], out }
+        }
     }
 }

@@ -1,7 +1,8 @@
 //! Cases to answers. The refusals that are document 01's own (1, 2, 3, 4, 5, 65, 82, and 80 where the Rust panics) are
-//! laid around the Rust here; every other number is the Rust's.
+//! laid around the Rust here; every other number is the Rust's. Those around `populate` are in populate.rs.
 
 use crate::decode::{self, Place, Resource, ResourceTy, Varying};
+use crate::populate;
 use crate::validation::shader_io_deductions as rust;
 use cases::{Answer, Case, StageCall};
 use std::cell::Cell;
@@ -33,6 +34,7 @@ pub fn answer(case: &Case) -> Answer {
         Case::Format(code, ty) => plain(format(*code, *ty)),
         Case::Use { resource, entry } => Answer::Bare(binding_use(resource, entry)),
         Case::Derive { resource, named } => derive(resource, *named),
+        Case::Populate(call) => populate::answer(call),
     }));
     ANSWERING.set(false);
     found.unwrap_or(Answer::Panic)

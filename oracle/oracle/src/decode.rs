@@ -1,5 +1,5 @@
-//! From words to meaning: document 01's 'Packs and lists', as small readers put together in its order. Written for the
-//! oracle alone; the model has its own.
+//! From words to meaning: document 01's 'Packs and lists' and document 02's type list, as small readers put together in
+//! their order. Written for the oracle alone; the model has its own.
 
 /// Words that do not meet the format.
 #[derive(Debug)]
@@ -226,12 +226,18 @@ pub fn lone_type(w: u32) -> Read<NumericTy> {
     numeric(w)
 }
 
+/// Interpolation and sampling of a kind 13 word.
+fn how(w: u32) -> Read<(u32, u32)> {
+    let (interpolation, sampling) = (bits(w, 14, 12), bits(w, 17, 15));
+    ensure(interpolation <= 4 && sampling <= 5)?;
+    Ok((interpolation, sampling))
+}
+
 fn local(r: &mut Reader) -> Read<Var> {
     let location = r.number(12)?;
     let w = r.word(13)?;
     only(w, &[(18, 18), (17, 15), (14, 12), (9, 0)])?;
-    let (interpolation, sampling) = (bits(w, 14, 12), bits(w, 17, 15));
-    ensure(interpolation <= 4 && sampling <= 5)?;
+    let (interpolation, sampling) = how(w)?;
     Ok(Var { location, ty: numeric(w)?, interpolation, sampling, per_primitive: bit(w, 18) })
 }
 
@@ -240,6 +246,10 @@ fn varying(r: &mut Reader) -> Read<Varying> {
     if next >> 27 == 12 {
         return Ok(Varying::Local(local(r)?));
     }
+    built_in(r)
+}
+
+fn built_in(r: &mut Reader) -> Read<Varying> {
     let w = r.word(14)?;
     only(w, &[(26, 24), (7, 0)])?;
     let places = bits(w, 7, 0);
@@ -520,6 +530,93 @@ pub fn sizes(words: &[u32]) -> Read<Vec<(Place, u32)>> {
     })?;
     distinct(records.iter().map(|s| s.0))?;
     Ok(records)
+}
+
+/// What the asked type or a member of a struct is bound to.
+#[derive(Clone, Copy, Debug)]
+pub enum Binding {
+    Location { location: u32, interpolation: u32, sampling: u32, per_primitive: bool },
+    BuiltIn { code: BuiltInCode, places: u32 },
+    ClipDistances,
+}
+
+fn type_binding(r: &mut Reader) -> Read<Option<Binding>> {
+    match r.0.first().ok_or(Bad)? >> 27 {
+        6 => {
+            ensure(r.number(6)? == 0)?;
+            Ok(None)
+        }
+        12 => {
+            let location = r.number(12)?;
+            let w = r.word(13)?;
+            only(w, &[(18, 18), (17, 15), (14, 12)])?;
+            let (interpolation, sampling) = how(w)?;
+            Ok(Some(Binding::Location { location, interpolation, sampling, per_primitive: bit(w, 18) }))
+        }
+        _ => Ok(Some(match built_in(r)? {
+            Varying::BuiltIn { code, places } => Binding::BuiltIn { code, places },
+            Varying::ClipDistances { array_size } => {
+                ensure(array_size == 0)?;
+                Binding::ClipDistances
+            }
+            Varying::Local(_) => unreachable!("no built-in is local"),
+        })),
+    }
+}
+
+/// A binding alone.
+pub fn lone_binding(words: &[u32]) -> Read<Option<Binding>> {
+    let mut r = Reader(words);
+    let found = type_binding(&mut r)?;
+    ensure(r.0.is_empty())?;
+    Ok(found)
+}
+
+#[derive(Clone, Debug)]
+pub enum Type {
+    Numeric(NumericTy),
+    Array { element: usize, length: u32 },
+    Struct(Vec<Member>),
+}
+
+#[derive(Clone, Copy, Debug)]
+pub struct Member {
+    pub ty: usize,
+    pub binding: Option<Binding>,
+}
+
+/// The type with this number in its list; `before` types stand before it.
+fn type_record(r: &mut Reader, before: usize) -> Read<Type> {
+    let earlier = |n: u32| if (n as usize) < before { Ok(n as usize) } else { Err(Bad) };
+    let w = r.any()?;
+    Ok(match w >> 27 {
+        22 => {
+            only(w, &[(9, 0)])?;
+            Type::Numeric(numeric(w)?)
+        }
+        23 => {
+            only(w, &[(15, 0)])?;
+            Type::Array { element: earlier(bits(w, 15, 0))?, length: r.number(6)? }
+        }
+        24 => {
+            only(w, &[(15, 0)])?;
+            Type::Struct(
+                r.many(bits(w, 15, 0), |r| Ok(Member { ty: earlier(r.number(5)?)?, binding: type_binding(r)? }))?,
+            )
+        }
+        _ => return Err(Bad),
+    })
+}
+
+/// A type list. Where clip distances stand is not looked at.
+pub fn type_list(words: &[u32]) -> Read<Vec<Type>> {
+    ensure(words.len() <= MOST_LIST_WORDS)?;
+    let mut r = Reader(words);
+    let head = r.word(21)?;
+    only(head, &[(15, 0)])?;
+    let count = bits(head, 15, 0) as usize;
+    ensure(count <= 256)?;
+    (0..count).map(|before| type_record(&mut r, before)).collect()
 }
 
 #[derive(Clone, Debug)]

@@ -54,6 +54,7 @@ pub mod binding_model {
 }
 
 mod answers;
+pub mod populate;
 
 pub use answers::{answer, silence_panics};
 

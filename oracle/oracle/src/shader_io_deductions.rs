@@ -1,6 +1,8 @@
 //! The child module of validation.rs that the source lacks. What the file asks of it stands first, as document 01 fixes
 //! it; then, because a child sees its parent's private types, what builds these from decoded packs and asks them.
 
+pub mod populate;
+
 use super::*;
 use crate::decode::{self, Class, LayoutTy, NumericTy, Place, Space};
 use std::num::NonZeroU64;

@@ -1,8 +1,8 @@
 //! Runs the archive on good, damaged and random calls, every buffer between guard words or, under memcheck, alone in its
 //! own piece of memory; checks what was written, and every answer against the model's.
 
-use archive::{check_stage, valgrind, Codes, Lent};
-use cases::{Answer, Case, StageCall};
+use archive::{check_stage, valgrind, Codes, Lent, PopulateLent};
+use cases::{Answer, Case, PopulateCall, StageCall};
 use gen::rng::Rng;
 use std::collections::BTreeMap;
 use std::process::{exit, Command};
@@ -36,11 +36,26 @@ impl<T: Copy + PartialEq> Guarded<T> {
     }
 }
 
-/// Words of any sort: plain noise, or words with a kind that the formats have; now and then very many.
-fn noise(rng: &mut Rng, usual: usize, most: usize) -> Vec<u32> {
+/// Words of any sort: plain noise, or words with a kind below `kinds`; now and then very many.
+fn noise(rng: &mut Rng, kinds: u32, usual: usize, most: usize) -> Vec<u32> {
     let most = if rng.once_in(16) { most } else { usual };
     let (count, plain) = (rng.index(most + 1), rng.flip());
-    (0..count).map(|_| if plain { rng.word() } else { gen::build::word(rng.below(21), rng.word()) }).collect()
+    (0..count).map(|_| if plain { rng.word() } else { gen::build::word(rng.below(kinds), rng.word()) }).collect()
+}
+
+/// Changes a word of a list, puts one in, or cuts it.
+fn damage(rng: &mut Rng, list: &mut Vec<u32>) {
+    if list.is_empty() {
+        return;
+    }
+    let at = rng.index(list.len());
+    match rng.below(6) {
+        0 => list[at] = rng.word(),
+        1 => list.truncate(at),
+        2 => list.insert(at, rng.word()),
+        3 => list[at] = list[rng.index(list.len())],
+        _ => list[at] ^= 1 << rng.below(32),
+    }
 }
 
 /// A call that was good once, with some words of some buffers changed; often its pack's total and sum are right again.
@@ -53,17 +68,7 @@ fn damaged(rng: &mut Rng, mut call: StageCall) -> StageCall {
             3 => &mut call.out,
             _ => &mut call.pack,
         };
-        if list.is_empty() {
-            continue;
-        }
-        let at = rng.index(list.len());
-        match rng.below(6) {
-            0 => list[at] = rng.word(),
-            1 => list.truncate(at),
-            2 => list.insert(at, rng.word()),
-            3 => list[at] = list[rng.index(list.len())],
-            _ => list[at] ^= 1 << rng.below(32),
-        }
+        damage(rng, list);
     }
     if !rng.once_in(4) && call.pack.len() > 1 {
         gen::build::seal(&mut call.pack);
@@ -73,12 +78,12 @@ fn damaged(rng: &mut Rng, mut call: StageCall) -> StageCall {
 
 fn random(rng: &mut Rng) -> StageCall {
     let mut call = StageCall {
-        pack: noise(rng, 80, 4200),
-        layout: noise(rng, 40, 1100),
-        sizes: noise(rng, 40, 1100),
-        inputs: noise(rng, 40, 1100),
-        out: noise(rng, 140, 140),
-        name: noise(rng, 70, 70).iter().map(|w| *w as u8).collect(),
+        pack: noise(rng, 21, 80, 4200),
+        layout: noise(rng, 21, 40, 1100),
+        sizes: noise(rng, 21, 40, 1100),
+        inputs: noise(rng, 21, 40, 1100),
+        out: noise(rng, 21, 140, 140),
+        name: noise(rng, 21, 70, 70).iter().map(|w| *w as u8).collect(),
         stage: rng.below(6),
         topology: rng.below(7),
         mode: rng.below(3),
@@ -98,6 +103,33 @@ fn call_of(seed: u64, i: u64) -> StageCall {
         5..=7 => damaged(rng, gen::stage::stage_call(seed, i)),
         _ => random(rng),
     }
+}
+
+/// A call of `populate`: generated, damaged, or of random words.
+fn populate_of(seed: u64, i: u64) -> PopulateCall {
+    let rng = &mut Rng::of(seed ^ 0x7479_7065_73, i);
+    let mut call = gen::populate::call(seed, i);
+    match rng.below(10) {
+        0..=4 => (),
+        5..=7 => {
+            for _ in 0..rng.range(1, 4) {
+                match rng.below(6) {
+                    0 => damage(rng, &mut call.binding),
+                    1 => damage(rng, &mut call.out),
+                    2 => call.asked ^= 1 << rng.below(32),
+                    _ => damage(rng, &mut call.types),
+                }
+            }
+        }
+        _ => {
+            call.types = noise(rng, 25, 40, 1100);
+            call.binding = noise(rng, 25, 3, 3);
+            if let Some(head) = call.types.first_mut() {
+                *head = gen::build::word(21, rng.below(8));
+            }
+        }
+    }
+    call
 }
 
 /// The words of a list that are its free room: behind the last record that its first word counts, if it has as many.
@@ -158,10 +190,12 @@ impl Buffers {
     }
 }
 
+#[derive(Default)]
 struct Run {
     guards: usize,
     memcheck: bool,
     numbers: BTreeMap<u32, u64>,
+    populate_numbers: BTreeMap<u32, u64>,
     calls: u64,
 }
 
@@ -211,6 +245,28 @@ impl Run {
         *self.numbers.entry(number).or_default() += 1;
     }
 
+    fn populate(&mut self, at: u64, c: &PopulateCall) {
+        let (number, first, due) = model::populate::answer(c);
+        let lend = |words: &[u32]| Guarded::new(words, 0xa5a5_5a5a, self.guards);
+        let (mut types, mut binding, mut out) = (lend(&c.types), lend(&c.binding), lend(&c.out));
+        if self.memcheck {
+            let used = model::populate::used(&c.types).unwrap_or(c.types.len());
+            valgrind::make_undefined(&types.content()[used..]);
+            valgrind::make_undefined(out.content());
+        }
+        self.details(at, (number, [first, 0, 0]), |details| {
+            let (types, binding, out) = (types.content(), binding.content(), out.content());
+            archive::populate(&mut PopulateLent { types, binding, out, details }, c.asked)
+        });
+        valgrind::make_defined(&types.all);
+        valgrind::make_defined(&out.all);
+        require(types.unchanged() && binding.unchanged(), "a buffer to read was written", at);
+        require(out.guards_hold(), "written beside a list", at);
+        require(number == 0 || out.unchanged(), "the list out written on a refusal", at);
+        require(*out.content() == due[..], "another list out", at);
+        *self.populate_numbers.entry(number).or_default() += 1;
+    }
+
     fn plain(&mut self, at: u64, case: Case, call: impl FnOnce(&mut [u32]) -> u32) {
         match model::answer(&case) {
             Answer::Plain { number, details } => self.details(at, (number, details), call),
@@ -241,6 +297,7 @@ impl Run {
         self.plain(i, Case::Texture(code), |d| archive::texture_format(code, d));
         self.plain(i, Case::Format(code, a), |d| archive::check_texture_format(code, a, d));
         self.plain(i, Case::Subtype(a, b), |_| archive::is_subtype_of(a, b));
+        self.populate(i, &populate_of(seed, i));
     }
 }
 
@@ -264,11 +321,13 @@ fn main() {
     };
     let (count, seed) = if memcheck { (number(1, 0), number(2, 1)) } else { (number(0, 1_000_000), number(1, 1)) };
     let guards = if memcheck { 0 } else { 16 };
-    let mut run = Run { guards, memcheck, numbers: BTreeMap::new(), calls: 0 };
+    let mut run = Run { guards, memcheck, ..Run::default() };
     for i in 0..count {
         run.all(seed, i);
     }
-    let numbers: Vec<String> = run.numbers.iter().map(|(number, count)| format!("{number}:{count}")).collect();
-    println!("{count} stage calls, number:count  {}", numbers.join(" "));
+    for (what, numbers) in [("stage calls", &run.numbers), ("calls of populate", &run.populate_numbers)] {
+        let numbers: Vec<String> = numbers.iter().map(|(number, count)| format!("{number}:{count}")).collect();
+        println!("{count} {what}, number:count  {}", numbers.join(" "));
+    }
     println!("{} calls in all: nothing written that was not due, every answer the model's", run.calls);
 }

@@ -1,6 +1,6 @@
 //! Measures the deepest stack of each function of the archive: it is run on a stack of its own that was painted before.
 
-use archive::{check_stage, shapes, Codes, Lent};
+use archive::{check_stage, shapes, Codes, Lent, PopulateLent};
 use std::arch::asm;
 
 const WORDS: usize = 8192;
@@ -80,6 +80,19 @@ fn on_packs(count: u64) -> (u64, Stack, Stack) {
     (calls, stage, entry)
 }
 
+/// `populate` on type lists.
+fn on_types(count: u64) -> (u64, Stack) {
+    let (mut calls, mut stack, mut details) = (0, Stack::new(), [0; 3]);
+    let shapes = shapes::populate().into_iter().map(|(_, call)| call);
+    for mut call in shapes.chain((0..count).map(|i| gen::populate::call(1, i))) {
+        let (types, binding, out) = (&call.types, &call.binding, &mut call.out);
+        let mut lent = PopulateLent { types, binding, out, details: &mut details };
+        stack.measure(|| _ = archive::populate(&mut lent, call.asked));
+        calls += 1;
+    }
+    (calls, stack)
+}
+
 /// A function of a code and a word, on codes in and out of range and several words.
 fn on_codes(mut f: impl FnMut(u32, u32)) -> usize {
     let mut stack = Stack::new();
@@ -94,6 +107,7 @@ fn on_codes(mut f: impl FnMut(u32, u32)) -> usize {
 fn main() {
     let count = std::env::args().nth(1).map_or(200_000, |n| n.parse().unwrap());
     let (calls, stage, entry) = on_packs(count);
+    let (lists, populate) = on_types(count);
     let mut d = [0; 3];
     let rows = [
         ("bokwingi_check_stage", calls - 1, stage.deepest),
@@ -102,6 +116,7 @@ fn main() {
         ("bokwingi_texture_format", 512, on_codes(|a, _| _ = archive::texture_format(a, &mut d))),
         ("bokwingi_check_texture_format", 512, on_codes(|a, b| _ = archive::check_texture_format(a, b, &mut d))),
         ("bokwingi_is_subtype_of", 512, on_codes(|a, b| _ = archive::is_subtype_of(0x6800_0000 | a, b))),
+        ("bokwingi_populate", lists, populate.deepest),
     ];
     println!("| function | calls | deepest stack, bytes |");
     println!("|---|---|---|");
@@ -112,4 +127,7 @@ fn main() {
     // Pack, then layout, sizes, inputs and list out, name and details.
     let buffers = 4 * 4096 + 4 * (4 * 1024) + 64 + 4 * 3;
     println!("Buffers at their largest: {buffers} bytes; with the stack: {} bytes.", buffers + stage.deepest);
+    // Types, binding, the varyings' words and details.
+    let buffers = 4 * (1024 + 2 + 126 + 3);
+    println!("Those of populate: {buffers} bytes; with the stack: {} bytes.", buffers + populate.deepest);
 }

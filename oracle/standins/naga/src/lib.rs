@@ -1,5 +1,4 @@
-//! Stand-in: the types that the file names. What only `Interface::new` and `populate` need is there to compile and is
-//! never run.
+//! Stand-in: the types that the file names. What only `Interface::new` needs is there to compile and is never run.
 
 use std::fmt;
 use std::hash::{Hash, Hasher};
@@ -79,9 +78,27 @@ impl<T> Index<Handle<T>> for Arena<T> {
     }
 }
 
+/// Equal items are kept apart here: what is looked up by a handle is the same.
 #[derive(Debug)]
 pub struct UniqueArena<T> {
     items: Vec<T>,
+}
+
+impl<T> Default for UniqueArena<T> {
+    fn default() -> Self {
+        Self::new()
+    }
+}
+
+impl<T> UniqueArena<T> {
+    pub fn new() -> Self {
+        Self { items: Vec::new() }
+    }
+
+    pub fn insert(&mut self, item: T, _span: Span) -> Handle<T> {
+        self.items.push(item);
+        Handle { index: self.items.len() - 1, of: PhantomData }
+    }
 }
 
 impl<T> Index<Handle<T>> for UniqueArena<T> {
@@ -286,7 +303,7 @@ impl ShaderStage {
     }
 }
 
-// From here on: named by `populate` and `Interface::new` alone, which are compiled and never run.
+// What `populate` walks over.
 
 #[derive(Clone, Debug)]
 pub enum Binding {
@@ -331,15 +348,17 @@ pub enum TypeInner {
     BindingArray { base: Handle<Type>, size: ArraySize },
 }
 
+#[derive(Clone, Debug)]
+pub struct Type {
+    pub inner: TypeInner,
+}
+
+// From here on: named by `Interface::new` alone, which is compiled and never run.
+
 impl TypeInner {
     pub fn size(&self, _context: GlobalContext) -> u32 {
         unimplemented!("never run")
     }
-}
-
-#[derive(Clone, Debug)]
-pub struct Type {
-    pub inner: TypeInner,
 }
 
 pub struct GlobalContext;

@@ -1,4 +1,7 @@
-//! Writes the recorded calls of the program crate `test_stages`, and what the Rust answers to them. See README.md.
+//! Writes the recorded calls of the program crates `test_stages` and `test_populate`, and what the Rust answers to them. See
+//! README.md.
+
+mod populate;
 
 use cases::{Answer, Case, StageCall};
 use std::collections::BTreeMap;
@@ -8,7 +11,10 @@ use std::path::Path;
 use std::process::exit;
 
 fn usage() -> ! {
-    eprintln!("usage: record write DIR [--seed N] [--look N]\n       record check DIR");
+    eprintln!(
+        "usage: record write|populate-write DIR [--seed N] [--look N]
+       record check|populate-check DIR"
+    );
     exit(2)
 }
 
@@ -220,6 +226,8 @@ fn main() -> std::io::Result<()> {
     match &what[..] {
         "write" => record(Path::new(&dir), seed, look),
         "check" => exit((check(Path::new(&dir))? != 0) as i32),
+        "populate-write" => populate::record(Path::new(&dir), seed, look),
+        "populate-check" => exit((populate::check(Path::new(&dir))? != 0) as i32),
         _ => usage(),
     }
 }
