@@ -86,55 +86,66 @@ module _ (types : List TypeInner) (ws notes : List ℕ) (s : Noted types ws note
         rw (struct-ignores types n b Unbound h o, q))
         (λ o. absurd (let k : 1 ≡ 0 = sym (lone-words o) ∙ ap (λ (x : Note). x .words) (sym e) ∙ z in omega arith))
 
-    module _ (at : ℕ) (x : Bool) (f : at ≡ startIn (getD notes n 0)) (g : x ≡ structAt ws at) where
-      pub struct-there : x ≡ true → isStruct (typeNumbered types n) ≡ true
-      struct-there o =
-          let q : structAt ws (startIn (getD notes n 0)) ≡ true = rw (← f, ← g) o in
-          by-kind types ws notes s n h
-          (λ k y. absurd (false≢true (rw k at q)))
-          (λ k y. absurd (false≢true (rw k at q)))
-          (λ k y. rw y)
+  module _ (at : ℕ) (x : Bool) (f : at ≡ startIn (getD notes n 0)) (g : x ≡ structAt ws at) where
+    pub struct-there : x ≡ true → isStruct (typeNumbered types n) ≡ true
+    struct-there o =
+        let q : structAt ws (startIn (getD notes n 0)) ≡ true = rw (← f, ← g) o in
+        by-kind types ws notes s n h
+        (λ k y. absurd (false≢true (rw k at q)))
+        (λ k y. absurd (false≢true (rw k at q)))
+        (λ k y. rw y)
 
-      pub lone-there : x ≡ false → isStruct (typeNumbered types n) ≡ false
-      lone-there o =
-          let q : structAt ws (startIn (getD notes n 0)) ≡ false = rw (← f, ← g) o in
-          by-kind types ws notes s n h
-          (λ k y. rw y (shaped-lone (typeOf (wordAt ws (startIn (getD notes n 0))) .dim) (typeOf (wordAt ws (startIn (getD notes n 0))) .scalar)))
-          (λ k y. rw y)
-          (λ k y. absurd (false≢true (sym q ∙ k)))
+    pub lone-there : x ≡ false → isStruct (typeNumbered types n) ≡ false
+    lone-there o =
+        let q : structAt ws (startIn (getD notes n 0)) ≡ false = rw (← f, ← g) o in
+        by-kind types ws notes s n h
+        (λ k y. rw y (shaped-lone (typeOf (wordAt ws (startIn (getD notes n 0))) .dim) (typeOf (wordAt ws (startIn (getD notes n 0))) .scalar)))
+        (λ k y. rw y)
+        (λ k y. absurd (false≢true (sym q ∙ k)))
 
-      -- a struct that was written before
-      module _ (o : x ≡ true) (written l : List ℕ) (to from : ℕ) (w : Written types written l to) (i : getD written n 0 ≡ from + 1) where
-        stood : Stood l from (wordsOf (populate types n Unbound)) to
-        stood = w .each n from h i
+    -- the asked struct, whose binding is ignored
+    module _ (o : x ≡ true) (b c : Binding) (l : List ℕ) where
+      pub asked-room : 0 + length (wordsOf (populate types n b)) ≤ room l → 0 + length (wordsOf (populate types n c)) ≤ room l
+      asked-room k = rw (struct-ignores types n c b h (struct-there o)) k
 
-        module _ (b : Binding) (k : to + length (wordsOf (populate types n b)) ≤ room l) where
-          few : length (wordsOf (populate types n Unbound)) ≤ 126
-          few = let q : to + length (wordsOf (populate types n Unbound)) ≤ room l = rw (struct-ignores types n b Unbound h (struct-there o)) at k in omega arith
+      pub asked-put : (later : List ℕ) → later ≡ put l 0 (wordsOf (populate types n c)) .1 → later ≡ put l 0 (wordsOf (populate types n b)) .1
+      asked-put later q = rw (struct-ignores types n b c h (struct-there o)) q
 
-          all : t .words ≡ length (wordsOf (populate types n Unbound))
-          all = ap (λ (y : Note). y .words) e ∙ struct-words (struct-there o) ∙ omega (arith, few)
+    -- a struct that was written before
+    module _ (t : Note) (e : t ≡ noteIn (getD notes n 0)) (o : x ≡ true) (written l : List ℕ) (to from : ℕ) (w : Written types written l to) (i : getD written n 0 ≡ from + 1) where
+      stood : Stood l from (wordsOf (populate types n Unbound)) to
+      stood = w .each n from h i
 
-          pub again-before : from + t .words ≤ to
-          again-before = rw all (stood .inside)
+      module _ (b : Binding) (k : to + length (wordsOf (populate types n b)) ≤ room l) where
+        few : length (wordsOf (populate types n Unbound)) ≤ 126
+        few = let q : to + length (wordsOf (populate types n Unbound)) ≤ room l = rw (struct-ignores types n b Unbound h (struct-there o)) at k in omega arith
 
-          pub again-room : to + t .words ≤ length l
-          again-room = let q : to + length (wordsOf (populate types n Unbound)) ≤ room l = rw (struct-ignores types n b Unbound h (struct-there o)) at k in omega (arith, all)
+        all : t .words ≡ length (wordsOf (populate types n Unbound))
+        all = ap (λ (y : Note). y .words) e ∙ struct-words (struct-there o) ∙ omega (arith, few)
 
-          pub again-put : (r : ℕ) (later : List ℕ) → (r, later) ≡ again l from to (t .words) → (r, later) ≡ put l to (wordsOf (populate types n b))
-          again-put r later q =
-              q ∙ rw (all, struct-ignores types n b Unbound h (struct-there o)) (again-is (wordsOf (populate types n Unbound)) l from to (stood .inside) (stood .same))
+        pub again-before : from + t .words ≤ to
+        again-before = rw all (stood .inside)
 
-      -- a type that is no struct
-      module _ (o : x ≡ false) (b : Binding) (l : List ℕ) (to : ℕ) where
-        lone-now : populate types n b ≡ typeGives nothing (typeAt (drop at ws)) b
-        lone-now = lone-gives types n b h (lone-there o) ∙ rw (s .each n h .is, ← f)
+        pub again-room : to + t .words ≤ length l
+        again-room = let q : to + length (wordsOf (populate types n Unbound)) ≤ room l = rw (struct-ignores types n b Unbound h (struct-there o)) at k in omega (arith, all)
 
-        pub lone-room : to + length (wordsOf (populate types n b)) ≤ room l → to + length (wordsOf (typeGives nothing (typeAt (drop at ws)) b)) ≤ length l
-        lone-room k = let q : to + length (wordsOf (typeGives nothing (typeAt (drop at ws)) b)) ≤ room l = rw lone-now at k in omega arith
+        pub again-put : (r : ℕ) (later : List ℕ) → (r, later) ≡ again l from to (t .words) → (r, later) ≡ put l to (wordsOf (populate types n b))
+        again-put r later q =
+            q ∙ rw (all, struct-ignores types n b Unbound h (struct-there o)) (again-is (wordsOf (populate types n Unbound)) l from to (stood .inside) (stood .same))
 
-        pub lone-put : (r : ℕ) (later : List ℕ) → (r, later) ≡ put l to (wordsOf (typeGives nothing (typeAt (drop at ws)) b)) → (r, later) ≡ put l to (wordsOf (populate types n b))
-        lone-put r later q = rw lone-now q
+    -- a type that is no struct
+    module _ (o : x ≡ false) (b : Binding) (l : List ℕ) (to : ℕ) where
+      lone-now : populate types n b ≡ typeGives nothing (typeAt (drop at ws)) b
+      lone-now = lone-gives types n b h (lone-there o) ∙ rw (s .each n h .is, ← f)
+
+      pub lone-room : to + length (wordsOf (populate types n b)) ≤ room l → to + length (wordsOf (typeGives nothing (typeAt (drop at ws)) b)) ≤ length l
+      lone-room k = let q : to + length (wordsOf (typeGives nothing (typeAt (drop at ws)) b)) ≤ room l = rw lone-now at k in omega arith
+
+      pub lone-put : (r : ℕ) (later : List ℕ) → (r, later) ≡ put l to (wordsOf (typeGives nothing (typeAt (drop at ws)) b)) → (r, later) ≡ put l to (wordsOf (populate types n b))
+      lone-put r later q = rw lone-now q
+
+      pub lone-list : (r : ℕ) (later : List ℕ) → (r, later) ≡ put l to (wordsOf (typeGives nothing (typeAt (drop at ws)) b)) → later ≡ put l to (wordsOf (populate types n b)) .1
+      lone-list r later q = ap (λ (y : ℕ × List ℕ). y .1) (lone-put r later q)
 
 -- ---- members, one after the other
 

@@ -9,13 +9,27 @@ ghost use Rattle.type_check.specs.inner.Positions.{bindingAt, declared};
 ghost use Rattle.type_check.specs.inner.Notes.{wordsOf, Noted};
 ghost use Rattle.populate.specs.Populate.{populated, boundOn, populateCall};
 ghost use Rattle.populate.specs.inner.Written.{put, room};
+use crate::put::put_lone;
 use crate::walk::populate;
 use type_check::bound::binding_next;
 use type_check::clips::binding_good;
 use type_check::given::given_note;
 use type_check::index::index_types;
+use type_check::members::is_struct;
+use type_check::notes::start_at;
 use word::answer::Answer;
 use word::numbers;
+
+// Writes the varyings of an asked struct, whose own binding is ignored; it is walked over with the one at the list's start.
+fn put_struct(types: &[u32], notes: &[u32; 256], asked: usize, out: &mut [u32])
+    requires { ⌜ Noted (declared (now types)) (now types) (now notes) ⌝ }
+    requires { ⌜ asked < length (declared (now types)) ⌝ }
+    requires { ⌜ 0 + length (wordsOf (populate (declared (now types)) asked (bindingAt (drop 0 (now types))))) ≤ room (now out) ⌝ }
+    ensures { λ _. ⌜ now (out .exit) ≡ put (now (out .entry)) 0 (wordsOf (populate (declared (now (types .entry))) asked (bindingAt (drop 0 (now (types .entry)))))) .1 ⌝ }
+{
+    let mut written: [u8; 256] = [0; 256];
+    populate(types, notes, asked, 0, out, 0, &mut written);
+}
 
 // Writes the varyings of the asked type with its binding.
 fn put_varyings(types: &[u32], notes: &[u32; 256], asked: usize, bound: &[u32], out: &mut [u32])
@@ -24,8 +38,12 @@ fn put_varyings(types: &[u32], notes: &[u32; 256], asked: usize, bound: &[u32], 
     requires { ⌜ 0 + length (wordsOf (populate (declared (now types)) asked (bindingAt (drop 0 (now bound))))) ≤ room (now out) ⌝ }
     ensures { λ _. ⌜ now (out .exit) ≡ put (now (out .entry)) 0 (wordsOf (populate (declared (now (types .entry))) asked (bindingAt (drop 0 (now (bound .entry)))))) .1 ⌝ }
 {
-    let mut written: [u8; 256] = [0; 256];
-    populate(types, notes, asked, bound, 0, out, 0, &mut written);
+    let start = start_at(notes, asked);
+    if is_struct(types, start) {
+        put_struct(types, notes, asked, out);
+        return;
+    }
+    put_lone(types, start, bound, 0, out, 0);
 }
 
 // The answer on the asked type with a binding that is well formed.

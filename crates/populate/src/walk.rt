@@ -50,7 +50,6 @@ fn put_known(
     types: &[u32],
     notes: &[u32; 256],
     n: usize,
-    bound: &[u32],
     at: usize,
     out: &mut [u32],
     to: usize,
@@ -59,8 +58,8 @@ fn put_known(
     requires { ⌜ Noted (declared (now types)) (now types) (now notes) ⌝ }
     requires { ⌜ Written (declared (now types)) (now written) (now out) to ⌝ }
     requires { ⌜ (n < length (declared (now types))) × (at < 2 ^ 60) × (walksAt (now types) (now notes) (now written) n ≡ false) ⌝ }
-    requires { ⌜ to + length (wordsOf (populate (declared (now types)) n (bindingAt (drop at (now bound))))) ≤ room (now out) ⌝ }
-    ensures { λ r. ⌜ (r, now (out .exit)) ≡ put (now (out .entry)) to (wordsOf (populate (declared (now (types .entry))) n (bindingAt (drop at (now (bound .entry)))))) ⌝ }
+    requires { ⌜ to + length (wordsOf (populate (declared (now types)) n (bindingAt (drop at (now types))))) ≤ room (now out) ⌝ }
+    ensures { λ r. ⌜ (r, now (out .exit)) ≡ put (now (out .entry)) to (wordsOf (populate (declared (now (types .entry))) n (bindingAt (drop at (now (types .entry)))))) ⌝ }
 {
     let note = note_at(notes, n);
     if note.words == 0 {
@@ -70,15 +69,15 @@ fn put_known(
     if is_struct(types, start) {
         return put_again(out, first_at(written, n), to, note.words as usize);
     }
-    put_lone(types, start, bound, at, out, to)
+    put_lone(types, start, types, at, out, to)
 }
 
-// Writes what a type with its binding gives, member by member; the position behind it. A struct that gives nothing or was written before is not entered.
+// Writes what a type with the binding at a position gives, member by member; the position behind it. A struct that gives nothing or was written
+// before is not entered.
 pub(crate) fn populate(
     types: &[u32],
     notes: &[u32; 256],
     n: usize,
-    bound: &[u32],
     at: usize,
     out: &mut [u32],
     to: usize,
@@ -87,13 +86,13 @@ pub(crate) fn populate(
     requires { ⌜ Noted (declared (now types)) (now types) (now notes) ⌝ }
     requires { ⌜ Written (declared (now types)) (now written) (now out) to ⌝ }
     requires { ⌜ (n < length (declared (now types))) × (at < 2 ^ 60) × (length (now written) ≡ 256) ⌝ }
-    requires { ⌜ to + length (wordsOf (populate (declared (now types)) n (bindingAt (drop at (now bound))))) ≤ room (now out) ⌝ }
-    ensures { λ r. ⌜ (r, now (out .exit)) ≡ put (now (out .entry)) to (wordsOf (populate (declared (now (types .entry))) n (bindingAt (drop at (now (bound .entry)))))) ⌝ }
+    requires { ⌜ to + length (wordsOf (populate (declared (now types)) n (bindingAt (drop at (now types))))) ≤ room (now out) ⌝ }
+    ensures { λ r. ⌜ (r, now (out .exit)) ≡ put (now (out .entry)) to (wordsOf (populate (declared (now (types .entry))) n (bindingAt (drop at (now (types .entry)))))) ⌝ }
     ensures { λ r. ⌜ Written (declared (now (types .entry))) (now (written .exit)) (now (out .exit)) r ⌝ }
     ensures { λ r. ⌜ length (now (written .exit)) ≡ 256 ⌝ }
 {
     if !walks(types, notes, written, n) {
-        return put_known(types, notes, n, bound, at, out, to, written);
+        return put_known(types, notes, n, at, out, to, written);
     }
     let start = start_at(notes, n);
     let mut i = start + 1;
@@ -101,7 +100,7 @@ pub(crate) fn populate(
     let mut next = to;
     while left != 0 {
         let m = member_type(types, i);
-        next = populate(types, notes, m, types, i + 1, out, next, written);
+        next = populate(types, notes, m, i + 1, out, next, written);
         i += member_width(types, i);
         left -= 1;
     }

@@ -24,25 +24,25 @@ use Rattle.type_check.proofs.notes.start_at.Reads as start-at-reads
 use Rattle.populate.proofs.walk.+populate.{statement}
 use Rattle.populate.proofs.walk.+populate.Tie.{close}
 
-abbrev μ-populate : Measures 5 populate-kinds.ps ℕ
+abbrev μ-populate : Measures 4 populate-kinds.ps ℕ
 μ-populate κs a = a .1 .1 .0
 
-abbrev populate-at : ℕ → In 5 populate-kinds.ps
-populate-at t = and 5 populate-kinds.ps (is 5 populate-kinds.ps μ-populate t) populate.Pre
+abbrev populate-at : ℕ → In 4 populate-kinds.ps
+populate-at t = and 4 populate-kinds.ps (is 4 populate-kinds.ps μ-populate t) populate.Pre
 
-abbrev populate-below : ℕ → In 5 populate-kinds.ps
+abbrev populate-below : ℕ → In 4 populate-kinds.ps
 populate-below t =
-    and 5 populate-kinds.ps (falls 5 populate-kinds.ps _<_ μ-populate t) populate.Pre
+    and 4 populate-kinds.ps (falls 4 populate-kinds.ps _<_ μ-populate t) populate.Pre
 
 abbrev populate-Inv-loop : populate-lts.InvT-loop
-populate-Inv-loop types notes n bound at out₀ to written₀ start i₀ left₀ next₀ out written i left next =
+populate-Inv-loop types notes n at out₀ to written₀ start i₀ left₀ next₀ out written i left next =
     (i + 3 * left < 2 ^ 60) × (length out ≡ length out₀) × (length written ≡ 256) × (membersBelow n (membersAt left (drop i types)) ≡ true)
     × (next + length (membersWords (declared types) left (drop i types)) ≤ room out)
     × (put out₀ to (membersWords (declared types) left₀ (drop (start + 1) types)) ≡ put out next (membersWords (declared types) left (drop i types)))
     × Written (declared types) written out next
 
 abbrev populate-μ-loop : populate-lts.MeasureT-loop
-populate-μ-loop types notes n bound at out₀ to written₀ start i₀ left₀ next₀ out written i left next =
+populate-μ-loop types notes n at out₀ to written₀ start i₀ left₀ next₀ out written i left next =
     left
 
 pub +populate-spec : {M : Type 1} → statement M
