@@ -23,7 +23,7 @@ use Rattle.type_lists.specs.Meaning.{Binding, TypeInner}
 use Rattle.type_lists.specs.Rules.{populate, nesting}
 use Rattle.type_lists.specs.Format.{readBinding, bindingGood, decode}
 use Rattle.type_check.specs.declared.notes.Note.{Note}
-use Rattle.type_check.specs.inner.Positions.{bindingAt, typesOf, declared, accepted, listed}
+use Rattle.type_check.specs.inner.Positions.{bindingAt, bindingOf, typesOf, declared, accepted, listed}
 use Rattle.type_check.specs.inner.Notes.{wordsOf, noteOf, startIn, givenNote, Noted}
 use Rattle.type_check.specs.inner.Clips.{bindingGoodAt}
 use Rattle.type_check.proofs.Taken.{binding-took}
@@ -103,17 +103,17 @@ module _ (types : List TypeInner) (ws notes : List ℕ) (s : Noted types ws note
             )
 
         module _ (k : t .words ≤ length l) where
-          pub enough : 0 + length (wordsOf (populate types n (bindingAt (drop 0 bs)))) ≤ room l
-          enough = omega (arith, words-are, few, words-few (populate types n (bindingAt bs)))
+          pub enough : (v : ℕ) → v ≡ wordAt bs 1 → 0 + length (wordsOf (populate types n (bindingOf w v))) ≤ room l
+          enough v i = rw (e, i) (omega (arith, words-are, few, words-few (populate types n (bindingAt bs))))
 
-          pub all-put : (later : List ℕ) → later ≡ put l 0 (wordsOf (populate types n (bindingAt (drop 0 bs)))) .1 → r ≡ answer 0 (t .count) 0 0
+          pub all-put : (v : ℕ) (later : List ℕ) → v ≡ wordAt bs 1 → later ≡ put l 0 (wordsOf (populate types n (bindingOf w v))) .1 → r ≡ answer 0 (t .count) 0 0
               → (r, later) ≡ populated types n (bindingAt bs) l
           unfolding populated
-          all-put later g q =
+          all-put v later i g q =
               let c : t .count ≡ length (populate types n (bindingAt bs)) = omega (arith, count-is, few) in
               let o : length (wordsOf (populate types n (bindingAt bs))) ≤ length l = omega (arith, words-are) in
               let p : later ≡ wordsOf (populate types n (bindingAt bs)) ++ drop (length (wordsOf (populate types n (bindingAt bs)))) l =
-              g ∙ put-first l (wordsOf (populate types n (bindingAt bs))) o in
+              (rw (e, i) at g) ∙ put-first l (wordsOf (populate types n (bindingAt bs))) o in
               rw (flat-enough, le-ltb 63 (length (populate types n (bindingAt bs))) few, le-ltb (length l) (length (wordsOf (populate types n (bindingAt bs)))) o, q, c, p)
 
 -- ---- the binding

@@ -6,12 +6,10 @@ use mathlib.Core.Bool.{Bool, true, false, not, _&&_}
 use mathlib.Core.List.{List, [], _∷_, _++_}
 use borrow.Author.Tests.{eq-eqb, ne-eqb, eqb-true, not-true, not-false}
 use lib.Dec.{eqb}
-use lib.ListN.{getD, length, drop, set, length-set}
-use lib.Seq.{getD-drop}
+use lib.ListN.{length, drop, set, length-set}
 use Rattle.word.specs.Choice.{pick, yes}
 use Rattle.word.specs.Words.{wordAt, kindOf, contentOf, bits, bit, ofKind}
 use Rattle.word.specs.Lists.{flat}
-use Rattle.word.proofs.Parse.{first-of}
 use Rattle.word.proofs.Truth.{by-test}
 use Rattle.numeric.specs.Types.{kindCode}
 use Rattle.numeric.specs.TypeWords.{shapeCode, shapeAt, kindAt, typeOf, typeWord}
@@ -28,7 +26,7 @@ use Rattle.interface.proofs.RestoreVaryings.{code-back}
 use Rattle.type_lists.specs.Meaning.{Binding, Unbound, Location, BuiltIn, Array}
 use Rattle.type_lists.specs.Format.{isClip, shaped, numericType}
 use Rattle.type_lists.specs.Rules.{numericGives, arrayGives, typeGives}
-use Rattle.type_check.specs.inner.Positions.{bindingAt, typeAt, structAt}
+use Rattle.type_check.specs.inner.Positions.{bindingOf, typeAt, structAt}
 use Rattle.type_check.specs.inner.Notes.{wordsOf, clipWord}
 use Rattle.type_check.proofs.ClipWays.{type-22, type-23, clip-bound}
 use Rattle.populate.specs.inner.Written.{put, boundVar, nothing}
@@ -68,38 +66,35 @@ var-is w u v t e f = rw (f, e, flag-back (bit 18 v) (omega arith), fields v)
 
 -- ---- what a scalar, vector, matrix or array gives
 
-module _ (ws : List ℕ) (at w x : ℕ) (e : w ≡ wordAt ws at) (k : x ≡ kindOf w) (t : NumericType) (l : List ℕ) (to : ℕ) where
-  head-is : getD (drop at ws) 0 0 ≡ w
-  head-is = first-of ws at ∙ sym e
+module _ (w v x : ℕ) (k : x ≡ kindOf w) (t : NumericType) (l : List ℕ) (to : ℕ) where
+  local-words : x ≡ 12 → wordsOf (numericGives t (bindingOf w v)) ≡ ofKind 12 (contentOf w) ∷ varWord (boundVar t v) ∷ []
+  unfolding bindingOf flat
+  local-words h = rw (← k, h)
 
-  local-words : (v : ℕ) → x ≡ 12 → v ≡ wordAt ws (at + 1) → wordsOf (numericGives t (bindingAt (drop at ws))) ≡ ofKind 12 (contentOf w) ∷ varWord (boundVar t v) ∷ []
-  unfolding bindingAt flat
-  local-words v h f = rw (head-is, getD-drop at ws 1 0, ← f, ← k, h)
+  built-in-words : (x ≡ 12 → ⊥) → x ≡ 14 → wordsOf (numericGives t (bindingOf w v)) ≡ ofKind 14 (builtInCode (builtInOf w)) ∷ []
+  unfolding bindingOf flat
+  built-in-words n h = rw (← k, ne-eqb x 12 n, eq-eqb x 14 h)
 
-  built-in-words : (x ≡ 12 → ⊥) → x ≡ 14 → wordsOf (numericGives t (bindingAt (drop at ws))) ≡ ofKind 14 (builtInCode (builtInOf w)) ∷ []
-  unfolding bindingAt flat
-  built-in-words n h = rw (head-is, ← k, ne-eqb x 12 n, eq-eqb x 14 h)
+  no-words : (x ≡ 12 → ⊥) → (x ≡ 14 → ⊥) → wordsOf (numericGives t (bindingOf w v)) ≡ []
+  unfolding bindingOf flat
+  no-words n h = rw (← k, ne-eqb x 12 n, ne-eqb x 14 h)
 
-  no-words : (x ≡ 12 → ⊥) → (x ≡ 14 → ⊥) → wordsOf (numericGives t (bindingAt (drop at ws))) ≡ []
-  unfolding bindingAt flat
-  no-words n h = rw (head-is, ← k, ne-eqb x 12 n, ne-eqb x 14 h)
-
-  pub put-local : (v a u : ℕ) → x ≡ 12 → v ≡ wordAt ws (at + 1) → a ≡ contentOf w → u ≡ varWord (boundVar t v)
-      → (to + 2, set (set l to (0x6000_0000 + a)) (to + 1) u) ≡ put l to (wordsOf (numericGives t (bindingAt (drop at ws))))
+  pub put-local : (a u : ℕ) → x ≡ 12 → a ≡ contentOf w → u ≡ varWord (boundVar t v)
+      → (to + 2, set (set l to (0x6000_0000 + a)) (to + 1) u) ≡ put l to (wordsOf (numericGives t (bindingOf w v)))
   unfolding put
-  put-local v a u h f g i = let m : to + 1 + 1 ≡ to + 2 = omega arith in rw (local-words v h f, ← g, ← i, m)
+  put-local a u h g i = let m : to + 1 + 1 ≡ to + 2 = omega arith in rw (local-words h, ← g, ← i, m)
 
-  pub put-built-in : (u : ℕ) → (x ≡ 12 → ⊥) → x ≡ 14 → u ≡ ofKind 14 (builtInCode (builtInOf w)) → (to + 1, set l to u) ≡ put l to (wordsOf (numericGives t (bindingAt (drop at ws))))
+  pub put-built-in : (u : ℕ) → (x ≡ 12 → ⊥) → x ≡ 14 → u ≡ ofKind 14 (builtInCode (builtInOf w)) → (to + 1, set l to u) ≡ put l to (wordsOf (numericGives t (bindingOf w v)))
   unfolding put
   put-built-in u n h f = rw (built-in-words n h, ← f)
 
-  pub put-none : (x ≡ 12 → ⊥) → (x ≡ 14 → ⊥) → (to, l) ≡ put l to (wordsOf (numericGives t (bindingAt (drop at ws))))
+  pub put-none : (x ≡ 12 → ⊥) → (x ≡ 14 → ⊥) → (to, l) ≡ put l to (wordsOf (numericGives t (bindingOf w v)))
   unfolding put
   put-none n h = rw (no-words n h)
 
-  module _ (room : to + length (wordsOf (numericGives t (bindingAt (drop at ws)))) ≤ length l) where
+  module _ (room : to + length (wordsOf (numericGives t (bindingOf w v))) ≤ length l) where
     local-room : x ≡ 12 → to + 2 ≤ length l
-    local-room h = rw (local-words (wordAt ws (at + 1)) h refl) at room
+    local-room h = rw (local-words h) at room
 
     pub local-first : x ≡ 12 → to < length l
     local-first h = omega (arith, local-room h)
@@ -120,19 +115,19 @@ clip-by size (BuiltIn (In.DrawIndex slots)) = refl
 clip-by size (BuiltIn (In.FragDepth slots)) = refl
 clip-by size (BuiltIn (In.ClipDistances none)) = refl
 
-module _ (ws : List ℕ) (at w size : ℕ) (b : Bool) (e : w ≡ wordAt ws at) (f : b ≡ clipWord w) (l : List ℕ) (to : ℕ) where
-  clip-words : wordsOf (arrayGives size (bindingAt (drop at ws))) ≡ pick (yes b) (ofKind 14 (2 ^ 24 * 4 + size) ∷ []) []
-  clip-words = clip-by size (bindingAt (drop at ws)) ∙ rw (clip-bound (drop at ws), first-of ws at, ← e, ← f)
+module _ (w v size : ℕ) (b : Bool) (f : b ≡ clipWord w) (l : List ℕ) (to : ℕ) where
+  clip-words : wordsOf (arrayGives size (bindingOf w v)) ≡ pick (yes b) (ofKind 14 (2 ^ 24 * 4 + size) ∷ []) []
+  clip-words = clip-by size (bindingOf w v) ∙ rw (clip-bound (w ∷ v ∷ []), ← f)
 
-  pub clip-none : not b ≡ true → (to, l) ≡ put l to (wordsOf (arrayGives size (bindingAt (drop at ws))))
+  pub clip-none : not b ≡ true → (to, l) ≡ put l to (wordsOf (arrayGives size (bindingOf w v)))
   unfolding put yes
   clip-none n = rw (clip-words, not-true b n)
 
-  pub clip-some : not b ≡ false → (to + 1, set l to (0x7400_0000 + size)) ≡ put l to (wordsOf (arrayGives size (bindingAt (drop at ws))))
+  pub clip-some : not b ≡ false → (to + 1, set l to (0x7400_0000 + size)) ≡ put l to (wordsOf (arrayGives size (bindingOf w v)))
   unfolding put yes
   clip-some n = let m : ofKind 14 (2 ^ 24 * 4 + size) ≡ 0x7400_0000 + size = omega arith in rw (clip-words, not-false b n, m)
 
-  pub clip-room : not b ≡ false → to + length (wordsOf (arrayGives size (bindingAt (drop at ws)))) ≤ length l → to < length l
+  pub clip-room : not b ≡ false → to + length (wordsOf (arrayGives size (bindingOf w v))) ≤ length l → to < length l
   unfolding yes
   clip-room n room = let r : to + 1 ≤ length l = rw (clip-words, not-false b n) at room in omega arith
 

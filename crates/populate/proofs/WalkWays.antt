@@ -8,7 +8,7 @@ use mathlib.Core.List.{List, [], _∷_, _++_}
 use borrow.Author.Tests.{eq-eqb, ne-eqb, eqb-true, eqb-false, ltb-true, not-true, not-false}
 use lib.Dec.{eqb, ltb}
 use lib.ListN.{getD, length, drop, set, length-append, length-set}
-use lib.Seq.{drop-drop, getD-set-same, getD-set-other}
+use lib.Seq.{drop-drop, getD-drop, getD-set-same, getD-set-other}
 use Rattle.word.specs.Choice.{pick}
 use Rattle.word.specs.Words.{wordAt, kindOf, contentOf, bits}
 use Rattle.word.specs.Lists.{every, flat}
@@ -22,7 +22,7 @@ use Rattle.interface.specs.declared.types.Varying.the-variants as Var
 use Rattle.type_lists.specs.Meaning.{Binding, Unbound, StructMember, TypeInner, Struct, typeNumbered}
 use Rattle.type_lists.specs.Rules.{membersGive, typeGives, populate, nesting}
 use Rattle.type_check.specs.declared.notes.Note.{Note}
-use Rattle.type_check.specs.inner.Positions.{bindingAt, memberWidth, memberAt, membersAt, typeAt, structAt, membersBelow, namesBelow}
+use Rattle.type_check.specs.inner.Positions.{bindingOf, memberWidth, memberAt, membersAt, typeAt, structAt, membersBelow, namesBelow}
 use Rattle.type_check.specs.inner.Notes.{wordsOf, note, noteOf, isStruct, loneNote, numberNote, startIn, noteIn, Stands, Noted}
 use Rattle.type_check.proofs.Gives.{lone-gives, struct-gives, struct-ignores}
 use Rattle.type_check.proofs.Noting.{words-append}
@@ -86,66 +86,55 @@ module _ (types : List TypeInner) (ws notes : List ℕ) (s : Noted types ws note
         rw (struct-ignores types n b Unbound h o, q))
         (λ o. absurd (let k : 1 ≡ 0 = sym (lone-words o) ∙ ap (λ (x : Note). x .words) (sym e) ∙ z in omega arith))
 
-  module _ (at : ℕ) (x : Bool) (f : at ≡ startIn (getD notes n 0)) (g : x ≡ structAt ws at) where
-    pub struct-there : x ≡ true → isStruct (typeNumbered types n) ≡ true
-    struct-there o =
-        let q : structAt ws (startIn (getD notes n 0)) ≡ true = rw (← f, ← g) o in
-        by-kind types ws notes s n h
-        (λ k y. absurd (false≢true (rw k at q)))
-        (λ k y. absurd (false≢true (rw k at q)))
-        (λ k y. rw y)
+    module _ (at : ℕ) (x : Bool) (f : at ≡ startIn (getD notes n 0)) (g : x ≡ structAt ws at) where
+      pub struct-there : x ≡ true → isStruct (typeNumbered types n) ≡ true
+      struct-there o =
+          let q : structAt ws (startIn (getD notes n 0)) ≡ true = rw (← f, ← g) o in
+          by-kind types ws notes s n h
+          (λ k y. absurd (false≢true (rw k at q)))
+          (λ k y. absurd (false≢true (rw k at q)))
+          (λ k y. rw y)
 
-    pub lone-there : x ≡ false → isStruct (typeNumbered types n) ≡ false
-    lone-there o =
-        let q : structAt ws (startIn (getD notes n 0)) ≡ false = rw (← f, ← g) o in
-        by-kind types ws notes s n h
-        (λ k y. rw y (shaped-lone (typeOf (wordAt ws (startIn (getD notes n 0))) .dim) (typeOf (wordAt ws (startIn (getD notes n 0))) .scalar)))
-        (λ k y. rw y)
-        (λ k y. absurd (false≢true (sym q ∙ k)))
+      pub lone-there : x ≡ false → isStruct (typeNumbered types n) ≡ false
+      lone-there o =
+          let q : structAt ws (startIn (getD notes n 0)) ≡ false = rw (← f, ← g) o in
+          by-kind types ws notes s n h
+          (λ k y. rw y (shaped-lone (typeOf (wordAt ws (startIn (getD notes n 0))) .dim) (typeOf (wordAt ws (startIn (getD notes n 0))) .scalar)))
+          (λ k y. rw y)
+          (λ k y. absurd (false≢true (sym q ∙ k)))
 
-    -- the asked struct, whose binding is ignored
-    module _ (o : x ≡ true) (b c : Binding) (l : List ℕ) where
-      pub asked-room : 0 + length (wordsOf (populate types n b)) ≤ room l → 0 + length (wordsOf (populate types n c)) ≤ room l
-      asked-room k = rw (struct-ignores types n c b h (struct-there o)) k
+      -- a struct that was written before
+      module _ (o : x ≡ true) (written l : List ℕ) (to from : ℕ) (w : Written types written l to) (i : getD written n 0 ≡ from + 1) where
+        stood : Stood l from (wordsOf (populate types n Unbound)) to
+        stood = w .each n from h i
 
-      pub asked-put : (later : List ℕ) → later ≡ put l 0 (wordsOf (populate types n c)) .1 → later ≡ put l 0 (wordsOf (populate types n b)) .1
-      asked-put later q = rw (struct-ignores types n b c h (struct-there o)) q
+        module _ (b : Binding) (k : to + length (wordsOf (populate types n b)) ≤ room l) where
+          few : length (wordsOf (populate types n Unbound)) ≤ 126
+          few = let q : to + length (wordsOf (populate types n Unbound)) ≤ room l = rw (struct-ignores types n b Unbound h (struct-there o)) at k in omega arith
 
-    -- a struct that was written before
-    module _ (t : Note) (e : t ≡ noteIn (getD notes n 0)) (o : x ≡ true) (written l : List ℕ) (to from : ℕ) (w : Written types written l to) (i : getD written n 0 ≡ from + 1) where
-      stood : Stood l from (wordsOf (populate types n Unbound)) to
-      stood = w .each n from h i
+          all : t .words ≡ length (wordsOf (populate types n Unbound))
+          all = ap (λ (y : Note). y .words) e ∙ struct-words (struct-there o) ∙ omega (arith, few)
 
-      module _ (b : Binding) (k : to + length (wordsOf (populate types n b)) ≤ room l) where
-        few : length (wordsOf (populate types n Unbound)) ≤ 126
-        few = let q : to + length (wordsOf (populate types n Unbound)) ≤ room l = rw (struct-ignores types n b Unbound h (struct-there o)) at k in omega arith
+          pub again-before : from + t .words ≤ to
+          again-before = rw all (stood .inside)
 
-        all : t .words ≡ length (wordsOf (populate types n Unbound))
-        all = ap (λ (y : Note). y .words) e ∙ struct-words (struct-there o) ∙ omega (arith, few)
+          pub again-room : to + t .words ≤ length l
+          again-room = let q : to + length (wordsOf (populate types n Unbound)) ≤ room l = rw (struct-ignores types n b Unbound h (struct-there o)) at k in omega (arith, all)
 
-        pub again-before : from + t .words ≤ to
-        again-before = rw all (stood .inside)
+          pub again-put : (r : ℕ) (later : List ℕ) → (r, later) ≡ again l from to (t .words) → (r, later) ≡ put l to (wordsOf (populate types n b))
+          again-put r later q =
+              q ∙ rw (all, struct-ignores types n b Unbound h (struct-there o)) (again-is (wordsOf (populate types n Unbound)) l from to (stood .inside) (stood .same))
 
-        pub again-room : to + t .words ≤ length l
-        again-room = let q : to + length (wordsOf (populate types n Unbound)) ≤ room l = rw (struct-ignores types n b Unbound h (struct-there o)) at k in omega (arith, all)
+      -- a type that is no struct
+      module _ (o : x ≡ false) (b : Binding) (l : List ℕ) (to : ℕ) where
+        lone-now : populate types n b ≡ typeGives nothing (typeAt (drop at ws)) b
+        lone-now = lone-gives types n b h (lone-there o) ∙ rw (s .each n h .is, ← f)
 
-        pub again-put : (r : ℕ) (later : List ℕ) → (r, later) ≡ again l from to (t .words) → (r, later) ≡ put l to (wordsOf (populate types n b))
-        again-put r later q =
-            q ∙ rw (all, struct-ignores types n b Unbound h (struct-there o)) (again-is (wordsOf (populate types n Unbound)) l from to (stood .inside) (stood .same))
+        pub lone-room : to + length (wordsOf (populate types n b)) ≤ room l → to + length (wordsOf (typeGives nothing (typeAt (drop at ws)) b)) ≤ length l
+        lone-room k = let q : to + length (wordsOf (typeGives nothing (typeAt (drop at ws)) b)) ≤ room l = rw lone-now at k in omega arith
 
-    -- a type that is no struct
-    module _ (o : x ≡ false) (b : Binding) (l : List ℕ) (to : ℕ) where
-      lone-now : populate types n b ≡ typeGives nothing (typeAt (drop at ws)) b
-      lone-now = lone-gives types n b h (lone-there o) ∙ rw (s .each n h .is, ← f)
-
-      pub lone-room : to + length (wordsOf (populate types n b)) ≤ room l → to + length (wordsOf (typeGives nothing (typeAt (drop at ws)) b)) ≤ length l
-      lone-room k = let q : to + length (wordsOf (typeGives nothing (typeAt (drop at ws)) b)) ≤ room l = rw lone-now at k in omega arith
-
-      pub lone-put : (r : ℕ) (later : List ℕ) → (r, later) ≡ put l to (wordsOf (typeGives nothing (typeAt (drop at ws)) b)) → (r, later) ≡ put l to (wordsOf (populate types n b))
-      lone-put r later q = rw lone-now q
-
-      pub lone-list : (r : ℕ) (later : List ℕ) → (r, later) ≡ put l to (wordsOf (typeGives nothing (typeAt (drop at ws)) b)) → later ≡ put l to (wordsOf (populate types n b)) .1
-      lone-list r later q = ap (λ (y : ℕ × List ℕ). y .1) (lone-put r later q)
+        pub lone-put : (r : ℕ) (later : List ℕ) → (r, later) ≡ put l to (wordsOf (typeGives nothing (typeAt (drop at ws)) b)) → (r, later) ≡ put l to (wordsOf (populate types n b))
+        lone-put r later q = rw lone-now q
 
 -- ---- members, one after the other
 
@@ -172,28 +161,31 @@ module _ (n : ℕ) (ws : List ℕ) (k i : ℕ) (f : membersBelow n (membersAt k 
     pub member-in : (types : List TypeInner) → n < length types → m < length types
     member-in types g = omega (arith, member-lower)
 
-module _ (types : List TypeInner) (ws : List ℕ) (k i m : ℕ) (h : k ≡ 0 → ⊥) (c : m ≡ contentOf (wordAt ws i)) where
-  more-words : membersWords types k (drop i ws) ≡ wordsOf (populate types m (bindingAt (drop (i + 1) ws))) ++ membersWords types (k - 1) (drop (i + memberWidth (drop i ws)) ws)
+plus-one : (i : ℕ) → i + 1 + 1 ≡ i + 2
+plus-one i = omega arith
+
+module _ (types : List TypeInner) (ws : List ℕ) (k i m w v : ℕ) (h : k ≡ 0 → ⊥) (c : m ≡ contentOf (wordAt ws i)) (e : w ≡ wordAt ws (i + 1)) (f : v ≡ wordAt ws (i + 2)) where
+  more-words : membersWords types k (drop i ws) ≡ wordsOf (populate types m (bindingOf w v)) ++ membersWords types (k - 1) (drop (i + memberWidth (drop i ws)) ws)
   unfolding membersWords membersGive
   more-words =
-      rw (members-left ws i k h, first-of ws i, ← c, others-of ws i)
-      (words-append (populate types m (bindingAt (drop (i + 1) ws))) (membersGive (populate types) (membersAt (k - 1) (drop (i + memberWidth (drop i ws)) ws))))
+      let a : wordAt (drop 1 (drop i ws)) 0 ≡ w = rw (others-of ws i) (first-of ws (i + 1)) ∙ sym e in
+      let b : wordAt (drop 1 (drop i ws)) 1 ≡ v = rw (others-of ws i) (getD-drop (i + 1) ws 1 0 ∙ rw (plus-one i)) ∙ sym f in
+      rw (members-left ws i k h, first-of ws i, ← c, a, b)
+      (words-append (populate types m (bindingOf w v)) (membersGive (populate types) (membersAt (k - 1) (drop (i + memberWidth (drop i ws)) ws))))
 
-  pub more-asks : (l : List ℕ) (next : ℕ) → next + length (membersWords types k (drop i ws)) ≤ room l → next + length (wordsOf (populate types m (bindingAt (drop (i + 1) ws)))) ≤ room l
-  more-asks l next r =
-      omega (arith, ap length more-words, length-append (wordsOf (populate types m (bindingAt (drop (i + 1) ws)))) (membersWords types (k - 1) (drop (i + memberWidth (drop i ws)) ws)))
+  pub more-asks : (l : List ℕ) (next : ℕ) → next + length (membersWords types k (drop i ws)) ≤ room l → next + length (wordsOf (populate types m (bindingOf w v))) ≤ room l
+  more-asks l next r = omega (arith, ap length more-words, length-append (wordsOf (populate types m (bindingOf w v))) (membersWords types (k - 1) (drop (i + memberWidth (drop i ws)) ws)))
 
-  module _ (l later : List ℕ) (next r d : ℕ) (g : (r, later) ≡ put l next (wordsOf (populate types m (bindingAt (drop (i + 1) ws))))) (j : d ≡ memberWidth (drop i ws)) where
+  module _ (l later : List ℕ) (next r d : ℕ) (g : (r, later) ≡ put l next (wordsOf (populate types m (bindingOf w v)))) (j : d ≡ memberWidth (drop i ws)) where
     pub more-put : (goal : ℕ × List ℕ) → goal ≡ put l next (membersWords types k (drop i ws)) → goal ≡ put later r (membersWords types (k - 1) (drop (i + d) ws))
     more-put goal inv =
-        inv ∙ rw (more-words, put-append l next (wordsOf (populate types m (bindingAt (drop (i + 1) ws)))) (membersWords types (k - 1) (drop (i + memberWidth (drop i ws)) ws)), ← g, ← j)
+        inv ∙ rw (more-words, put-append l next (wordsOf (populate types m (bindingOf w v))) (membersWords types (k - 1) (drop (i + memberWidth (drop i ws)) ws)), ← g, ← j)
 
     pub more-room : next + length (membersWords types k (drop i ws)) ≤ room l → r + length (membersWords types (k - 1) (drop (i + d) ws)) ≤ room later
     more-room q =
-        let a : r ≡ next + length (wordsOf (populate types m (bindingAt (drop (i + 1) ws)))) = ap (λ (p : ℕ × List ℕ). p .0) g ∙ put-to l next (wordsOf (populate types m (bindingAt (drop (i + 1) ws)))) in
-        let o : length later ≡ length l = ap (λ (p : ℕ × List ℕ). length (p .1)) g ∙ put-length l next (wordsOf (populate types m (bindingAt (drop (i + 1) ws)))) in
-        rw j
-        (omega (arith, ap length more-words, length-append (wordsOf (populate types m (bindingAt (drop (i + 1) ws)))) (membersWords types (k - 1) (drop (i + memberWidth (drop i ws)) ws))))
+        let a : r ≡ next + length (wordsOf (populate types m (bindingOf w v))) = ap (λ (p : ℕ × List ℕ). p .0) g ∙ put-to l next (wordsOf (populate types m (bindingOf w v))) in
+        let o : length later ≡ length l = ap (λ (p : ℕ × List ℕ). length (p .1)) g ∙ put-length l next (wordsOf (populate types m (bindingOf w v))) in
+        rw j (omega (arith, ap length more-words, length-append (wordsOf (populate types m (bindingOf w v))) (membersWords types (k - 1) (drop (i + memberWidth (drop i ws)) ws))))
 
 pub put-keeps : (l later first ws : List ℕ) (next r : ℕ) → (r, later) ≡ put l next ws → length l ≡ length first → length later ≡ length first
 put-keeps l later first ws next r g q = ap (λ (p : ℕ × List ℕ). length (p .1)) g ∙ put-length l next ws ∙ q

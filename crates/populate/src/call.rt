@@ -1,49 +1,31 @@
 // The varyings of an asked type with its binding: 90, 91, 92, 4, or their number, and their words.
 ghost use mathlib.Core.Path.{_≡_};
 ghost use mathlib.Core.Bool.{true};
-ghost use Prim.Native.Nat.{_+_, _<_, _≤_, _^_};
-ghost use lib.ListN.{length, drop};
+ghost use Prim.Native.Nat.{_+_, _<_, _≤_};
+ghost use lib.ListN.{length};
 ghost use Rattle.type_lists.specs.Format.{readBinding};
 ghost use Rattle.type_lists.specs.Rules.{populate};
-ghost use Rattle.type_check.specs.inner.Positions.{bindingAt, declared};
+ghost use Rattle.type_check.specs.inner.Positions.{bindingAt, bindingOf, declared};
 ghost use Rattle.type_check.specs.inner.Notes.{wordsOf, Noted};
 ghost use Rattle.populate.specs.Populate.{populated, boundOn, populateCall};
 ghost use Rattle.populate.specs.inner.Written.{put, room};
-use crate::put::put_lone;
 use crate::walk::populate;
 use type_check::bound::binding_next;
 use type_check::clips::binding_good;
 use type_check::given::given_note;
 use type_check::index::index_types;
-use type_check::members::is_struct;
-use type_check::notes::start_at;
 use word::answer::Answer;
 use word::numbers;
 
-// Writes the varyings of an asked struct, whose own binding is ignored; it is walked over with the one at the list's start.
-fn put_struct(types: &[u32], notes: &[u32; 256], asked: usize, out: &mut [u32])
+// Writes the varyings of the asked type with the binding of two words.
+fn put_varyings(types: &[u32], notes: &[u32; 256], asked: usize, w: u32, var: u32, out: &mut [u32])
     requires { ⌜ Noted (declared (now types)) (now types) (now notes) ⌝ }
     requires { ⌜ asked < length (declared (now types)) ⌝ }
-    requires { ⌜ 0 + length (wordsOf (populate (declared (now types)) asked (bindingAt (drop 0 (now types))))) ≤ room (now out) ⌝ }
-    ensures { λ _. ⌜ now (out .exit) ≡ put (now (out .entry)) 0 (wordsOf (populate (declared (now (types .entry))) asked (bindingAt (drop 0 (now (types .entry)))))) .1 ⌝ }
+    requires { ⌜ 0 + length (wordsOf (populate (declared (now types)) asked (bindingOf w var))) ≤ room (now out) ⌝ }
+    ensures { λ _. ⌜ now (out .exit) ≡ put (now (out .entry)) 0 (wordsOf (populate (declared (now (types .entry))) asked (bindingOf w var))) .1 ⌝ }
 {
     let mut written: [u8; 256] = [0; 256];
-    populate(types, notes, asked, 0, out, 0, &mut written);
-}
-
-// Writes the varyings of the asked type with its binding.
-fn put_varyings(types: &[u32], notes: &[u32; 256], asked: usize, bound: &[u32], out: &mut [u32])
-    requires { ⌜ Noted (declared (now types)) (now types) (now notes) ⌝ }
-    requires { ⌜ asked < length (declared (now types)) ⌝ }
-    requires { ⌜ 0 + length (wordsOf (populate (declared (now types)) asked (bindingAt (drop 0 (now bound))))) ≤ room (now out) ⌝ }
-    ensures { λ _. ⌜ now (out .exit) ≡ put (now (out .entry)) 0 (wordsOf (populate (declared (now (types .entry))) asked (bindingAt (drop 0 (now (bound .entry)))))) .1 ⌝ }
-{
-    let start = start_at(notes, asked);
-    if is_struct(types, start) {
-        put_struct(types, notes, asked, out);
-        return;
-    }
-    put_lone(types, start, bound, 0, out, 0);
+    populate(types, notes, asked, w, var, out, 0, &mut written);
 }
 
 // The answer on the asked type with a binding that is well formed.
@@ -58,7 +40,8 @@ fn populate_asked(
     requires { ⌜ asked < length (declared (now types)) ⌝ }
     ensures { λ r. ⌜ (r, now (out .exit)) ≡ populated (declared (now (types .entry))) asked (bindingAt (now (bound .entry))) (now (out .entry)) ⌝ }
 {
-    let note = given_note(types, notes, asked, word::word(bound, 0));
+    let w = word::word(bound, 0);
+    let note = given_note(types, notes, asked, w);
     if 8 < note.depth {
         return Answer::refused(numbers::NESTED_TOO_DEEP);
     }
@@ -68,7 +51,7 @@ fn populate_asked(
     if out.len() < note.words as usize {
         return Answer::refused(numbers::SHORT_OUT);
     }
-    put_varyings(types, notes, asked, bound, out);
+    put_varyings(types, notes, asked, w, word::word(bound, 1), out);
     Answer::new(0, note.count, 0, 0)
 }
 

@@ -1,15 +1,14 @@
 // Varyings written as words, one behind the other.
 ghost use mathlib.Core.Path.{_≡_};
 ghost use mathlib.Core.Bool.{false};
-ghost use Prim.Native.Nat.{_+_, _<_, _≤_, _^_, _*_};
-ghost use lib.Dec.{eqb};
+ghost use Prim.Native.Nat.{_+_, _<_, _≤_, _^_};
 ghost use lib.ListN.{length, drop};
-ghost use Rattle.word.specs.Words.{bits, bit, ofKind};
+ghost use Rattle.word.specs.Words.{ofKind};
 ghost use Rattle.numeric.specs.TypeWords.{typeOf};
 ghost use Rattle.varying.specs.Format.{varWord};
 ghost use Rattle.interface.specs.Format.{builtInOf, builtInCode};
 ghost use Rattle.type_lists.specs.Rules.{numericGives, arrayGives, typeGives};
-ghost use Rattle.type_check.specs.inner.Positions.{bindingAt, typeAt, structAt};
+ghost use Rattle.type_check.specs.inner.Positions.{bindingOf, typeAt, structAt};
 ghost use Rattle.type_check.specs.inner.Notes.{wordsOf};
 ghost use Rattle.populate.specs.inner.Written.{put, again, boundVar, nothing};
 use type_check::clips::is_clip;
@@ -34,17 +33,15 @@ fn var_word(ty: u32, var: u32) -> u32
 }
 
 // Writes what a scalar, vector or matrix gives; the position behind it.
-fn put_bound(ty: u32, bound: &[u32], at: usize, out: &mut [u32], to: usize) -> usize
-    requires { ⌜ at < 2 ^ 60 ⌝ }
-    requires { ⌜ to + length (wordsOf (numericGives (typeOf ty) (bindingAt (drop at (now bound))))) ≤ length (now out) ⌝ }
-    ensures { λ r. ⌜ (r, now (out .exit)) ≡ put (now (out .entry)) to (wordsOf (numericGives (typeOf ty) (bindingAt (drop at (now (bound .entry)))))) ⌝ }
+fn put_bound(ty: u32, w: u32, var: u32, out: &mut [u32], to: usize) -> usize
+    requires { ⌜ to + length (wordsOf (numericGives (typeOf ty) (bindingOf w var))) ≤ length (now out) ⌝ }
+    ensures { λ r. ⌜ (r, now (out .exit)) ≡ put (now (out .entry)) to (wordsOf (numericGives (typeOf ty) (bindingOf w var))) ⌝ }
 {
-    let w = word::word(bound, at);
     let kind = word::kind(w);
     if kind == 12 {
-        let var = var_word(ty, word::word(bound, at + 1));
+        let second = var_word(ty, var);
         out[to] = 0x6000_0000 + word::content(w);
-        out[to + 1] = var;
+        out[to + 1] = second;
         return to + 2;
     }
     if kind == 14 {
@@ -55,12 +52,12 @@ fn put_bound(ty: u32, bound: &[u32], at: usize, out: &mut [u32], to: usize) -> u
 }
 
 // Writes what an array of a size gives; the position behind it.
-fn put_clip(size: u32, bound: &[u32], at: usize, out: &mut [u32], to: usize) -> usize
+fn put_clip(size: u32, w: u32, var: u32, out: &mut [u32], to: usize) -> usize
     requires { ⌜ size < 2 ^ 27 ⌝ }
-    requires { ⌜ to + length (wordsOf (arrayGives size (bindingAt (drop at (now bound))))) ≤ length (now out) ⌝ }
-    ensures { λ r. ⌜ (r, now (out .exit)) ≡ put (now (out .entry)) to (wordsOf (arrayGives size (bindingAt (drop at (now (bound .entry)))))) ⌝ }
+    requires { ⌜ to + length (wordsOf (arrayGives size (bindingOf w var))) ≤ length (now out) ⌝ }
+    ensures { λ r. ⌜ (r, now (out .exit)) ≡ put (now (out .entry)) to (wordsOf (arrayGives size (bindingOf w var))) ⌝ }
 {
-    if !is_clip(word::word(bound, at)) {
+    if !is_clip(w) {
         return to;
     }
     out[to] = 0x7400_0000 + size;
@@ -71,27 +68,21 @@ fn put_clip(size: u32, bound: &[u32], at: usize, out: &mut [u32], to: usize) -> 
 pub(crate) fn put_lone(
     types: &[u32],
     start: usize,
-    bound: &[u32],
-    at: usize,
+    w: u32,
+    var: u32,
     out: &mut [u32],
     to: usize,
 ) -> usize
-    requires { ⌜ (start < 1024) × (at < 2 ^ 60) × (structAt (now types) start ≡ false) ⌝ }
-    requires { ⌜ to + length (wordsOf (typeGives nothing (typeAt (drop start (now types))) (bindingAt (drop at (now bound))))) ≤ length (now out) ⌝ }
+    requires { ⌜ (start < 1024) × (structAt (now types) start ≡ false) ⌝ }
+    requires { ⌜ to + length (wordsOf (typeGives nothing (typeAt (drop start (now types))) (bindingOf w var))) ≤ length (now out) ⌝ }
     ensures { λ r. ⌜ (r, now (out .exit))
-        ≡ put (now (out .entry)) to (wordsOf (typeGives nothing (typeAt (drop start (now (types .entry)))) (bindingAt (drop at (now (bound .entry)))))) ⌝ }
+        ≡ put (now (out .entry)) to (wordsOf (typeGives nothing (typeAt (drop start (now (types .entry)))) (bindingOf w var))) ⌝ }
 {
-    let w = word::word(types, start);
-    if word::kind(w) == 22 {
-        return put_bound(w, bound, at, out, to);
+    let head = word::word(types, start);
+    if word::kind(head) == 22 {
+        return put_bound(head, w, var, out, to);
     }
-    put_clip(
-        word::content(word::word(types, start + 1)),
-        bound,
-        at,
-        out,
-        to,
-    )
+    put_clip(word::content(word::word(types, start + 1)), w, var, out, to)
 }
 
 // Writes words of a list again, behind them; the position behind the last.

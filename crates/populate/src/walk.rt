@@ -1,10 +1,10 @@
 // The walk over a type and what it is made of.
 ghost use mathlib.Core.Path.{_≡_};
 ghost use mathlib.Core.Bool.{true, false};
-ghost use Prim.Native.Nat.{_+_, _<_, _≤_, _^_};
-ghost use lib.ListN.{length, drop, getD};
+ghost use Prim.Native.Nat.{_+_, _<_, _≤_};
+ghost use lib.ListN.{length, getD};
 ghost use Rattle.type_lists.specs.Rules.{populate};
-ghost use Rattle.type_check.specs.inner.Positions.{bindingAt, declared};
+ghost use Rattle.type_check.specs.inner.Positions.{bindingOf, declared};
 ghost use Rattle.type_check.specs.inner.Notes.{wordsOf, Noted};
 ghost use Rattle.populate.specs.inner.Written.{put, room, walksAt, Written};
 use crate::put::put_again;
@@ -50,16 +50,17 @@ fn put_known(
     types: &[u32],
     notes: &[u32; 256],
     n: usize,
-    at: usize,
+    w: u32,
+    var: u32,
     out: &mut [u32],
     to: usize,
     written: &[u8; 256],
 ) -> usize
     requires { ⌜ Noted (declared (now types)) (now types) (now notes) ⌝ }
     requires { ⌜ Written (declared (now types)) (now written) (now out) to ⌝ }
-    requires { ⌜ (n < length (declared (now types))) × (at < 2 ^ 60) × (walksAt (now types) (now notes) (now written) n ≡ false) ⌝ }
-    requires { ⌜ to + length (wordsOf (populate (declared (now types)) n (bindingAt (drop at (now types))))) ≤ room (now out) ⌝ }
-    ensures { λ r. ⌜ (r, now (out .exit)) ≡ put (now (out .entry)) to (wordsOf (populate (declared (now (types .entry))) n (bindingAt (drop at (now (types .entry)))))) ⌝ }
+    requires { ⌜ (n < length (declared (now types))) × (walksAt (now types) (now notes) (now written) n ≡ false) ⌝ }
+    requires { ⌜ to + length (wordsOf (populate (declared (now types)) n (bindingOf w var))) ≤ room (now out) ⌝ }
+    ensures { λ r. ⌜ (r, now (out .exit)) ≡ put (now (out .entry)) to (wordsOf (populate (declared (now (types .entry))) n (bindingOf w var))) ⌝ }
 {
     let note = note_at(notes, n);
     if note.words == 0 {
@@ -69,30 +70,30 @@ fn put_known(
     if is_struct(types, start) {
         return put_again(out, first_at(written, n), to, note.words as usize);
     }
-    put_lone(types, start, types, at, out, to)
+    put_lone(types, start, w, var, out, to)
 }
 
-// Writes what a type with the binding at a position gives, member by member; the position behind it. A struct that gives nothing or was written
-// before is not entered.
+// Writes what a type with its binding gives, member by member; the position behind it. A struct that gives nothing or was written before is not entered.
 pub(crate) fn populate(
     types: &[u32],
     notes: &[u32; 256],
     n: usize,
-    at: usize,
+    w: u32,
+    var: u32,
     out: &mut [u32],
     to: usize,
     written: &mut [u8; 256],
 ) -> usize
     requires { ⌜ Noted (declared (now types)) (now types) (now notes) ⌝ }
     requires { ⌜ Written (declared (now types)) (now written) (now out) to ⌝ }
-    requires { ⌜ (n < length (declared (now types))) × (at < 2 ^ 60) × (length (now written) ≡ 256) ⌝ }
-    requires { ⌜ to + length (wordsOf (populate (declared (now types)) n (bindingAt (drop at (now types))))) ≤ room (now out) ⌝ }
-    ensures { λ r. ⌜ (r, now (out .exit)) ≡ put (now (out .entry)) to (wordsOf (populate (declared (now (types .entry))) n (bindingAt (drop at (now (types .entry)))))) ⌝ }
+    requires { ⌜ (n < length (declared (now types))) × (length (now written) ≡ 256) ⌝ }
+    requires { ⌜ to + length (wordsOf (populate (declared (now types)) n (bindingOf w var))) ≤ room (now out) ⌝ }
+    ensures { λ r. ⌜ (r, now (out .exit)) ≡ put (now (out .entry)) to (wordsOf (populate (declared (now (types .entry))) n (bindingOf w var))) ⌝ }
     ensures { λ r. ⌜ Written (declared (now (types .entry))) (now (written .exit)) (now (out .exit)) r ⌝ }
     ensures { λ r. ⌜ length (now (written .exit)) ≡ 256 ⌝ }
 {
     if !walks(types, notes, written, n) {
-        return put_known(types, notes, n, at, out, to, written);
+        return put_known(types, notes, n, w, var, out, to, written);
     }
     let start = start_at(notes, n);
     let mut i = start + 1;
@@ -100,7 +101,9 @@ pub(crate) fn populate(
     let mut next = to;
     while left != 0 {
         let m = member_type(types, i);
-        next = populate(types, notes, m, i + 1, out, next, written);
+        let first = word::word(types, i + 1);
+        let second = word::word(types, i + 2);
+        next = populate(types, notes, m, first, second, out, next, written);
         i += member_width(types, i);
         left -= 1;
     }

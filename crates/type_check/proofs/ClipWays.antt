@@ -19,7 +19,7 @@ use Rattle.numeric.specs.declared.types.NumericDimension.the-variants as D
 use Rattle.interface.specs.Format.{builtInOf}
 use Rattle.type_lists.specs.Meaning.{BuiltIn, StructMember, TypeInner, Array, Struct, typeNumbered}
 use Rattle.type_lists.specs.Format.{isClip, isFloat, isF32, clipGood, bindingGood, shaped, numericType}
-use Rattle.type_check.specs.inner.Positions.{bindingAt, membersAt, typeAt, namesBelow}
+use Rattle.type_check.specs.inner.Positions.{bindingAt, bindingOf, membersAt, typeAt, namesBelow}
 use Rattle.type_check.specs.inner.Notes.{startIn, clipWord, Stands, Noted}
 use Rattle.type_check.specs.inner.Clips.{f32At, clipGoodAt, bindingGoodAt}
 
@@ -101,7 +101,7 @@ module _ (ws notes : List ℕ) (n w : ℕ) (b : Bool) (f : b ≡ clipWord w) whe
 -- ---- the rule
 
 pub clip-bound : (l : List ℕ) → isClip (bindingAt l) ≡ clipWord (wordAt l 0)
-unfolding bindingAt
+unfolding bindingOf
 clip-bound l =
     by-test (eqb (kindOf (wordAt l 0)) 12)
     (λ t. let k : eqb (kindOf (wordAt l 0)) 14 ≡ false = ne-eqb (kindOf (wordAt l 0)) 14 (λ z. omega (arith, eqb-true (kindOf (wordAt l 0)) 12 t)) in rw (t, k))

@@ -23,7 +23,7 @@ use Rattle.type_lists.specs.Meaning.{Binding, Unbound, Location, BuiltIn, Struc
 use Rattle.type_lists.specs.Format.{isClip, shaped, numericType}
 use Rattle.type_lists.specs.Rules.{numericGives, arrayGives, typeGives, populate, nesting}
 use Rattle.type_check.specs.declared.notes.Note.{Note}
-use Rattle.type_check.specs.inner.Positions.{bindingAt, membersAt, typeAt, structAt}
+use Rattle.type_check.specs.inner.Positions.{bindingAt, bindingOf, membersAt, typeAt, structAt}
 use Rattle.type_check.specs.inner.Notes.{note, noteOf, isStruct, loneNote, numberNote, startIn, noteIn, clipWord, boundNote, arrayNote, loneNoteAt, givenNote, Stands, Noted}
 use Rattle.type_check.proofs.Gives.{lone-gives, struct-ignores}
 use Rattle.type_check.proofs.ClipWays.{type-22, type-23, type-24, clip-bound}
@@ -58,7 +58,7 @@ module _ (ws notes : List ℕ) (n w at : ℕ) (t : Note) (x : Bool) (a : t ≡ n
 -- ---- what the definition gives
 
 numeric-note : (d : ℕ) (t : NumericType) (l : List ℕ) → noteOf d (numericGives t (bindingAt l)) ≡ boundNote (min d 9) (wordAt l 0)
-unfolding noteOf bindingAt flat
+unfolding noteOf bindingOf flat
 numeric-note d t l =
     by-test (eqb (kindOf (wordAt l 0)) 12) (λ a. rw a) λ b.
     by-test (eqb (kindOf (wordAt l 0)) 14) (λ a. rw (b, a)) (λ c. rw (b, c))

@@ -22,14 +22,14 @@ use Rattle.interface.specs.Format.{ofWord, indexWellFormed, builtInWellFormed, 
 use Rattle.interface.proofs.RestoreRecords.{got-as, one-then}
 use Rattle.type_lists.specs.Meaning.{Binding, Unbound, BuiltIn, StructMember, TypeInner, Array, Struct}
 use Rattle.type_lists.specs.Format.{boundWellFormed, builtInBound, located, readBinding, bindingGood, readMember, headWellFormed, shaped, numericType, readType}
-use Rattle.type_check.specs.inner.Positions.{bindingAt, memberWidth, memberAt, membersAt, typeAt, membersBelow, namesBelow}
+use Rattle.type_check.specs.inner.Positions.{bindingAt, bindingOf, memberWidth, memberAt, membersAt, typeAt, membersBelow, namesBelow}
 
 -- what a binding is, and where the words behind it begin
 abbrev Bound : ℕ → List ℕ → Binding → List ℕ → Type 0
 Bound w ws b rest = (b ≡ bindingAt ws) × (drop (memberWidth (w ∷ ws)) (w ∷ ws) ≡ rest)
 
 pub binding-took : (w : ℕ) (ws : List ℕ) (b : Binding) (rest : List ℕ) → readBinding ws ≡ got b rest → (b ≡ bindingAt ws) × (drop (memberWidth (w ∷ ws)) (w ∷ ws) ≡ rest)
-unfolding readBinding bindingAt
+unfolding readBinding bindingOf
 binding-took w [] b rest e = let z : _≡_ {A = ℕ} 0 1 = cc in absurd (omega arith)
 binding-took w (x ∷ ws) b rest e =
     by-test (locationWellFormed x)

@@ -13,10 +13,12 @@ use Rattle.interface.specs.Format.{builtInOf}
 use Rattle.type_lists.specs.Meaning.{Binding, Unbound, BuiltIn, StructMember, TypeInner, Scalar, Vector, Matrix, Array, Struct}
 use Rattle.type_lists.specs.Format.{located, numericType, readTypes, decode}
 
-unfoldable pub bindingAt : List ℕ → Binding
-bindingAt ws =
-    pick (eqb (kindOf (wordAt ws 0)) 12) (located (wordAt ws 0) (wordAt ws 1))
-    (pick (eqb (kindOf (wordAt ws 0)) 14) (BuiltIn (builtInOf (wordAt ws 0))) Unbound)
+-- a binding by its first word and the one behind it
+unfoldable pub bindingOf : ℕ → ℕ → Binding
+bindingOf w var = pick (eqb (kindOf w) 12) (located w var) (pick (eqb (kindOf w) 14) (BuiltIn (builtInOf w)) Unbound)
+
+abbrev pub bindingAt : List ℕ → Binding
+bindingAt ws = bindingOf (wordAt ws 0) (wordAt ws 1)
 
 -- a member's words: its type, and a binding of one word or two
 abbrev pub memberWidth : List ℕ → ℕ

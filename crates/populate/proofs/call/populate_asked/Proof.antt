@@ -24,6 +24,7 @@ populate-asked-spec =
     (λ c. search needs)  -- cast-if3
     (λ c κs. search needs)  -- refused-requires-3
     (λ c. search too-short)  -- returns-3
+    (λ c κs. search needs)  -- word-requires-2
     (λ c κs. (search needs, (search needs, search enough)))  -- put-varyings-requires
     (λ c κs. search needs)  -- new-requires
     (λ c. search needs)  -- same-length

@@ -8,16 +8,12 @@ use Rattle.populate.proofs.put.built_in_word.Reads as built-in-word-rea
 use Rattle.populate.proofs.put.var_word.Reads as var-word-reads
 use Rattle.word.proofs.content.Reads as content-reads
 use Rattle.word.proofs.kind.Reads as kind-reads
-use Rattle.word.proofs.word.Reads as word-reads
 
 pub put-bound-spec : {M : Type 1} → statement M
 put-bound-spec =
     tie.close
     (tie.spec
-    (λ c κs. search needs)  -- word-requires
     (λ c κs. search needs)  -- kind-requires
-    (λ c. search needs)  -- add-word
-    (λ c κs. search needs)  -- word-requires-2
     (λ c κs. search needs)  -- var-word-requires
     (λ c κs. search needs)  -- content-requires
     (λ c. search needs)  -- add-out

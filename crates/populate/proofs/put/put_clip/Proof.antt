@@ -5,13 +5,11 @@ use Rattle.populate.proofs.put.put_clip.Tie as tie
 use Rattle.populate.proofs.put.put_clip.Reads as reads
 use Rattle.populate.proofs.put.put_clip.Lts as lts
 use Rattle.type_check.proofs.clips.is_clip.Reads as is-clip-reads
-use Rattle.word.proofs.word.Reads as word-reads
 
 pub put-clip-spec : {M : Type 1} → statement M
 put-clip-spec =
     tie.close
     (tie.spec
-    (λ c κs. search needs)  -- word-requires
     (λ c κs. search needs)  -- is-clip-requires
     (λ c. search clip-none)  -- returns
     (λ c. search needs)  -- add-out

@@ -16,7 +16,7 @@ put-lone-spec =
     (tie.spec
     (λ c κs. search needs)  -- word-requires
     (λ c κs. search needs)  -- kind-requires
-    (λ c κs. (search needs, search numeric-room))  -- put-bound-requires
+    (λ c κs. search numeric-room)  -- put-bound-requires
     (λ c. search needs)  -- same-length
     (λ c. search numeric-put)  -- returns
     (λ c. search needs)  -- add-word

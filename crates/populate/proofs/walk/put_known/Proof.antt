@@ -24,6 +24,6 @@ put-known-spec =
     (λ c κs. (search again-before, search again-room))  -- put-again-requires
     (λ c. search needs)  -- same-length
     (λ c. search again-put)  -- returns-2
-    (λ c κs. ((search needs, search needs, search lone-at), search lone-room))  -- put-lone-requires
+    (λ c κs. ((search needs, search lone-at), search lone-room))  -- put-lone-requires
     (λ c. search needs)  -- same-length-2
     (λ c. search lone-put))  -- returns-3
