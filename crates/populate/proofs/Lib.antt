@@ -2,3 +2,4 @@ pub mod Puts
 pub mod PutWays
 pub mod WalkWays
 pub mod CallWays
+pub mod Examples
