@@ -13,9 +13,6 @@ use Rattle.word.specs.Lists.{flat}
 use Rattle.word.proofs.Truth.{by-test}
 use Rattle.numeric.specs.Types.{kindCode}
 use Rattle.numeric.specs.TypeWords.{shapeCode, shapeAt, kindAt, typeOf, typeWord}
-use Rattle.numeric.specs.declared.types.Scalar as Numeric
-use Rattle.numeric.specs.declared.types.NumericDimension.{NumericDimension}
-use Rattle.numeric.specs.declared.types.NumericDimension.the-variants as D
 use Rattle.numeric.specs.declared.types.NumericType.{NumericType}
 use Rattle.numeric.proofs.Joined.{kind-below, shape-below}
 use Rattle.varying.specs.Format.{varWord}
@@ -29,6 +26,7 @@ use Rattle.type_lists.specs.Rules.{numericGives, arrayGives, typeGives}
 use Rattle.type_check.specs.inner.Positions.{bindingOf, typeAt, structAt}
 use Rattle.type_check.specs.inner.Notes.{wordsOf, clipWord}
 use Rattle.type_check.proofs.ClipWays.{type-22, type-23, clip-bound}
+use Rattle.type_check.proofs.GivenWays.{shaped-gives}
 use Rattle.populate.specs.inner.Written.{put, boundVar, nothing}
 
 -- ---- words
@@ -132,11 +130,6 @@ module _ (w v size : ℕ) (b : Bool) (f : b ≡ clipWord w) (l : List ℕ) (to :
   clip-room n room = let r : to + 1 ≤ length l = rw (clip-words, not-false b n) at room in omega arith
 
 -- ---- by the type
-
-shaped-gives : (d : NumericDimension) (s : Numeric.Scalar) (b : Binding) → typeGives nothing (shaped d s) b ≡ numericGives (record { dim = d; scalar = s }) b
-shaped-gives D.Scalar s b = refl
-shaped-gives (D.Vector size) s b = refl
-shaped-gives (D.Matrix columns rows) s b = refl
 
 array-kind : (ws : List ℕ) (at : ℕ) → structAt ws at ≡ false → (kindOf (wordAt ws at) ≡ 22 → ⊥) → kindOf (wordAt ws at) ≡ 23
 array-kind ws at h n =

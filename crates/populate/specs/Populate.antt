@@ -35,13 +35,13 @@ populated types asked binding out =
     (pick (ltb (length out) (length (givenWords types asked binding))) (refused Number.shortOut, out)
     (answer 0 (length (populate types asked binding)) 0 0, givenWords types asked binding ++ drop (length (givenWords types asked binding)) out)))
 
--- 'A misfiled binding …, or … a clip array not of 1 to 255 f32 or clip distances on a scalar, vector or matrix is 90'; a binding is all of the words lent
+-- 90 for a binding that is malformed or not all of the words lent, and for clip distances where they cannot stand on the asked type
 abbrev pub boundOn : List TypeInner → ℕ → Parsed Binding → List ℕ → Answer × List ℕ
 boundOn types asked fault out = (refused Number.badTypes, out)
 boundOn types asked (got binding []) out = pick (bindingGood types asked binding) (populated types asked binding out) (refused Number.badTypes, out)
 boundOn types asked (got binding (w ∷ ws)) out = (refused Number.badTypes, out)
 
--- 'A misfiled … list, an asked type outside it … is 90'
+-- 90 for a list that is malformed, and for 'an asked type outside it'
 abbrev pub askedOn : Parsed (List TypeInner) → ℕ → Parsed Binding → List ℕ → Answer × List ℕ
 askedOn fault asked binding out = (refused Number.badTypes, out)
 askedOn (got types room) asked binding out = pick (ltb asked (length types)) (boundOn types asked binding out) (refused Number.badTypes, out)

@@ -73,7 +73,7 @@ array-by d size (BuiltIn (In.DrawIndex slots)) = refl
 array-by d size (BuiltIn (In.FragDepth slots)) = refl
 array-by d size (BuiltIn (In.ClipDistances none)) = refl
 
-shaped-gives : (d : NumericDimension) (s : Numeric.Scalar) (b : Binding) → typeGives (λ n binding. []) (shaped d s) b ≡ numericGives (record { dim = d; scalar = s }) b
+pub shaped-gives : (d : NumericDimension) (s : Numeric.Scalar) (b : Binding) → typeGives (λ n binding. []) (shaped d s) b ≡ numericGives (record { dim = d; scalar = s }) b
 shaped-gives D.Scalar s b = refl
 shaped-gives (D.Vector size) s b = refl
 shaped-gives (D.Matrix columns rows) s b = refl

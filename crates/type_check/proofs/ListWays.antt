@@ -21,29 +21,13 @@ use Rattle.interface.proofs.RestoreRecords.{one-then}
 use Rattle.type_check.specs.declared.notes.Note.{Note}
 use Rattle.type_check.specs.declared.notes.Reading.{Reading}
 use Rattle.type_check.specs.inner.Positions.{typeAt, namesBelow, typesOf, earlierOf, declared, accepted, listed}
-use Rattle.type_check.specs.inner.Notes as N
-use Rattle.type_check.specs.inner.Notes.{numberNote, startIn, noteIn, noteWord, Stands, Noted, upto, reachedAt, typeReached}
+use Rattle.type_check.specs.inner.Notes.{numberNote, startIn, noteIn, noteWord, Stands, Noted, reachedAt, typeReached}
 use Rattle.type_check.proofs.Taken.{type-took}
 use Rattle.type_check.proofs.Noting.{Bounded, note-back, start-back}
-use Rattle.type_check.proofs.MemberWays.{went-on}
+use Rattle.type_check.proofs.MemberWays.{went-on, reached-got, reached-fault}
 use Rattle.type_check.proofs.TypeWays.{number-earlier}
 
 -- ---- one type more
-
-reached-got : {G : Type 0} (types : List TypeInner) (ws : List ℕ) (x : Reading) (p : Parsed TypeInner) → reachedAt ws x ≡ typeReached types p → (x .next ≡ 0 → ⊥)
-    → ((t : TypeInner) → p ≡ got t (drop (x .next) ws) → x .note ≡ numberNote (t ∷ types) (length types) → G) → G
-reached-got types ws x fault e n f =
-    absurd (let y : upto (drop (x .next) ws) (x .note) ≡ N.nowhere = rw (ne-eqb (x .next) 0 n) at e in let z : _≡_ {A = ℕ} 0 1 = cc in omega arith)
-reached-got types ws x (got t rest) e n f =
-    let y : upto (drop (x .next) ws) (x .note) ≡ upto rest (numberNote (t ∷ types) (length types)) = rw (ne-eqb (x .next) 0 n) at e in
-    let a : rest ≡ drop (x .next) ws = cc in
-    let b : x .note ≡ numberNote (t ∷ types) (length types) = cc in
-    f t (rw a) b
-
-reached-fault : (types : List TypeInner) (ws : List ℕ) (x : Reading) (p : Parsed TypeInner) → reachedAt ws x ≡ typeReached types p → x .next ≡ 0 → p ≡ fault
-reached-fault types ws x fault e z = refl
-reached-fault types ws x (got t rest) e z =
-    absurd (let y : N.nowhere ≡ upto rest (numberNote (t ∷ types) (length types)) = rw z at e in let q : _≡_ {A = ℕ} 0 1 = cc in omega arith)
 
 -- a type has a word
 some-word : (types : List TypeInner) (l : List ℕ) (t : TypeInner) (rest : List ℕ) → readType types l ≡ got t rest → 1 ≤ length l
@@ -105,18 +89,18 @@ module _ (ws : List ℕ) (i at : ℕ) (e : restAt ws at ≡ behind (readTypes i 
     unfolding readTypes
     types-stop count z k =
         let c : count ≡ i + suc (count - i - 1) = omega arith in
-        rw (c, types-add i (suc (count - i - 1)) [] (drop 1 ws), earlier-read, reached-fault (earlierOf ws i) ws x (readType (earlierOf ws i) (drop at ws)) g z)
+        rw (c, types-add i (suc (count - i - 1)) [] (drop 1 ws), earlier-read, reached-fault (λ t. numberNote (t ∷ earlierOf ws i) (length (earlierOf ws i))) ws x (readType (earlierOf ws i) (drop at ws)) g z)
 
     module _ (n : x .next ≡ 0 → ⊥) where
       pub type-inside : length ws ≤ 1024 → at < 1024
       type-inside few =
-          reached-got (earlierOf ws i) ws x (readType (earlierOf ws i) (drop at ws)) g n λ t q y.
+          reached-got (λ t. numberNote (t ∷ earlierOf ws i) (length (earlierOf ws i))) ws x (readType (earlierOf ws i) (drop at ws)) g n λ t q y.
           omega (arith, some-word (earlierOf ws i) (drop at ws) t (drop (x .next) ws) q, length-drop at ws)
 
       more-read : {G : Type 0} → ((t : TypeInner) → readType (earlierOf ws i) (drop at ws) ≡ got t (drop (x .next) ws) → x .note ≡ numberNote (t ∷ earlierOf ws i) (length (earlierOf ws i))
           → readTypes (i + 1) [] (drop 1 ws) ≡ got (t ∷ earlierOf ws i) (drop (x .next) ws) → G) → G
       more-read f =
-          reached-got (earlierOf ws i) ws x (readType (earlierOf ws i) (drop at ws)) g n λ t q y.
+          reached-got (λ t. numberNote (t ∷ earlierOf ws i) (length (earlierOf ws i))) ws x (readType (earlierOf ws i) (drop at ws)) g n λ t q y.
           f t q y (types-one i [] (drop 1 ws) ∙ rw earlier-read (rw q))
 
       pub types-on : (r : ℕ) → r ≡ x .next → restAt ws r ≡ behind (readTypes (i + 1) [] (drop 1 ws))

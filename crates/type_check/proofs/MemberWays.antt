@@ -21,7 +21,7 @@ use Rattle.type_check.specs.declared.notes.Note.{Note}
 use Rattle.type_check.specs.declared.notes.Reading.{Reading}
 use Rattle.type_check.specs.inner.Positions.{bindingAt, memberAt}
 use Rattle.type_check.specs.inner.Notes as N
-use Rattle.type_check.specs.inner.Notes.{note, noteOf, both, memberNote, membersNote, startIn, givenNote, Noted, Reached, upto, reachedAt, memberReached, membersReached, onward}
+use Rattle.type_check.specs.inner.Notes.{note, noteOf, both, memberNote, membersNote, startIn, givenNote, Noted, Reached, upto, reachedAt, reached, memberReached, membersReached, onward}
 use Rattle.type_check.specs.inner.Clips.{bindingGoodAt}
 use Rattle.type_check.proofs.Taken.{binding-took, member-took}
 use Rattle.type_check.proofs.Noting.{Bounded, of-bounded, members-more, members-first, members-end}
@@ -148,20 +148,21 @@ onward-on : (types : List TypeInner) (p : Parsed (List StructMember)) (total : N
 onward-on types fault total m = refl
 onward-on types (got members rest) total m = rw (members-more types total m members)
 
-reached-got : (types : List TypeInner) (ws : List ℕ) (x : Reading) (p : Parsed StructMember) (G : Type 0) → reachedAt ws x ≡ memberReached types p → (x .next ≡ 0 → ⊥)
-    → ((m : StructMember) → p ≡ got m (drop (x .next) ws) → x .note ≡ memberNote types m → G) → G
-reached-got types ws x fault G e n f =
+-- a reader whose note was noted where it stopped has got something, and one that stopped nowhere has found a fault
+pub reached-got : {A G : Type 0} (note-of : A → Note) (ws : List ℕ) (x : Reading) (p : Parsed A) → reachedAt ws x ≡ reached note-of p → (x .next ≡ 0 → ⊥)
+    → ((a : A) → p ≡ got a (drop (x .next) ws) → x .note ≡ note-of a → G) → G
+reached-got note-of ws x fault e n f =
     absurd (let y : upto (drop (x .next) ws) (x .note) ≡ N.nowhere = rw (ne-eqb (x .next) 0 n) at e in let z : _≡_ {A = ℕ} 0 1 = cc in omega arith)
-reached-got types ws x (got m rest) G e n f =
-    let y : upto (drop (x .next) ws) (x .note) ≡ upto rest (memberNote types m) = rw (ne-eqb (x .next) 0 n) at e in
-    let a : rest ≡ drop (x .next) ws = cc in
-    let b : x .note ≡ memberNote types m = cc in
-    f m (rw a) b
+reached-got note-of ws x (got a rest) e n f =
+    let y : upto (drop (x .next) ws) (x .note) ≡ upto rest (note-of a) = rw (ne-eqb (x .next) 0 n) at e in
+    let b : rest ≡ drop (x .next) ws = cc in
+    let c : x .note ≡ note-of a = cc in
+    f a (rw b) c
 
-reached-fault : (types : List TypeInner) (ws : List ℕ) (x : Reading) (p : Parsed StructMember) → reachedAt ws x ≡ memberReached types p → x .next ≡ 0 → p ≡ fault
-reached-fault types ws x fault e z = refl
-reached-fault types ws x (got m rest) e z =
-    absurd (let y : N.nowhere ≡ upto rest (memberNote types m) = rw z at e in let q : _≡_ {A = ℕ} 0 1 = cc in omega arith)
+pub reached-fault : {A : Type 0} (note-of : A → Note) (ws : List ℕ) (x : Reading) (p : Parsed A) → reachedAt ws x ≡ reached note-of p → x .next ≡ 0 → p ≡ fault
+reached-fault note-of ws x fault e z = refl
+reached-fault note-of ws x (got a rest) e z =
+    absurd (let y : N.nowhere ≡ upto rest (note-of a) = rw z at e in let q : _≡_ {A = ℕ} 0 1 = cc in omega arith)
 
 module _ (types : List TypeInner) (ws : List ℕ) (k at : ℕ) (total : Note) (goal : Reached) (inv : goal ≡ onward total (membersReached types (several k (readMember types) (drop at ws))))
     (h : k ≡ 0 → ⊥) (x : Reading) (e : reachedAt ws x ≡ memberReached types (readMember types (drop at ws))) where
@@ -175,12 +176,12 @@ module _ (types : List TypeInner) (ws : List ℕ) (k at : ℕ) (total : Note) (g
       step (suc k) n = rw sub-one
 
   pub members-stop : (y : Reading) → x .next ≡ 0 → y .next ≡ 0 → reachedAt ws y ≡ goal
-  members-stop y z o = sym (inv ∙ rw (several-on, reached-fault types ws x (readMember types (drop at ws)) e z, o))
+  members-stop y z o = sym (inv ∙ rw (several-on, reached-fault (memberNote types) ws x (readMember types (drop at ws)) e z, o))
 
   pub members-on : (later t : Note) (next-at : ℕ) → (x .next ≡ 0 → ⊥) → t ≡ x .note → later ≡ both total t → next-at ≡ x .next
       → goal ≡ onward later (membersReached types (several (k - 1) (readMember types) (drop next-at ws)))
   members-on later t next-at z y f g =
-      reached-got types ws x (readMember types (drop at ws)) (goal ≡ onward later (membersReached types (several (k - 1) (readMember types) (drop next-at ws)))) e z λ m q n.
+      reached-got (memberNote types) ws x (readMember types (drop at ws)) e z λ m q n.
       inv ∙ rw (several-on, q) (onward-on types (several (k - 1) (readMember types) (drop (x .next) ws)) total m ∙ rw (← n, ← y, ← f, g))
 
 pub members-done : (types : List TypeInner) (ws : List ℕ) (k at : ℕ) (total : Note) (goal : Reached) → goal ≡ onward total (membersReached types (several k (readMember types) (drop at ws)))

@@ -84,18 +84,19 @@ pub data Reached : Type 0 where
 abbrev pub reachedAt : List ℕ → Reading → Reached
 reachedAt ws r = pick (eqb (r .next) 0) nowhere (upto (drop (r .next) ws) (r .note))
 
+abbrev pub reached : {A : Type 0} → (A → Note) → Parsed A → Reached
+reached note-of fault = nowhere
+reached note-of (got a rest) = upto rest (note-of a)
+
 abbrev pub memberReached : List TypeInner → Parsed StructMember → Reached
-memberReached types fault = nowhere
-memberReached types (got m rest) = upto rest (memberNote types m)
+memberReached types = reached (memberNote types)
 
 abbrev pub membersReached : List TypeInner → Parsed (List StructMember) → Reached
-membersReached types fault = nowhere
-membersReached types (got members rest) = upto rest (membersNote types members)
+membersReached types = reached (membersNote types)
 
 -- a type behind earlier ones
 abbrev pub typeReached : List TypeInner → Parsed TypeInner → Reached
-typeReached earlier fault = nowhere
-typeReached earlier (got t rest) = upto rest (numberNote (t ∷ earlier) (length earlier))
+typeReached earlier = reached (λ t. numberNote (t ∷ earlier) (length earlier))
 
 -- a struct of the members that were read
 abbrev pub structOf : Parsed (List StructMember) → Parsed TypeInner
