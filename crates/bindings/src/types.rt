@@ -1,21 +1,21 @@
 // What a shader's resource is, and what a bind group layout provides.
 
 // A place in a pipeline layout.
-#[derive(Drop)]
+#[derive(Clone, Copy)]
 pub struct ResourceBinding {
     pub group: u32,
     pub binding: u32,
 }
 
 // Where a buffer lives. Access is the sum of 1 load, 2 store and 4 atomic.
-#[derive(Drop)]
+#[derive(Clone, Copy)]
 pub enum AddressSpace {
     Uniform,
     Storage { access: u32 },
     Other,
 }
 
-#[derive(Drop)]
+#[derive(Clone, Copy)]
 pub enum ImageDimension {
     D1,
     D2,
@@ -24,14 +24,14 @@ pub enum ImageDimension {
 }
 
 // What sampling a texture gives.
-#[derive(Drop)]
+#[derive(Clone, Copy)]
 pub enum SampleKind {
     Float,
     Sint,
     Uint,
 }
 
-#[derive(Drop)]
+#[derive(Clone, Copy)]
 pub enum ImageClass {
     Sampled { kind: SampleKind, multi: bool },
     Depth { multi: bool },
@@ -39,7 +39,7 @@ pub enum ImageClass {
     External,
 }
 
-#[derive(Drop)]
+#[derive(Clone, Copy)]
 pub enum ResourceType {
     Buffer {
         size: u64,
@@ -58,26 +58,26 @@ pub enum ResourceType {
     },
 }
 
-#[derive(Drop)]
+#[derive(Clone, Copy)]
 pub struct Resource {
     pub bind: ResourceBinding,
     pub ty: ResourceType,
 }
 
-#[derive(Drop)]
+#[derive(Clone, Copy)]
 pub enum BufferBindingType {
     Uniform,
     Storage { read_only: bool },
 }
 
-#[derive(Drop)]
+#[derive(Clone, Copy)]
 pub enum SamplerBindingType {
     Filtering,
     NonFiltering,
     Comparison,
 }
 
-#[derive(Drop)]
+#[derive(Clone, Copy)]
 pub enum TextureSampleType {
     Float { filterable: bool },
     Depth,
@@ -85,7 +85,7 @@ pub enum TextureSampleType {
     Uint,
 }
 
-#[derive(Drop)]
+#[derive(Clone, Copy)]
 pub enum TextureViewDimension {
     D1,
     D2,
@@ -95,7 +95,7 @@ pub enum TextureViewDimension {
     D3,
 }
 
-#[derive(Drop)]
+#[derive(Clone, Copy)]
 pub enum StorageTextureAccess {
     ReadOnly,
     WriteOnly,
@@ -104,7 +104,7 @@ pub enum StorageTextureAccess {
 }
 
 // What a layout entry provides. A least size of 0 is none.
-#[derive(Drop)]
+#[derive(Clone, Copy)]
 pub enum BindingType {
     Buffer {
         ty: BufferBindingType,
@@ -131,7 +131,7 @@ pub enum BindingType {
 }
 
 // An entry of a layout: visibility is the sum of 2 to the power of each stage's number.
-#[derive(Drop)]
+#[derive(Clone, Copy)]
 pub struct BindGroupLayoutEntry {
     pub bind: ResourceBinding,
     pub ty: BindingType,
@@ -139,7 +139,7 @@ pub struct BindGroupLayoutEntry {
 }
 
 // Whether a layout entry serves a resource, and if not, why.
-#[derive(Drop)]
+#[derive(Clone, Copy)]
 pub enum BindingUse {
     Accepted,
     WrongType,
@@ -152,7 +152,7 @@ pub enum BindingUse {
 }
 
 // The binding type that a resource asks for, or that its address space has none.
-#[derive(Drop)]
+#[derive(Clone, Copy)]
 pub enum Derived {
     Binding { ty: BindingType },
     WrongBufferAddressSpace,

@@ -1,4 +1,6 @@
 // What a board's firmware links: the checks over plain numbers and slices, under names that begin with the product's.
+#![tactic(auto)]
+
 ghost use Rattle.std.specs.Prelude.{◌≡◌};
 ghost use Rattle.formats.specs.Formats.{vertex_format, texture_format, format_answer, check_texture_format};
 ghost use Rattle.numeric.specs.TypeWords.{read_type, compare_types, subtype_number};

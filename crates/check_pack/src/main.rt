@@ -1,12 +1,14 @@
 // Reads a pack's bytes from standard input and prints what the gate says of it: a line for each entry point and the
 // layout words, or why the pack is refused.
 // Where standard input cannot be read it says so on standard error and prints nothing.
+#![tactic(auto)]
+
 ghost use Rattle.io.specs.Counts.{IsPrefixLen};
 
 use libc::{STDERR_FILENO, STDIN_FILENO, STDOUT_FILENO};
 
 // How many bytes were read, and whether a read failed.
-#[derive(Drop)]
+#[derive(Clone, Copy)]
 struct Input {
     count: usize,
     failed: bool,

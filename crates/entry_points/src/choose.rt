@@ -14,7 +14,7 @@ use word::answer::Answer;
 use word::numbers;
 
 // Which entry point a call means, by its position among all entry points.
-#[derive(Drop)]
+#[derive(Clone, Copy)]
 pub enum Chosen {
     At { position: usize },
     Absent,

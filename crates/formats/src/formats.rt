@@ -10,7 +10,7 @@ use word::answer::Answer;
 use word::numbers;
 
 // The type of a format's data, as a shader sees it.
-#[derive(Drop)]
+#[derive(Clone, Copy)]
 pub enum FormatType {
     Known(NumericType),
     NoColour,

@@ -7,7 +7,7 @@ use word::answer::Answer;
 use word::numbers;
 
 // The three dimensions that are judged, and the limit on their product.
-#[derive(Drop)]
+#[derive(Clone, Copy)]
 pub struct WorkgroupSizeCheck<'a> {
     pub dimensions: &'a [u32],
     pub total_limit: u32,

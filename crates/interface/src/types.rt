@@ -1,7 +1,7 @@
 // What an entry point is made of.
 use varying::InterfaceVar;
 
-#[derive(Drop)]
+#[derive(Clone, Copy)]
 pub enum ShaderStage {
     Vertex,
     Fragment,
@@ -10,7 +10,7 @@ pub enum ShaderStage {
     Mesh,
 }
 
-#[derive(Drop)]
+#[derive(Clone, Copy)]
 pub enum PrimitiveTopology {
     PointList,
     LineList,
@@ -20,21 +20,21 @@ pub enum PrimitiveTopology {
 }
 
 // What a mesh stage puts out at most.
-#[derive(Drop)]
+#[derive(Clone, Copy)]
 pub struct EntryPointMeshInfo {
     pub max_vertices: u32,
     pub max_primitives: u32,
     pub primitive_topology: PrimitiveTopology,
 }
 
-#[derive(Drop)]
+#[derive(Clone, Copy)]
 pub enum MeshRecord {
     Absent,
     Info { info: EntryPointMeshInfo },
 }
 
 // A built-in variable: how many inter-stage slots it takes, and of clip distances how many there are.
-#[derive(Drop)]
+#[derive(Clone, Copy)]
 pub enum BuiltIn {
     Other { places: u32 },
     PrimitiveIndex { places: u32 },
@@ -43,21 +43,21 @@ pub enum BuiltIn {
     ClipDistances { array_size: u32 },
 }
 
-#[derive(Drop)]
+#[derive(Clone, Copy)]
 pub enum Varying {
     Local { location: u32, iv: InterfaceVar },
     BuiltIn { built_in: BuiltIn },
 }
 
 // A texture that a shader samples with a sampler, both by their index among the pack's resources.
-#[derive(Drop)]
+#[derive(Clone, Copy)]
 pub struct SamplingPair {
     pub texture: u32,
     pub sampler: u32,
 }
 
 // A workgroup's dimensions.
-#[derive(Drop)]
+#[derive(Clone, Copy)]
 pub struct WorkgroupSize {
     pub x: u32,
     pub y: u32,
@@ -65,7 +65,7 @@ pub struct WorkgroupSize {
 }
 
 // The limits that a pack is checked against.
-#[derive(Drop)]
+#[derive(Clone, Copy)]
 pub struct Limits {
     pub max_inter_stage_shader_variables: u32,
     pub max_color_attachments: u32,
@@ -83,7 +83,7 @@ pub struct Limits {
 }
 
 // Where the parts of an entry point stand in the pack. The payload is the word behind the workgroup size, and a mesh record follows it.
-#[derive(Drop)]
+#[derive(Clone, Copy)]
 pub struct EntryParts {
     pub head: usize,
     pub workgroup: usize,

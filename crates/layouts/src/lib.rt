@@ -1,3 +1,5 @@
 // Layout lists: whether words are one, look-ups, new entries, and stages joined.
+#![tactic(auto)]
+
 pub mod layout;
 pub mod visibility;

@@ -8,14 +8,14 @@ use crate::types::{
 use word::numbers;
 
 // What a lone type word holds.
-#[derive(Drop)]
+#[derive(Clone, Copy)]
 pub enum TypeRead {
     Numeric(NumericType),
     Bad,
 }
 
 // Two lone type words compared.
-#[derive(Drop)]
+#[derive(Clone, Copy)]
 pub enum Compared {
     Types(Fit),
     Unknown,

@@ -2,7 +2,7 @@
 ghost use Rattle.std.specs.Prelude.{◌≡◌, Bool, ◌≤◌};
 ghost use Rattle.numeric.specs.Types.{kind_code, size_code, shape_fits, subtype_of, fits};
 
-#[derive(Drop)]
+#[derive(Clone, Copy)]
 pub enum ScalarKind {
     Sint,
     Uint,
@@ -11,34 +11,34 @@ pub enum ScalarKind {
 }
 
 // The width is in bytes.
-#[derive(Drop)]
+#[derive(Clone, Copy)]
 pub struct Scalar {
     pub kind: ScalarKind,
     pub width: u8,
 }
 
-#[derive(Drop)]
+#[derive(Clone, Copy)]
 pub enum VectorSize {
     Bi,
     Tri,
     Quad,
 }
 
-#[derive(Drop)]
+#[derive(Clone, Copy)]
 pub enum NumericDimension {
     Scalar,
     Vector(VectorSize),
     Matrix(VectorSize, VectorSize),
 }
 
-#[derive(Drop)]
+#[derive(Clone, Copy)]
 pub struct NumericType {
     pub dim: NumericDimension,
     pub scalar: Scalar,
 }
 
 // Whether a type fits where another is provided, and if not, why.
-#[derive(Drop)]
+#[derive(Clone, Copy)]
 pub enum Fit {
     Fits,
     TooWide,

@@ -1,4 +1,6 @@
 // The outputs of an entry point, the slots between stages, and the list out.
+#![tactic(auto)]
+
 pub mod list_out;
 pub mod outputs;
 pub mod types;

@@ -1,5 +1,5 @@
 // Where something stands in a list.
-#[derive(Drop)]
+#[derive(Clone, Copy)]
 pub enum Found {
     At { index: usize },
     Nothing,

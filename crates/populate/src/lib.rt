@@ -1,4 +1,6 @@
 // The varyings that a declared type gives.
+#![tactic(auto)]
+
 pub mod call;
 pub mod put;
 pub mod walk;

@@ -1,4 +1,6 @@
 // What the program that checks a pack prints: a line for each entry point and the layout words, or why the pack is refused.
+#![tactic(auto)]
+
 ghost use Rattle.std.specs.Prelude.{◌≡◌, ◌++◌, ◌+◌, ◌*◌, ◌≤◌, ◌<◌, length, drop};
 ghost use Rattle.interface.specs.Format.{decode};
 ghost use Rattle.report.specs.Text.{hex_lines};

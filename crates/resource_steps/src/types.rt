@@ -2,7 +2,7 @@
 use word::answer::Answer;
 
 // Resources in list order, up to the first that is refused: the answer, and how many passed.
-#[derive(Drop)]
+#[derive(Clone, Copy)]
 pub struct Checked {
     pub answer: Answer,
     pub passed: u32,

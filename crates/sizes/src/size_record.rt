@@ -1,7 +1,7 @@
 // The largest size that shaders ask for at a place.
 use bindings::types::ResourceBinding;
 
-#[derive(Drop)]
+#[derive(Clone, Copy)]
 pub struct SizeRecord {
     pub bind: ResourceBinding,
     pub size: u64,

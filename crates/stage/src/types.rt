@@ -1,7 +1,7 @@
 // What a stage check is given, and what its steps come to.
 
 // The numbers of a call.
-#[derive(Drop)]
+#[derive(Clone, Copy)]
 pub struct Codes {
     pub stage: u32,
     pub topology: u32,

@@ -2,7 +2,7 @@
 use varying::InterfaceVar;
 
 // Whether the stage before wrote a primitive index; none where it is no mesh stage.
-#[derive(Drop)]
+#[derive(Clone, Copy)]
 pub enum PrimitiveIndex {
     None,
     False,
@@ -10,7 +10,7 @@ pub enum PrimitiveIndex {
 }
 
 // What the stage before provides at a location.
-#[derive(Drop)]
+#[derive(Clone, Copy)]
 pub enum Provided {
     Var { var: InterfaceVar },
     Missing,

@@ -2,6 +2,8 @@
 // The stored output is from the original Rust, by oracle/ on the same words in the order printed here, its numbers turned into signs.
 // The Rust has no words: where they are no resource or no entry the oracle gives document 01's 2 or 3, and beside 24 the place.
 // Each answer is given by value and by the rules on words, and has a question mark where the two differ.
+#![tactic(auto)]
+
 ghost use Rattle.std.specs.Prelude.{◌+◌, ◌<◌, ◌^◌};
 
 use binding_rules::check_words::{check_words, derive_words};

@@ -1,6 +1,8 @@
 // Prints the answers on formats and types, a line each in decimal: what was asked, the number, and the first detail where there is one.
 // The stored output is from the original Rust, by oracle/ on its cases vertex, texture, subtype and format in the order printed here, details in decimal.
 // The Rust has no answer 82 and panics at 80: there the oracle gives document 01's number.
+#![tactic(auto)]
+
 use libc::STDOUT_FILENO;
 
 // Lone type words: scalars, vectors, matrices, and five that are no type (shape 13, width 3, bit 12, bit 26, kind 12).

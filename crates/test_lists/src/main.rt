@@ -3,6 +3,8 @@
 // Asked is 0 whether it is a layout, a size or a stage list; of a layout 1 to look, 2 to join a stage, 3 to push an entry; 4 to record a
 // size; of a stage list 5 to look, 6 to begin a list out, 7 to insert a variable. The last argument of 1, 4 and 5 is a position to try first.
 // Input and stored output are from tools/lists_expected.py, a model of document 01's text.
+#![tactic(auto)]
+
 ghost use Rattle.std.specs.Prelude.{◌≡◌, length};
 
 use test_text::read::{at_most, next};

@@ -3,6 +3,8 @@
 // Lines `1 WORD A B C`: the same with the closing sum renewed. Lines `2 N ANSWER`: the first N words alone.
 // Lines `3 N ANSWER`: the first N words, or all and zeros behind them, with total and sum renewed.
 // The stored output is from the program `model` of oracle/ on the same packs, by tools/packs_expected.py.
+#![tactic(auto)]
+
 ghost use Rattle.std.specs.Prelude.{◌≡◌, ◌<◌, ◌≤◌, length};
 
 use libc::STDOUT_FILENO;

@@ -5,14 +5,14 @@ ghost use Rattle.io.specs.Counts.{IsPrefixLen};
 // In place of the position behind what is not there. Nothing stands there either.
 const NOWHERE: usize = usize::MAX;
 
-#[derive(Drop)]
+#[derive(Clone, Copy)]
 pub(crate) struct Number {
     pub(crate) value: u32,
     pub(crate) end: usize,
 }
 
 // The words that were read are as many as `count` says.
-#[derive(Drop)]
+#[derive(Clone, Copy)]
 pub(crate) struct List {
     pub(crate) count: usize,
     pub(crate) end: usize,

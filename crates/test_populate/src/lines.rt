@@ -4,7 +4,7 @@ ghost use Rattle.io.specs.Counts.{IsPrefixLen};
 use test_text::read;
 
 // How many bytes of a line were kept, and the byte that ended it: a newline, or 0 at the end of the input.
-#[derive(Drop)]
+#[derive(Clone, Copy)]
 pub(crate) struct Line {
     pub(crate) count: usize,
     pub(crate) last: u8,

@@ -1,6 +1,8 @@
 // Makes recorded calls of `populate_types` and prints an answer a line, to be held to what the Rust answered; oracle/README.md has the form
 // of both, `populate TYPES ASKED BINDING OUT` and `NUMBER D1 D2 D3 OUT`, and says how they are made.
 // A line that is no such case, or has more than there is space for, is answered `bad`.
+#![tactic(auto)]
+
 use crate::fields::{behind, behind_text, list_at, number_at};
 use crate::lines::read_line;
 use libc::STDOUT_FILENO;

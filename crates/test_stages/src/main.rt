@@ -2,6 +2,8 @@
 // Input is how many cases, then for each twelve words, low byte first: the sort (0 a stage check, 1 a choice without a name), the lengths of
 // pack, layout, sizes, inputs, list out and name, then stage, topology, mode, dual source and depth; and behind them the lists and the name.
 // A line has number and three details, and for a stage check what changed in layout, sizes and list out, as position:word.
+#![tactic(auto)]
+
 use entry_points::choose::finalize_entry_point_name;
 use stage::check::check_stage;
 use stage::types::Codes;

@@ -3,7 +3,7 @@ ghost use Rattle.std.specs.Prelude.{◌≡◌, ◌+◌, ◌<◌, ◌≤◌, ◌^
 ghost use Rattle.type_check.specs.Inner.Notes.{note, both, start_in, note_in, note_word};
 
 // How deep structs nest in a type, at most 9; how many varyings it gives, at most 64; and how many words they take, at most 128.
-#[derive(Drop)]
+#[derive(Clone, Copy)]
 pub struct Note {
     pub depth: u32,
     pub count: u32,
@@ -11,7 +11,7 @@ pub struct Note {
 }
 
 // Where a reader stopped, 0 where it found a fault, and what is noted of what it read.
-#[derive(Drop)]
+#[derive(Clone, Copy)]
 pub struct Reading {
     pub next: usize,
     pub note: Note,

@@ -1,4 +1,6 @@
 // What passes between stages: a variable at a location, and the payload of a task stage.
+#![tactic(auto)]
+
 ghost use Rattle.std.specs.Prelude.{◌≡◌, true};
 ghost use Rattle.varying.specs.Format.{var_well_formed, var_of, location_well_formed, payload_well_formed, payload_of};
 ghost use Rattle.varying.specs.Rules.{same_payload};
@@ -6,7 +8,7 @@ ghost use Rattle.varying.specs.Rules.{same_payload};
 use numeric::types::NumericType;
 
 // Interpolation is 0 for none, 4 for per vertex and 1 to 3 for the others; sampling is 0 for none and 1 to 5.
-#[derive(Drop)]
+#[derive(Clone, Copy)]
 pub struct InterfaceVar {
     pub ty: NumericType,
     pub interpolation: u32,
@@ -15,14 +17,14 @@ pub struct InterfaceVar {
 }
 
 // A variable at a location.
-#[derive(Drop)]
+#[derive(Clone, Copy)]
 pub struct Located {
     pub location: u32,
     pub var: InterfaceVar,
 }
 
 // The task payload of a stage, in bytes.
-#[derive(Drop)]
+#[derive(Clone, Copy)]
 pub enum Payload {
     Absent,
     Size { bytes: u32 },

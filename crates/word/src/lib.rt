@@ -1,4 +1,6 @@
 // Words of 32 bits: a total read, the kind and the content of a word, the closing sum, and the answer of a check.
+#![tactic(auto)]
+
 pub mod answer;
 pub mod numbers;
 

@@ -1,0 +1,11 @@
+use Rattle.word.proofs.Tests.{tests}
+use Rattle.bindings.proofs.resource_words.space_at.Goals as goal
+
+pub returns-then-code-eq0 : goal.returns-then-code-eq0
+returns-then-code-eq0 c = search tests
+
+pub returns-then-code-eq1 : goal.returns-then-code-eq1
+returns-then-code-eq1 c = search tests
+
+pub returns : goal.returns
+returns c = search tests

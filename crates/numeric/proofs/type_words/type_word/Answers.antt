@@ -1,0 +1,6 @@
+use Rattle.numeric.proofs.TypeWords.{word_parts}
+use borrow.Author.Rules.{rules}
+use Rattle.numeric.proofs.type_words.type_word.Goals as goal
+
+pub returns : goal.returns
+returns c = search word_parts
