@@ -3,7 +3,8 @@ use Prim.Native.Nat.{ℕ, zero, suc, ◌+◌, ◌-◌, ◌*◌, ◌%◌, ◌<◌
 use native.Mathlib.Omega.{arith}
 use mathlib.Core.Path.{◌≡◌, refl, sym, ◌∙◌}
 use mathlib.Core.Bool.{Bool, true, false, not, ◌&&◌}
-use mathlib.Core.List.{List, []}
+use mathlib.Core.List.{List, [], ◌∷◌}
+use Rattle.varying.specs.declared.Located.{Located}
 use lib.Dec.{eqb, leb, ltb}
 use lib.ListN.{length, drop}
 use lib.Seq.{drop-drop}
@@ -74,13 +75,16 @@ located_var l at b e h =
 
 -- ---- rising locations
 
+rising_pair : (v w : Located) (vs : List Located) → rising (v ∷ w ∷ vs) ≡ pick (ltb v.location w.location) (rising (w ∷ vs)) false
+unfolding rising
+rising_pair v w vs = refl
+
 rising_step : (l : List ℕ) (k at : ℕ) → 2 ≤ k → rising (read_varyings k (drop at l))
     ≡ pick (ltb (content_of (word_at l at)) (content_of (word_at l (at + 2)))) (rising (read_varyings (k - 1) (drop (at + 2) l))) false
-unfolding rising
 rising_step l k at h =
     let z : k ≡ 0 → ⊥ = λ e. omega arith in
     let y : k - 1 ≡ 0 → ⊥ = λ e. omega arith in
-    rw (left_cons 2 read_located l k at z, left_cons 2 read_located l (k - 1) (at + 2) y, first_of l at, first_of l (at + 2))
+    rw (left_cons 2 read_located l k at z, left_cons 2 read_located l (k - 1) (at + 2) y, rising_pair, first_of l at, first_of l (at + 2))
 
 rising_end : (k : ℕ) (ws : List ℕ) → k < 2 → rising (read_varyings k ws) ≡ true
 unfolding rising records

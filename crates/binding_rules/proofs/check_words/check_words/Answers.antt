@@ -1,0 +1,12 @@
+use Rattle.binding_rules.proofs.AnswerLaws.{check_no_resource, check_no_entry, check_found}
+use borrow.Author.Rules.{rules}
+use Rattle.binding_rules.proofs.check_words.check_words.Goals as goal
+
+pub returns-then-not-resource_alone : goal.returns-then-not-resource_alone
+returns-then-not-resource_alone c = search check_no_resource
+
+pub returns-then-not-entry_alone : goal.returns-then-not-entry_alone
+returns-then-not-entry_alone c = search check_no_entry
+
+pub returns : goal.returns
+returns c = search check_found

@@ -1,0 +1,18 @@
+use Rattle.binding_rules.proofs.AnswerLaws.{derive_no_resource, derive_found, derive_none, derive_encodable}
+use borrow.Author.Rules.{rules}
+use Rattle.binding_rules.proofs.check_words.derive_words.Goals as goal
+
+pub returns-then-not-resource_alone : goal.returns-then-not-resource_alone
+returns-then-not-resource_alone c = search derive_no_resource
+
+pub binding_word-requires : goal.binding_word-requires
+binding_word-requires c = search derive_encodable
+
+pub least_word-requires : goal.least_word-requires
+least_word-requires c = search derive_encodable
+
+pub returns-in-Binding : goal.returns-in-Binding
+returns-in-Binding c = search derive_found
+
+pub returns-in-WrongBufferAddressSpace : goal.returns-in-WrongBufferAddressSpace
+returns-in-WrongBufferAddressSpace c = search derive_none

@@ -1,0 +1,9 @@
+use Rattle.interface.proofs.ReadsParts.{resource_buffer, resource_other}
+use borrow.Author.Rules.{rules}
+use Rattle.interface.proofs.parts.resource_end.Goals as goal
+
+pub returns-then-word-eq0-clause-value : goal.returns-then-word-eq0-clause-value
+returns-then-word-eq0-clause-value c = search resource_buffer
+
+pub returns-clause-value : goal.returns-clause-value
+returns-clause-value c = search resource_other

@@ -1,0 +1,12 @@
+use Rattle.interface.proofs.ReadsWays.{word_there, resources_counted, resources_few}
+use borrow.Author.Rules.{rules}
+use Rattle.interface.proofs.reads.resource_count.Goals as goal
+
+pub bounds-pack-1 : goal.bounds-pack-1
+bounds-pack-1 c = search word_there
+
+pub returns-clause-value : goal.returns-clause-value
+returns-clause-value c = search resources_counted
+
+pub returns-clause-upper_bound : goal.returns-clause-upper_bound
+returns-clause-upper_bound c = search resources_few

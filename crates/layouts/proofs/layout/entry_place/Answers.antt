@@ -1,0 +1,6 @@
+use Rattle.layouts.proofs.LayoutStores.{place_there}
+use borrow.Author.Rules.{rules}
+use Rattle.layouts.proofs.layout.entry_place.Goals as goal
+
+pub returns : goal.returns
+returns c = search place_there

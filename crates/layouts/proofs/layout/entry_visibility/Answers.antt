@@ -1,0 +1,6 @@
+use Rattle.layouts.proofs.LayoutStores.{visibility_there}
+use borrow.Author.Rules.{rules}
+use Rattle.layouts.proofs.layout.entry_visibility.Goals as goal
+
+pub returns : goal.returns
+returns c = search visibility_there

@@ -1,0 +1,27 @@
+use Rattle.layouts.proofs.LayoutStores.{entry_scaled, entry_placed, word_placed, word_bytes, word_inside, join_stored, join_decoded, join_well_formed}
+use borrow.Author.Rules.{rules}
+use Rattle.layouts.proofs.layout.join_visibility.Goals as goal
+
+pub overflow_mul-at : goal.overflow_mul-at
+overflow_mul-at c = search entry_scaled
+
+pub overflow_add-at : goal.overflow_add-at
+overflow_add-at c = search entry_placed
+
+pub overflow_add-at-2 : goal.overflow_add-at-2
+overflow_add-at-2 c = search (word_placed, rules)
+
+pub offset_bounds-l-at : goal.offset_bounds-l-at
+offset_bounds-l-at c = search (word_bytes, rules)
+
+pub bounds-l-at : goal.bounds-l-at
+bounds-l-at c = search (word_inside, rules)
+
+pub returns-clause-l_after : goal.returns-clause-l_after
+returns-clause-l_after c = search join_stored
+
+pub returns-clause-l_after_2 : goal.returns-clause-l_after_2
+returns-clause-l_after_2 c = search join_decoded
+
+pub returns-clause-l_after_3 : goal.returns-clause-l_after_3
+returns-clause-l_after_3 c = search join_well_formed

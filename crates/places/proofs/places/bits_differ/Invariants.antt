@@ -1,0 +1,18 @@
+use Prim.Native.Nat.{◌+◌, ◌-◌, ◌*◌, ◌<◌, ◌≤◌, ◌^◌}
+use mathlib.Core.Path.{◌≡◌}
+use mathlib.Core.Bool.{true}
+use lib.ListN.{drop}
+use Rattle.places.specs.Places.{distinct_places, places}
+use Rattle.word.specs.Lists.{every}
+use Rattle.places.specs.Inner.Marks.{taken}
+use Rattle.places.proofs.MarkLaws.{records_fit, end_fits, record_fits, record_within, record_starts, marks_begin, marked_begins, bits_onward, bits_apart, differ_not, differ_all}
+use borrow.Author.Rules.{rules}
+use Rattle.places.proofs.places.bits_differ.Given as goal
+
+abbrev pub invariant-loop-left : goal.invariant-loop-left
+invariant-loop-left l =
+    (l.left ≤ l.n) × (l.at < 2 ^ 30) × (l.at ≡ 1 + l.width * l.left) × (every (taken l.mask) (places l.width (l.n - l.left) (drop l.at l.l)) ≡ true)
+    × (distinct_places (places l.width (l.n - l.left) (drop l.at l.l)) ≡ true)
+
+abbrev pub decreases-loop-left : goal.decreases-loop-left
+decreases-loop-left l = l.left

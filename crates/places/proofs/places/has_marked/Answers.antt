@@ -1,0 +1,6 @@
+use borrow.Author.Rules.{rules}
+use Rattle.places.proofs.MarkLaws.{unmarked, mark_lacks}
+use Rattle.places.proofs.places.has_marked.Goals as goal
+
+pub returns-then-marks-slot-eq0 : goal.returns-then-marks-slot-eq0
+returns-then-marks-slot-eq0 c = search (unmarked, mark_lacks)

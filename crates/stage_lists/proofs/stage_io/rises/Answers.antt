@@ -1,0 +1,17 @@
+use Prim.Native.Nat.{◌≤◌, ◌+◌, ◌*◌}
+use mathlib.Core.Path.{◌≡◌}
+use lib.ListN.{length, drop}
+use Rattle.stage_lists.specs.Meaning.{rising}
+use Rattle.stage_lists.specs.Format.{read_varyings}
+use Rattle.stage_lists.proofs.StageWays.{rising_falls, rising_onward, rising_ended}
+use borrow.Author.Rules.{rules}
+use Rattle.stage_lists.proofs.stage_io.rises.Goals as goal
+
+pub returns-then-l-at : goal.returns-then-l-at
+returns-then-l-at c = search rising_falls
+
+pub loop-left-preserved : goal.loop-left-preserved
+loop-left-preserved c = (search rules, search rising_onward)
+
+pub returns : goal.returns
+returns c = search rising_ended

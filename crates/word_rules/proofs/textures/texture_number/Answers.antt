@@ -1,0 +1,6 @@
+use Rattle.word_rules.proofs.TextureLaws.{on_other}
+use borrow.Author.Rules.{rules}
+use Rattle.word_rules.proofs.textures.texture_number.Goals as goal
+
+pub returns : goal.returns
+returns c = search on_other
