@@ -1,4 +1,3 @@
 pub mod InputLaws
-pub mod LendLaws
 pub mod VaryingLaws
 pub mod WorkgroupLaws

@@ -81,6 +81,8 @@ head_at_lem rs ws at = moved (read_entry_point rs (drop at ws)) (head_read rs (d
 
 headed_append : (ws hs : List ℕ) (es : List EntryPoint) (h : ℕ) (e : EntryPoint) → Headed ws hs es → HeadAt ws h e → Headed ws (hs ++ (h ∷ [])) (es ++ (e ∷ []))
 headed_append ws [] [] h e none y = more y none
+headed_append ws [] (d ∷ es) h e k y = elim k [ ]
+headed_append ws (g ∷ hs) [] h e k y = elim k [ ]
 headed_append ws (g ∷ hs) (d ∷ es) h e (more x k) y = more x (headed_append ws hs es h e k y)
 
 pub heads_begin : (ws l heads : List ℕ) (rs : List Resource) → Headed ws (take 0 heads) (listed (several 0 (read_entry_point rs) l))
@@ -114,9 +116,13 @@ module _ (ws : List ℕ) (h : ℕ) (f : EntryPoint) (y : HeadAt ws h f) where
   has_named : (hs : List ℕ) (es : List EntryPoint) → Headed ws hs es → has_head ws h hs ≡ has_name f.stage f.name es
   unfolding has_head has_name
   has_named [] [] none = refl
+  has_named [] (e ∷ es) k = elim k [ ]
+  has_named (g ∷ hs) [] k = elim k [ ]
   has_named (g ∷ hs) (e ∷ es) (more x k) = rw (same_named g e x, has_named hs es k)
 
 pub distinct_named : (ws hs : List ℕ) (es : List EntryPoint) → Headed ws hs es → distinct_heads ws hs ≡ distinct_names es
 unfolding distinct_heads distinct_names
 distinct_named ws [] [] none = refl
+distinct_named ws [] (e ∷ es) k = elim k [ ]
+distinct_named ws (h ∷ hs) [] k = elim k [ ]
 distinct_named ws (h ∷ hs) (e ∷ es) (more x k) = rw (has_named ws h e x hs es k, distinct_named ws hs es k)

@@ -9,7 +9,7 @@ pub returns-then-end-eq0-clause-ws_value : goal.returns-then-end-eq0-clause-ws_v
 returns-then-end-eq0-clause-ws_value c = search none_encodable
 
 pub returns-clause-k_value : goal.returns-clause-k_value
-returns-clause-k_value c = alone_ends c.args.ws.now _ c.resource_next-end.ensures.0 c.if-end-eq0.false (search rules)
+returns-clause-k_value c = alone_ends c.args.ws.now _ c.resource_next-end.ensures.result_value c.if-end-eq0.false (search rules)
 
 pub returns-clause-ws_value : goal.returns-clause-ws_value
 returns-clause-ws_value c = search alone_encodable

@@ -1,0 +1,16 @@
+use Rattle.places.proofs.PlaceWays.{found_inside, found_bytes}
+use Rattle.input_steps.proofs.InputLaws.{number_found, number_missing}
+use borrow.Author.Rules.{rules}
+use Rattle.input_steps.proofs.inputs.input_number.Goals as goal
+
+pub offset_bounds-inputs-index : goal.offset_bounds-inputs-index
+offset_bounds-inputs-index c = search found_bytes
+
+pub bounds-inputs-index : goal.bounds-inputs-index
+bounds-inputs-index c = search found_inside
+
+pub returns-in-At-clause-value : goal.returns-in-At-clause-value
+returns-in-At-clause-value c = search number_found
+
+pub returns-in-Nothing-clause-value : goal.returns-in-Nothing-clause-value
+returns-in-Nothing-clause-value c = search number_missing

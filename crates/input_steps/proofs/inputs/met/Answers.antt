@@ -1,0 +1,9 @@
+use Rattle.input_steps.proofs.InputLaws.{past_local, past_built_in}
+use borrow.Author.Rules.{rules}
+use Rattle.input_steps.proofs.inputs.met.Goals as goal
+
+pub returns-then-location_well_formed : goal.returns-then-location_well_formed
+returns-then-location_well_formed c = search past_local
+
+pub returns : goal.returns
+returns c = search past_built_in

@@ -1,0 +1,18 @@
+use Rattle.resource_steps.proofs.DeriveLaws.{derive_outside, derive_wrong, derive_placed, derived_words, within_groups}
+use borrow.Author.Rules.{rules}
+use Rattle.resource_steps.proofs.derive.derive_step.Goals as goal
+
+pub returns-then-group_count-place-clause-layout_after : goal.returns-then-group_count-place-clause-layout_after
+returns-then-group_count-place-clause-layout_after c = search derive_outside
+
+pub place_step-requires-clause-type_words : goal.place_step-requires-clause-type_words
+place_step-requires-clause-type_words c = derived_words _ _ _ _ _ (search rules) c.derived_word-ty.ensures (search rules) c.derived_least.ensures
+
+pub place_step-requires-clause-place_bound : goal.place_step-requires-clause-place_bound
+place_step-requires-clause-place_bound c = search within_groups
+
+pub returns-then-ty-gt0-clause-layout_after : goal.returns-then-ty-gt0-clause-layout_after
+returns-then-ty-gt0-clause-layout_after c = search derive_placed
+
+pub returns-clause-layout_after : goal.returns-clause-layout_after
+returns-clause-layout_after c = search derive_wrong

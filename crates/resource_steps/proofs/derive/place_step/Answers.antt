@@ -1,0 +1,16 @@
+use Rattle.resource_steps.proofs.DeriveLaws.{found_none, place_occupied, place_vacant}
+use Rattle.places.proofs.PlaceWays.{found_inside}
+use borrow.Author.Rules.{rules}
+use Rattle.resource_steps.proofs.derive.place_step.Goals as goal
+
+pub occupied-requires-clause-index_in_bounds : goal.occupied-requires-clause-index_in_bounds
+occupied-requires-clause-index_in_bounds c = search found_inside
+
+pub vacant-requires-clause-layout_value_2 : goal.vacant-requires-clause-layout_value_2
+vacant-requires-clause-layout_value_2 c = search found_none
+
+pub returns-in-At-clause-layout_after : goal.returns-in-At-clause-layout_after
+returns-in-At-clause-layout_after c = search place_occupied
+
+pub returns-in-Nothing-clause-layout_after : goal.returns-in-Nothing-clause-layout_after
+returns-in-Nothing-clause-layout_after c = search place_vacant

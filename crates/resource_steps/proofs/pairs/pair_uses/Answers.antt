@@ -1,0 +1,23 @@
+use Prim.Native.Nat.{◌+◌, ◌≤◌}
+use mathlib.Core.Path.{◌≡◌}
+use lib.ListN.{length, take, drop}
+use mathlib.Core.Bool.{true}
+use Rattle.layouts.specs.Format.{decode_layout}
+use Rattle.interface.specs.Format.{pairs_of}
+use Rattle.resource_steps.specs.Inner.Given.{resourceTable, pairsBelow}
+use Rattle.resource_steps.specs.Resources.{pair_uses}
+use Rattle.resource_steps.proofs.PairLaws.{pair_below, pairs_rest, pairs_refused, pairs_onward, pairs_ended}
+use borrow.Author.Rules.{rules}
+use Rattle.resource_steps.proofs.pairs.pair_uses.Goals as goal
+
+pub pair_use-a-requires-clause-w_value : goal.pair_use-a-requires-clause-w_value
+pair_use-a-requires-clause-w_value c = (search pair_below, search rules)
+
+pub returns-then-a-ne0 : goal.returns-then-a-ne0
+returns-then-a-ne0 c = search pairs_refused
+
+pub loop-left-preserved : goal.loop-left-preserved
+loop-left-preserved c = (search rules, search pairs_rest, search pairs_onward)
+
+pub returns : goal.returns
+returns c = search pairs_ended

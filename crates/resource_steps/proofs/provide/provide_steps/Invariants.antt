@@ -1,0 +1,27 @@
+use Prim.Native.Nat.{◌+◌, ◌-◌, ◌≤◌}
+use mathlib.Core.Path.{◌≡◌}
+use lib.ListN.{length, take, drop}
+use mathlib.Core.Bool.{true}
+use Rattle.sizes.specs.Format.{sizes_well_formed, decode_sizes}
+use Rattle.layouts.specs.Format.{decode_layout}
+use Rattle.interface.specs.Format.{contents}
+use Rattle.resource_steps.specs.Inner.Given.{resourceTable, eachBelow}
+use Rattle.resource_steps.specs.Inner.Notes.{provide_notes}
+use Rattle.resource_steps.specs.Resources.{provide_steps}
+use Rattle.resource_steps.proofs.ResourceWalk.{below_start, below_here, below_rest}
+use Rattle.resource_steps.proofs.NoteLaws.{notes_start, notes_refused, notes_onward, notes_done}
+use Rattle.resource_steps.proofs.ProvideLaws.{provide_behind, provide_start, provide_refused, provide_onward, provide_done}
+use borrow.Author.Rules.{rules}
+use Rattle.resource_steps.proofs.provide.provide_steps.Given as goal
+
+abbrev pub invariant-loop-passed : goal.invariant-loop-passed
+invariant-loop-passed l =
+    (l.passed ≤ l.n) × (l.at + (l.n - l.passed) ≤ length l.pack) × (length l.sizes ≡ length l.initial.sizes) × (sizes_well_formed l.sizes ≡ true)
+    × (eachBelow (length (resourceTable l.pack l.offsets)) (contents (take (l.n - l.passed) (drop l.at l.pack))) ≡ true)
+    × (provide_steps l.stage (decode_layout l.layout) (resourceTable l.pack l.offsets) (contents (take l.n (drop l.from l.pack))) (decode_sizes l.initial.sizes)
+    ≡ provide_behind l.passed (provide_steps l.stage (decode_layout l.layout) (resourceTable l.pack l.offsets) (contents (take (l.n - l.passed) (drop l.at l.pack))) (decode_sizes l.sizes)))
+    × (provide_notes l.stage (decode_layout l.layout) (resourceTable l.pack l.offsets) (contents (take l.n (drop l.from l.pack))) (decode_sizes l.initial.sizes) l.initial.entries
+    ≡ provide_notes l.stage (decode_layout l.layout) (resourceTable l.pack l.offsets) (contents (take (l.n - l.passed) (drop l.at l.pack))) (decode_sizes l.sizes) l.entries)
+
+abbrev pub decreases-loop-passed : goal.decreases-loop-passed
+decreases-loop-passed l = l.n - l.passed

@@ -1,0 +1,24 @@
+use Rattle.resource_steps.proofs.ResourceLaws.{found_few}
+use Rattle.resource_steps.proofs.NoteLaws.{note_found}
+use Rattle.resource_steps.proofs.ProvideLaws.{provided_none, provided_at}
+use Rattle.places.proofs.PlaceWays.{found_inside}
+use borrow.Author.Rules.{rules}
+use Rattle.resource_steps.proofs.provide.provided_use.Goals as goal
+
+pub note-requires : goal.note-requires
+note-requires c = search found_few
+
+pub entry_use-requires-clause-index_in_bounds : goal.entry_use-requires-clause-index_in_bounds
+entry_use-requires-clause-index_in_bounds c = search found_inside
+
+pub returns-in-Nothing-clause-value : goal.returns-in-Nothing-clause-value
+returns-in-Nothing-clause-value c = search provided_none
+
+pub returns-in-Nothing-clause-entries_after : goal.returns-in-Nothing-clause-entries_after
+returns-in-Nothing-clause-entries_after c = search note_found
+
+pub returns-in-At-clause-value : goal.returns-in-At-clause-value
+returns-in-At-clause-value c = search provided_at
+
+pub returns-in-At-clause-entries_after : goal.returns-in-At-clause-entries_after
+returns-in-At-clause-entries_after c = search note_found

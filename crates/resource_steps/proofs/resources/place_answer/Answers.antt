@@ -1,0 +1,6 @@
+use Rattle.resource_steps.proofs.ResourceLaws.{answer_there}
+use borrow.Author.Rules.{rules}
+use Rattle.resource_steps.proofs.resources.place_answer.Goals as goal
+
+pub returns : goal.returns
+returns c = search answer_there
