@@ -92,7 +92,11 @@ def own(path, crates):
 
 
 def made(path):
-    return bool(re.search(r"\.(Tie|Statement|Goals|Given|Needs)(\.|$)", path))
+    return bool(re.search(r"\.proofs\..*\.(Tie|Statement|Goals|Given|Needs)(\.|$)", path))
+
+
+# files in which Rattle's own names stand
+MADE = ("Proof.antt", "Answers.antt", "Invariants.antt")
 
 
 def main():
@@ -109,7 +113,7 @@ def main():
             if not own(path, crates) or made(path):
                 outside.add(name)
 
-    free = [f for f in antt if os.path.basename(f) != "Proof.antt"]
+    free = [f for f in antt if os.path.basename(f) not in MADE]
     words = collections.defaultdict(set)
     for f in free:
         for p, is_name in pieces(texts[f], False):
@@ -184,7 +188,7 @@ def main():
     for f in glob.glob("crates/*/must-fail/*.edit") + glob.glob("README.md") + glob.glob("docs/**/*.md", recursive=True):
         texts[f] = open(f, encoding="utf8").read()
     for f, t in texts.items():
-        proof = os.path.basename(f) == "Proof.antt"
+        proof = os.path.basename(f) in MADE
         rust = f.endswith(".rt") or (f.endswith(".edit") and "file: src/" in t)
         out, last = [], ""
         if f.endswith(".md"):
@@ -200,7 +204,7 @@ def main():
             if is_name:
                 if proof:
                     if last != "." or re.search(r"Rattle\.[A-Za-z0-9_.+-]+\.$", "".join(out[-12:])):
-                        if p in local[f]:
+                        if p in local.get(f, ()):
                             p = new_name(p)
                         elif p in table:
                             p = table[p]

@@ -36,7 +36,7 @@ use Rattle.places.specs.declared.found.Found.TheVariants.{At, Nothing}
 use Rattle.interface.specs.Format.{stage_code, contents, pairs_of}
 use Rattle.interface.specs.declared.types.ShaderStage.{ShaderStage}
 use Rattle.interface.specs.declared.types.SamplingPair.{SamplingPair}
-use Rattle.resource_steps.specs.Inner.Given.{resourceTable, TypeWords}
+use Rattle.resource_steps.specs.Inner.Given.{resource_table, TypeWords}
 use Rattle.resource_steps.specs.Resources.{resource_nth, layout_after, occupied, vacant, place_step, derive_step, named_texture, DeriveResult, derive_result, derive_steps}
 use Rattle.resource_steps.proofs.ResourceParts.{pairs_cons, pairs_none, nth_at}
 use Rattle.resource_steps.proofs.ResourceWalk.{index_next, index_none, one_more}
@@ -208,9 +208,9 @@ step_sampled stage place w size b L = rw (sampled_alone w size b)
 -- ---- one resource, by its index
 
 pub derive_nth : (ws offsets : List ℕ) (stage : ShaderStage) (pairs : List SamplingPair) (i o size : ℕ) (L M : Layout) (a : Answer) (n : Bool)
-    → i < length (resourceTable ws offsets) → o ≡ word_at offsets i → n ≡ (eqb (type_code (word_at ws (o + 1))) 2 && named_texture i pairs)
+    → i < length (resource_table ws offsets) → o ≡ word_at offsets i → n ≡ (eqb (type_code (word_at ws (o + 1))) 2 && named_texture i pairs)
     → size ≡ size_standing ws (o + 2) → layout_after a M ≡ derive_step stage n (resource (word_at ws o) (word_at ws (o + 1)) size) L
-    → layout_after a M ≡ derive_step stage (named_texture i pairs) (resource_nth (resourceTable ws offsets) i) L
+    → layout_after a M ≡ derive_step stage (named_texture i pairs) (resource_nth (resource_table ws offsets) i) L
 derive_nth ws offsets stage pairs i o size L M a n k q p z h =
     rw (nth_at ws offsets i k, ← q, ← z)
     (h ∙ (ap (λ b. derive_step stage b (resource (word_at ws o) (word_at ws (o + 1)) size) L) p
@@ -230,9 +230,9 @@ derive_start ws stage resources pairs n at L =
     rw (z, r)
 
 module _ (ws offsets : List ℕ) (stage : ShaderStage) (pairs : List SamplingPair) (n k at : ℕ) (L : Layout) (goal : DeriveResult)
-    (inv : goal ≡ derive_behind k (derive_steps stage (resourceTable ws offsets) pairs (contents (take (n - k) (drop at ws))) L)) where
+    (inv : goal ≡ derive_behind k (derive_steps stage (resource_table ws offsets) pairs (contents (take (n - k) (drop at ws))) L)) where
   module _ (w i : ℕ) (M : Layout) (a : Answer) (m : k ≡ n → ⊥) (l : k ≤ n) (h : at + (n - k) ≤ length ws) (p : w ≡ word_at ws at) (q : i ≡ content_of w)
-      (e : layout_after a M ≡ derive_step stage (named_texture i pairs) (resource_nth (resourceTable ws offsets) i) L) where
+      (e : layout_after a M ≡ derive_step stage (named_texture i pairs) (resource_nth (resource_table ws offsets) i) L) where
     pub derive_refused : (a.number ≡ 0 → ⊥) → derive_result a k M ≡ goal
     unfolding derive_steps
     derive_refused z =
@@ -240,9 +240,9 @@ module _ (ws offsets : List ℕ) (stage : ShaderStage) (pairs : List SamplingPai
         sym (inv ∙ rw (index_next ws n k at m l h, ← p, ← q, ← e, ne_eqb a.number 0 z, r))
 
     pub derive_onward : a.number ≡ 0
-        → goal ≡ derive_behind (k + 1) (derive_steps stage (resourceTable ws offsets) pairs (contents (take (n - (k + 1)) (drop (at + 1) ws))) M)
+        → goal ≡ derive_behind (k + 1) (derive_steps stage (resource_table ws offsets) pairs (contents (take (n - (k + 1)) (drop (at + 1) ws))) M)
     unfolding derive_steps
-    derive_onward z = inv ∙ rw (index_next ws n k at m l h, ← p, ← q, ← e, eq-eqb a.number 0 z, one_more k (derive_steps stage (resourceTable ws offsets) pairs (contents (take (n - (k + 1)) (drop (at + 1) ws))) M).passed)
+    derive_onward z = inv ∙ rw (index_next ws n k at m l h, ← p, ← q, ← e, eq-eqb a.number 0 z, one_more k (derive_steps stage (resource_table ws offsets) pairs (contents (take (n - (k + 1)) (drop (at + 1) ws))) M).passed)
 
   pub derive_done : k ≡ n → (a : Answer) → a ≡ accepted → derive_result a n L ≡ goal
   unfolding derive_steps

@@ -15,7 +15,7 @@ use Rattle.places.specs.declared.found.Found.{Found}
 use Rattle.places.specs.declared.found.Found.TheVariants.{At, Nothing}
 use Rattle.interface.specs.Format.{contents}
 use Rattle.interface.specs.declared.types.ShaderStage.{ShaderStage}
-use Rattle.resource_steps.specs.Inner.Given.{resourceTable}
+use Rattle.resource_steps.specs.Inner.Given.{resource_table}
 use Rattle.resource_steps.specs.Inner.Notes.{note_at, step_notes, provide_notes}
 use Rattle.resource_steps.specs.Resources.{resource_nth, sizes_after, record_size, provide_step}
 use Rattle.resource_steps.proofs.ResourceParts.{nth_at}
@@ -41,17 +41,17 @@ note_found table m i f g e h = rw (← e) h
 
 -- ---- one resource, by its index
 
-module _ (ws offsets : List ℕ) (i : ℕ) (k : i < length (resourceTable ws offsets)) (o size : ℕ) (q : o ≡ word_at offsets i) (z : size ≡ size_standing ws (o + 2))
+module _ (ws offsets : List ℕ) (i : ℕ) (k : i < length (resource_table ws offsets)) (o size : ℕ) (q : o ≡ word_at offsets i) (z : size ≡ size_standing ws (o + 2))
     (L : Layout) (S T : Sizes) (a : Answer) (table : List ℕ)
     (e : sizes_after a T ≡ record_size (place_of (word_at ws o)) (resource_type_of (word_at ws (o + 1)) size) S) where
   -- none where the size finds no room
-  pub notes_ended : (a.number ≡ 0 → ⊥) → table ≡ step_notes L (resource_nth (resourceTable ws offsets) i) i S table
+  pub notes_ended : (a.number ≡ 0 → ⊥) → table ≡ step_notes L (resource_nth (resource_table ws offsets) i) i S table
   unfolding step_notes
   notes_ended n = rw (nth_at ws offsets i k, ← q, ← z, ← e, ne_eqb a.number 0 n)
 
   -- else where its entry was found
   pub notes_went : (m : List ℕ) → a.number ≡ 0 → m ≡ note_at i (find_entry (place_of (word_at ws o)) L) table
-      → m ≡ step_notes L (resource_nth (resourceTable ws offsets) i) i S table
+      → m ≡ step_notes L (resource_nth (resource_table ws offsets) i) i S table
   unfolding step_notes
   notes_went m n h = rw (nth_at ws offsets i k, ← q, ← z, ← e, eq-eqb a.number 0 n) h
 
@@ -62,16 +62,16 @@ pub notes_start : (ws : List ℕ) (stage : ShaderStage) (L : Layout) (resources 
 notes_start ws stage L resources n at S table = let z : n - 0 ≡ n = omega arith in rw z
 
 module _ (ws offsets : List ℕ) (stage : ShaderStage) (L : Layout) (n k at : ℕ) (S : Sizes) (table goal : List ℕ)
-    (inv : goal ≡ provide_notes stage L (resourceTable ws offsets) (contents (take (n - k) (drop at ws))) S table) where
+    (inv : goal ≡ provide_notes stage L (resource_table ws offsets) (contents (take (n - k) (drop at ws))) S table) where
   module _ (w i : ℕ) (T : Sizes) (a : Answer) (m : List ℕ) (d : k ≡ n → ⊥) (l : k ≤ n) (h : at + (n - k) ≤ length ws) (p : w ≡ word_at ws at) (q : i ≡ content_of w)
-      (e : sizes_after a T ≡ provide_step stage L (resource_nth (resourceTable ws offsets) i) S)
-      (f : m ≡ step_notes L (resource_nth (resourceTable ws offsets) i) i S table) where
+      (e : sizes_after a T ≡ provide_step stage L (resource_nth (resource_table ws offsets) i) S)
+      (f : m ≡ step_notes L (resource_nth (resource_table ws offsets) i) i S table) where
     -- a resource that is refused is the last that notes
     pub notes_refused : (a.number ≡ 0 → ⊥) → m ≡ goal
     unfolding provide_notes
     notes_refused z = sym (inv ∙ rw (index_next ws n k at d l h, ← p, ← q, ← e, ne_eqb a.number 0 z, ← f))
 
-    pub notes_onward : a.number ≡ 0 → goal ≡ provide_notes stage L (resourceTable ws offsets) (contents (take (n - (k + 1)) (drop (at + 1) ws))) T m
+    pub notes_onward : a.number ≡ 0 → goal ≡ provide_notes stage L (resource_table ws offsets) (contents (take (n - (k + 1)) (drop (at + 1) ws))) T m
     unfolding provide_notes
     notes_onward z = inv ∙ rw (index_next ws n k at d l h, ← p, ← q, ← e, eq-eqb a.number 0 z, ← f)
 

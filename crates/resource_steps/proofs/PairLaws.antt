@@ -24,7 +24,7 @@ use Rattle.places.specs.declared.found.Found.{Found}
 use Rattle.places.specs.declared.found.Found.TheVariants.{At, Nothing}
 use Rattle.interface.specs.Format.{pair_of, pairs_of}
 use Rattle.interface.specs.declared.types.SamplingPair.{SamplingPair}
-use Rattle.resource_steps.specs.Inner.Given.{resourceTable, pairBelow, pairsBelow, wordMeans}
+use Rattle.resource_steps.specs.Inner.Given.{resource_table, pair_below, pairs_below, WordMeans}
 use Rattle.resource_steps.specs.Resources.{resource_nth, filtering, sample_number, pair_number, type_at, pair_answer, pair_use, pair_uses}
 use Rattle.resource_steps.proofs.ResourceParts.{pairs_cons, pairs_none, nth_at}
 
@@ -118,11 +118,11 @@ module _ (t s : ℕ) where
 
 pub type_found_lem : (l : List ℕ) (place : ℕ) (f : Found) (i w : ℕ) → f ≡ At i → f ≡ find_entry (place_of place) (decode_layout l)
     → binding_type_of w (least_size_of (entry_nth (decode_layout l).entries i).ty) ≡ (entry_nth (decode_layout l).entries i).ty
-    → wordMeans w (type_at (decode_layout l) (place_of place))
+    → WordMeans w (type_at (decode_layout l) (place_of place))
 type_found_lem l place f i w n q m = (least_size_of (entry_nth (decode_layout l).entries i).ty, rw (← q, n) (sym m))
 
 pub type_none : (l : List ℕ) (place : ℕ) (f : Found) → f ≡ find_entry (place_of place) (decode_layout l) → f ≡ Nothing
-    → wordMeans 0x9300_0000 (type_at (decode_layout l) (place_of place))
+    → WordMeans 0x9300_0000 (type_at (decode_layout l) (place_of place))
 unfolding binding_type_of
 type_none l place f q n = (0, rw (← q, n))
 
@@ -135,18 +135,18 @@ pair_refused number t s x y a n p q h =
     let w : 0x20000000 + y ≡ place_word (place_of s) = omega arith in
     rw (ne_eqb number 0 n, ← v, ← w) h
 
-module _ (count w : ℕ) (p : SamplingPair) (h : pairBelow count (pair_of w) ≡ true) (e : p ≡ pair_of w) where
+module _ (count w : ℕ) (p : SamplingPair) (h : pair_below count (pair_of w) ≡ true) (e : p ≡ pair_of w) where
   pub texture_below : p.texture < count
   texture_below = rw e (ltb-true (pair_of w).texture count (first (ltb (pair_of w).texture count) (ltb (pair_of w).sampler count) h))
 
   pub sampler_below : p.sampler < count
   sampler_below = rw e (ltb-true (pair_of w).sampler count (second (ltb (pair_of w).texture count) (ltb (pair_of w).sampler count) h))
 
-pub place_listed : (ws offsets : List ℕ) (i o w : ℕ) → i < length (resourceTable ws offsets) → o ≡ word_at offsets i → w ≡ word_at ws o
-    → place_of w ≡ (resource_nth (resourceTable ws offsets) i).bind
+pub place_listed : (ws offsets : List ℕ) (i o w : ℕ) → i < length (resource_table ws offsets) → o ≡ word_at offsets i → w ≡ word_at ws o
+    → place_of w ≡ (resource_nth (resource_table ws offsets) i).bind
 place_listed ws offsets i o w h q d = rw (nth_at ws offsets i h, ← q, d)
 
-pub places_used : (L : Layout) (t s x y number : ℕ) (a : Answer) → wordMeans x (type_at L (place_of t)) → wordMeans y (type_at L (place_of s))
+pub places_used : (L : Layout) (t s x y number : ℕ) (a : Answer) → WordMeans x (type_at L (place_of t)) → WordMeans y (type_at L (place_of s))
     → number ≡ pair_number (binding_type_of x 0) (binding_type_of y 0) → a ≡ pair_answer number (place_of t) (place_of s)
     → a ≡ pair_answer (pair_number (type_at L (place_of t)) (type_at L (place_of s))) (place_of t) (place_of s)
 places_used L t s x y number a p q n h =
@@ -164,17 +164,17 @@ module _ (L : Layout) (resources : List Resource) (p : SamplingPair) (t s : ℕ)
 
 -- ---- one after the other
 
-module _ (ws : List ℕ) (count k at : ℕ) (b : pairsBelow count (pairs_of (take k (drop at ws))) ≡ true) (n : k ≡ 0 → ⊥) (h : at + k ≤ length ws) where
-  paired : pairsBelow count (pair_of (word_at ws at) ∷ pairs_of (take (k - 1) (drop (at + 1) ws))) ≡ true
+module _ (ws : List ℕ) (count k at : ℕ) (b : pairs_below count (pairs_of (take k (drop at ws))) ≡ true) (n : k ≡ 0 → ⊥) (h : at + k ≤ length ws) where
+  paired : pairs_below count (pair_of (word_at ws at) ∷ pairs_of (take (k - 1) (drop (at + 1) ws))) ≡ true
   paired = rw (pairs_cons ws k at n h) at b
 
-  pub pair_below : pairBelow count (pair_of (word_at ws at)) ≡ true
+  pub pair_below_lem : pair_below count (pair_of (word_at ws at)) ≡ true
   unfolding every
-  pair_below = (first_passes (pairBelow count (pair_of (word_at ws at))) (pairsBelow count (pairs_of (take (k - 1) (drop (at + 1) ws)))) paired)
+  pair_below_lem = (first_passes (pair_below count (pair_of (word_at ws at))) (pairs_below count (pairs_of (take (k - 1) (drop (at + 1) ws)))) paired)
 
-  pub pairs_rest : pairsBelow count (pairs_of (take (k - 1) (drop (at + 1) ws))) ≡ true
+  pub pairs_rest : pairs_below count (pairs_of (take (k - 1) (drop (at + 1) ws))) ≡ true
   unfolding every
-  pairs_rest = rest_passes (pairBelow count (pair_of (word_at ws at))) (pairsBelow count (pairs_of (take (k - 1) (drop (at + 1) ws)))) paired
+  pairs_rest = rest_passes (pair_below count (pair_of (word_at ws at))) (pairs_below count (pairs_of (take (k - 1) (drop (at + 1) ws)))) paired
 
 module _ (ws : List ℕ) (L : Layout) (resources : List Resource) (k at : ℕ) (goal : Answer) where
   module _ (a : Answer) (n : k ≡ 0 → ⊥) (h : at + k ≤ length ws) where

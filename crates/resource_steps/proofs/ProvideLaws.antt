@@ -25,7 +25,7 @@ use Rattle.places.specs.declared.found.Found.{Found}
 use Rattle.places.specs.declared.found.Found.TheVariants.{At, Nothing}
 use Rattle.interface.specs.Format.{stage_code, contents}
 use Rattle.interface.specs.declared.types.ShaderStage.{ShaderStage}
-use Rattle.resource_steps.specs.Inner.Given.{resourceTable}
+use Rattle.resource_steps.specs.Inner.Given.{resource_table}
 use Rattle.resource_steps.specs.Resources.{resource_nth, sizes_after, record_size, entry_use, provided_use, provide_step, ProvideResult, provide_result, provide_steps}
 use Rattle.resource_steps.proofs.ResourceParts.{nth_at}
 use Rattle.resource_steps.proofs.ResourceWalk.{index_next, index_none, one_more}
@@ -114,15 +114,15 @@ module _ (w size : ℕ) (h : type_encodable (resource_type_of w size) ≡ true) 
 
 -- ---- one resource, by its index
 
-module _ (ws offsets : List ℕ) (i : ℕ) (k : i < length (resourceTable ws offsets)) (o size : ℕ) (q : o ≡ word_at offsets i) (z : size ≡ size_standing ws (o + 2))
+module _ (ws offsets : List ℕ) (i : ℕ) (k : i < length (resource_table ws offsets)) (o size : ℕ) (q : o ≡ word_at offsets i) (z : size ≡ size_standing ws (o + 2))
     (stage : ShaderStage) (L : Layout) (S T : Sizes) (a : Answer)
     (e : sizes_after a T ≡ record_size (place_of (word_at ws o)) (resource_type_of (word_at ws (o + 1)) size) S) where
-  pub provide_ended : (a.number ≡ 0 → ⊥) → sizes_after a T ≡ provide_step stage L (resource_nth (resourceTable ws offsets) i) S
+  pub provide_ended : (a.number ≡ 0 → ⊥) → sizes_after a T ≡ provide_step stage L (resource_nth (resource_table ws offsets) i) S
   unfolding provide_step
   provide_ended n = rw (nth_at ws offsets i k, ← q, ← z, ← e, ne_eqb a.number 0 n)
 
   pub provide_went : (b : Answer) → a.number ≡ 0 → b ≡ provided_use stage L (resource (word_at ws o) (word_at ws (o + 1)) size)
-      → sizes_after b T ≡ provide_step stage L (resource_nth (resourceTable ws offsets) i) S
+      → sizes_after b T ≡ provide_step stage L (resource_nth (resource_table ws offsets) i) S
   unfolding provide_step
   provide_went b n h = rw (nth_at ws offsets i k, ← q, ← z, ← e, eq-eqb a.number 0 n, ← h)
 
@@ -140,9 +140,9 @@ provide_start ws stage L resources n at S =
     rw (z, r)
 
 module _ (ws offsets : List ℕ) (stage : ShaderStage) (L : Layout) (n k at : ℕ) (S : Sizes) (goal : ProvideResult)
-    (inv : goal ≡ provide_behind k (provide_steps stage L (resourceTable ws offsets) (contents (take (n - k) (drop at ws))) S)) where
+    (inv : goal ≡ provide_behind k (provide_steps stage L (resource_table ws offsets) (contents (take (n - k) (drop at ws))) S)) where
   module _ (w i : ℕ) (T : Sizes) (a : Answer) (m : k ≡ n → ⊥) (l : k ≤ n) (h : at + (n - k) ≤ length ws) (p : w ≡ word_at ws at) (q : i ≡ content_of w)
-      (e : sizes_after a T ≡ provide_step stage L (resource_nth (resourceTable ws offsets) i) S) where
+      (e : sizes_after a T ≡ provide_step stage L (resource_nth (resource_table ws offsets) i) S) where
     pub provide_refused : (a.number ≡ 0 → ⊥) → provide_result a k T ≡ goal
     unfolding provide_steps
     provide_refused z =
@@ -150,9 +150,9 @@ module _ (ws offsets : List ℕ) (stage : ShaderStage) (L : Layout) (n k at : �
         sym (inv ∙ rw (index_next ws n k at m l h, ← p, ← q, ← e, ne_eqb a.number 0 z, r))
 
     pub provide_onward : a.number ≡ 0
-        → goal ≡ provide_behind (k + 1) (provide_steps stage L (resourceTable ws offsets) (contents (take (n - (k + 1)) (drop (at + 1) ws))) T)
+        → goal ≡ provide_behind (k + 1) (provide_steps stage L (resource_table ws offsets) (contents (take (n - (k + 1)) (drop (at + 1) ws))) T)
     unfolding provide_steps
-    provide_onward z = inv ∙ rw (index_next ws n k at m l h, ← p, ← q, ← e, eq-eqb a.number 0 z, one_more k (provide_steps stage L (resourceTable ws offsets) (contents (take (n - (k + 1)) (drop (at + 1) ws))) T).passed)
+    provide_onward z = inv ∙ rw (index_next ws n k at m l h, ← p, ← q, ← e, eq-eqb a.number 0 z, one_more k (provide_steps stage L (resource_table ws offsets) (contents (take (n - (k + 1)) (drop (at + 1) ws))) T).passed)
 
   pub provide_done : k ≡ n → (a : Answer) → a ≡ accepted → provide_result a n S ≡ goal
   unfolding provide_steps

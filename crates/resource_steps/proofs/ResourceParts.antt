@@ -15,7 +15,7 @@ use Rattle.bindings.specs.declared.types.Resource.{Resource}
 use Rattle.interface.specs.Format.{contents, pair_of, pairs_of}
 use Rattle.interface.specs.Inner.Reads.{resources_at}
 use Rattle.interface.specs.Inner.Parts.{resource_count}
-use Rattle.resource_steps.specs.Inner.Given.{resourceTable, eachEncodable}
+use Rattle.resource_steps.specs.Inner.Given.{resource_table, each_encodable}
 use Rattle.resource_steps.specs.Resources.{resource_nth}
 
 -- as many words from a position on
@@ -55,15 +55,15 @@ listed_at ws [] i h = absurd (omega arith)
 listed_at ws (o ∷ offsets) zero h = refl
 listed_at ws (o ∷ offsets) (suc i) h = listed_at ws offsets i (omega arith)
 
-pub listed_encodable : (rs : List Resource) (i : ℕ) → eachEncodable rs ≡ true → resource_encodable (resource_nth rs i) ≡ true
+pub listed_encodable : (rs : List Resource) (i : ℕ) → each_encodable rs ≡ true → resource_encodable (resource_nth rs i) ≡ true
 unfolding every resource_nth type_encodable
 listed_encodable [] i h = refl
-listed_encodable (r ∷ rs) zero h = first_passes (resource_encodable r) (eachEncodable rs) h
-listed_encodable (r ∷ rs) (suc i) h = listed_encodable rs i (rest_passes (resource_encodable r) (eachEncodable rs) h)
+listed_encodable (r ∷ rs) zero h = first_passes (resource_encodable r) (each_encodable rs) h
+listed_encodable (r ∷ rs) (suc i) h = listed_encodable rs i (rest_passes (resource_encodable r) (each_encodable rs) h)
 
-module _ (ws offsets : List ℕ) (i : ℕ) (h : i < length (resourceTable ws offsets)) where
+module _ (ws offsets : List ℕ) (i : ℕ) (h : i < length (resource_table ws offsets)) where
   pub counted : (i < resource_count ws) × (i < length (take (resource_count ws) offsets))
-  unfolding resourceTable
+  unfolding resource_table
   counted =
       let l = table_length ws (take (resource_count ws) offsets) in
       (omega (arith, l, length-take (resource_count ws) offsets), omega (arith, l))
@@ -71,9 +71,9 @@ module _ (ws offsets : List ℕ) (i : ℕ) (h : i < length (resourceTable ws off
   pub position_there : i < length offsets
   position_there = omega (arith, counted.1, length-take (resource_count ws) offsets)
 
-  pub nth_at : resource_nth (resourceTable ws offsets) i ≡ resource_at ws (word_at offsets i)
-  unfolding resourceTable
+  pub nth_at : resource_nth (resource_table ws offsets) i ≡ resource_at ws (word_at offsets i)
+  unfolding resource_table
   nth_at = listed_at ws (take (resource_count ws) offsets) i counted.1 ∙ rw (get_or-take (resource_count ws) offsets i 0 counted.0)
 
-  pub nth_encodable : eachEncodable (resourceTable ws offsets) ≡ true → resource_encodable (resource_at ws (word_at offsets i)) ≡ true
-  nth_encodable e = rw nth_at at (listed_encodable (resourceTable ws offsets) i e)
+  pub nth_encodable : each_encodable (resource_table ws offsets) ≡ true → resource_encodable (resource_at ws (word_at offsets i)) ≡ true
+  nth_encodable e = rw nth_at at (listed_encodable (resource_table ws offsets) i e)

@@ -6,7 +6,7 @@ ghost use Rattle.layouts.specs.Meaning.{find_entry, entry_nth};
 ghost use Rattle.places.specs.declared.found.Found.TheVariants.{Nothing};
 ghost use Rattle.layouts.specs.Format.{layout_well_formed, decode_layout};
 ghost use Rattle.interface.specs.Format.{contents, pairs_of};
-ghost use Rattle.resource_steps.specs.Inner.Given.{resourceTable, Inside, eachEncodable, eachBelow, TypeWords};
+ghost use Rattle.resource_steps.specs.Inner.Given.{resource_table, Inside, each_encodable, each_below, TypeWords};
 ghost use Rattle.resource_steps.specs.Resources.{resource_nth, layout_after, occupied, vacant, place_step, derive_step, named_texture, derive_result, derive_steps};
 
 use crate::resources::place_answer;
@@ -156,12 +156,12 @@ fn derive_resource(
     layout: &mut [u32],
 ) -> Answer
     requires layout_value { layout_well_formed layout.old ≡ true }
-    requires offsets_value { (eachEncodable (resourceTable pack.now offsets.now) ≡ true) × Inside pack.now offsets.now }
-    requires i_in_bounds { i < length (resourceTable pack.now offsets.now) }
+    requires offsets_value { (each_encodable (resource_table pack.now offsets.now) ≡ true) × Inside pack.now offsets.now }
+    requires i_in_bounds { i < length (resource_table pack.now offsets.now) }
     requires pairs_n_in_bounds { pairs_at + pairs_n ≤ length pack.now }
     ensures layout_after { layout_after result (decode_layout layout.new)
         ≡ derive_step stage (named_texture i (pairs_of (take pairs_n (drop pairs_at pack.now))))
-        (resource_nth (resourceTable pack.now offsets.now) i) (decode_layout layout.old) }
+        (resource_nth (resource_table pack.now offsets.now) i) (decode_layout layout.old) }
     ensures layout_after_2 { layout_well_formed layout.new ≡ true }
 {
     let at = position_at(offsets, i as usize) as usize;
@@ -184,11 +184,11 @@ pub fn derive_steps(
     layout: &mut [u32],
 ) -> Checked
     requires layout_value { layout_well_formed layout.old ≡ true }
-    requires offsets_value { (eachEncodable (resourceTable pack.now offsets.now) ≡ true) × Inside pack.now offsets.now }
-    requires pack_value { eachBelow (length (resourceTable pack.now offsets.now)) (contents (take n (drop from pack.now))) ≡ true }
+    requires offsets_value { (each_encodable (resource_table pack.now offsets.now) ≡ true) × Inside pack.now offsets.now }
+    requires pack_value { each_below (length (resource_table pack.now offsets.now)) (contents (take n (drop from pack.now))) ≡ true }
     requires n_in_bounds { (from + n ≤ length pack.now) × (pairs_at + pairs_n ≤ length pack.now) }
     ensures layout_after { derive_result result.answer result.passed (decode_layout layout.new)
-        ≡ derive_steps stage (resourceTable pack.now offsets.now)
+        ≡ derive_steps stage (resource_table pack.now offsets.now)
         (pairs_of (take pairs_n (drop pairs_at pack.now))) (contents (take n (drop from pack.now)))
         (decode_layout layout.old) }
     ensures layout_after_2 { layout_well_formed layout.new ≡ true }

@@ -4,7 +4,7 @@ ghost use Rattle.word.specs.Words.{bits};
 ghost use Rattle.bindings.specs.Format.{place_of, sample_at, binding_type_of};
 ghost use Rattle.layouts.specs.Format.{layout_well_formed, decode_layout};
 ghost use Rattle.interface.specs.Format.{pair_of, pairs_of};
-ghost use Rattle.resource_steps.specs.Inner.Given.{resourceTable, Inside, pairBelow, pairsBelow, wordMeans};
+ghost use Rattle.resource_steps.specs.Inner.Given.{resource_table, Inside, pair_below, pairs_below, WordMeans};
 ghost use Rattle.resource_steps.specs.Resources.{resource_nth, filtering, sample_number, pair_number, type_at, pair_answer, pair_use, pair_uses};
 
 use crate::resources::noted;
@@ -55,7 +55,7 @@ fn pair_number(texture: u32, sampler: u32) -> u32
 // The type word of the entry at a word's place, tried at a position first; where there is none, one that is no texture and no sampler.
 fn type_word_at(layout: &[u32], place: u32, near: usize) -> u32
     requires { layout_well_formed layout.now ≡ true }
-    ensures { wordMeans result (type_at (decode_layout layout.now) (place_of place)) }
+    ensures { WordMeans result (type_at (decode_layout layout.now) (place_of place)) }
 {
     match find_entry_near(layout, place, near) {
         Found::At { index } => entry_type(layout, index),
@@ -80,8 +80,8 @@ fn pair_answer(number: u32, texture: u32, sampler: u32) -> Answer
 
 // The word that tells the place of the resource of an index.
 fn place_at(pack: &[u32], offsets: &[u16], i: u32) -> u32
-    requires { (i < length (resourceTable pack.now offsets.now)) × Inside pack.now offsets.now }
-    ensures { place_of result ≡ (resource_nth (resourceTable pack.now offsets.now) i).bind }
+    requires { (i < length (resource_table pack.now offsets.now)) × Inside pack.now offsets.now }
+    ensures { place_of result ≡ (resource_nth (resource_table pack.now offsets.now) i).bind }
 {
     let at = position_at(offsets, i as usize) as usize;
     pack[at]
@@ -109,9 +109,9 @@ fn places_use(
 
 // A texture with the sampler it is sampled with, by the word of the pair.
 fn pair_use(layout: &[u32], pack: &[u32], offsets: &[u16], entries: &[u8; 128], w: u32) -> Answer
-    requires w_value { (pairBelow (length (resourceTable pack.now offsets.now)) (pair_of w) ≡ true) × Inside pack.now offsets.now }
+    requires w_value { (pair_below (length (resource_table pack.now offsets.now)) (pair_of w) ≡ true) × Inside pack.now offsets.now }
     requires layout_value { layout_well_formed layout.now ≡ true }
-    ensures { result ≡ pair_use (decode_layout layout.now) (resourceTable pack.now offsets.now) (pair_of w) }
+    ensures { result ≡ pair_use (decode_layout layout.now) (resource_table pack.now offsets.now) (pair_of w) }
 {
     let pair = pair_of(w);
     places_use(
@@ -133,8 +133,8 @@ pub fn pair_uses(
     n: usize,
 ) -> Answer
     requires n_in_bounds { (from + n ≤ length pack.now) × Inside pack.now offsets.now × (layout_well_formed layout.now ≡ true) }
-    requires pack_value { pairsBelow (length (resourceTable pack.now offsets.now)) (pairs_of (take n (drop from pack.now))) ≡ true }
-    ensures { result ≡ pair_uses (decode_layout layout.now) (resourceTable pack.now offsets.now)
+    requires pack_value { pairs_below (length (resource_table pack.now offsets.now)) (pairs_of (take n (drop from pack.now))) ≡ true }
+    ensures { result ≡ pair_uses (decode_layout layout.now) (resource_table pack.now offsets.now)
         (pairs_of (take n (drop from pack.now))) }
 {
     let mut at = from;

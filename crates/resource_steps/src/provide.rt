@@ -5,7 +5,7 @@ ghost use Rattle.layouts.specs.Meaning.{find_entry, entry_nth};
 ghost use Rattle.layouts.specs.Format.{layout_well_formed, decode_layout};
 ghost use Rattle.sizes.specs.Format.{sizes_well_formed, decode_sizes};
 ghost use Rattle.interface.specs.Format.{contents};
-ghost use Rattle.resource_steps.specs.Inner.Given.{resourceTable, Inside, eachEncodable, eachBelow};
+ghost use Rattle.resource_steps.specs.Inner.Given.{resource_table, Inside, each_encodable, each_below};
 ghost use Rattle.resource_steps.specs.Inner.Notes.{note_at, step_notes, provide_notes};
 ghost use Rattle.resource_steps.specs.Resources.{resource_nth, sizes_after, record_size, entry_use, provided_use, provide_step, provide_result, provide_steps};
 
@@ -88,14 +88,14 @@ fn provide_step(
     sizes: &mut [u32],
 ) -> Answer
     requires layout_value { (layout_well_formed layout.now ≡ true) × (sizes_well_formed sizes.old ≡ true) }
-    requires offsets_value { (eachEncodable (resourceTable pack.now offsets.now) ≡ true) × Inside pack.now offsets.now }
-    requires i_in_bounds { i < length (resourceTable pack.now offsets.now) }
+    requires offsets_value { (each_encodable (resource_table pack.now offsets.now) ≡ true) × Inside pack.now offsets.now }
+    requires i_in_bounds { i < length (resource_table pack.now offsets.now) }
     ensures sizes_after { sizes_after result (decode_sizes sizes.new)
-        ≡ provide_step stage (decode_layout layout.now) (resource_nth (resourceTable pack.now offsets.now) i)
+        ≡ provide_step stage (decode_layout layout.now) (resource_nth (resource_table pack.now offsets.now) i)
         (decode_sizes sizes.old) }
     ensures sizes_after_2 { sizes_well_formed sizes.new ≡ true }
     ensures entries_after { entries.new
-        ≡ step_notes (decode_layout layout.now) (resource_nth (resourceTable pack.now offsets.now) i) i
+        ≡ step_notes (decode_layout layout.now) (resource_nth (resource_table pack.now offsets.now) i) i
         (decode_sizes sizes.old) entries.old }
 {
     let at = position_at(offsets, i as usize) as usize;
@@ -121,15 +121,15 @@ pub fn provide_steps(
     sizes: &mut [u32],
 ) -> Checked
     requires layout_value { (layout_well_formed layout.now ≡ true) × (sizes_well_formed sizes.old ≡ true) }
-    requires offsets_value { (eachEncodable (resourceTable pack.now offsets.now) ≡ true) × Inside pack.now offsets.now }
-    requires pack_value { eachBelow (length (resourceTable pack.now offsets.now)) (contents (take n (drop from pack.now))) ≡ true }
+    requires offsets_value { (each_encodable (resource_table pack.now offsets.now) ≡ true) × Inside pack.now offsets.now }
+    requires pack_value { each_below (length (resource_table pack.now offsets.now)) (contents (take n (drop from pack.now))) ≡ true }
     requires n_in_bounds { from + n ≤ length pack.now }
     ensures sizes_after { provide_result result.answer result.passed (decode_sizes sizes.new)
-        ≡ provide_steps stage (decode_layout layout.now) (resourceTable pack.now offsets.now)
+        ≡ provide_steps stage (decode_layout layout.now) (resource_table pack.now offsets.now)
         (contents (take n (drop from pack.now))) (decode_sizes sizes.old) }
     ensures sizes_after_2 { sizes_well_formed sizes.new ≡ true }
     ensures entries_after { entries.new
-        ≡ provide_notes stage (decode_layout layout.now) (resourceTable pack.now offsets.now)
+        ≡ provide_notes stage (decode_layout layout.now) (resource_table pack.now offsets.now)
         (contents (take n (drop from pack.now))) (decode_sizes sizes.old) entries.old }
 {
     let mut at = from;

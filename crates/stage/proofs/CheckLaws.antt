@@ -37,7 +37,7 @@ use Rattle.stage.specs.declared.types.Codes.{Codes}
 use Rattle.stage.specs.Meaning.{Lent, Call, Outcome, outcome}
 use Rattle.resource_steps.specs.Meaning.{state}
 use Rattle.resource_steps.specs.Resources.{provide_result, provide_steps, derive_result, derive_steps, resource_steps}
-use Rattle.resource_steps.specs.Inner.Given.{resourceTable, eachEncodable, eachBelow}
+use Rattle.resource_steps.specs.Inner.Given.{resource_table, each_encodable, each_below}
 use Rattle.stage.specs.Inner.Given.{Named, Given}
 use Rattle.stage.specs.Inner.Judging.{binding_steps}
 use Rattle.stage.specs.Stage.{pair_step, lists_good, request_of, derived_of, out_words, run_body, on_entry_point, on_chosen, on_named}
@@ -53,7 +53,7 @@ module _ (ws : List ℕ) (p : EntryParts) (k n : ℕ) (ek : k ≡ word_at ws p.c
   resources_standing = rw (en, ek)
 
   pub resources_below : (offsets : List ℕ) (i : Interface) → Given ws offsets i (standing ws p)
-      → eachBelow (length (resourceTable ws offsets)) (contents (take n (drop p.resources ws))) ≡ true
+      → each_below (length (resource_table ws offsets)) (contents (take n (drop p.resources ws))) ≡ true
   resources_below offsets i g = rw (g.table, resources_standing) g.named.below
 
   pub resources_in : Placed ws p → p.resources + n ≤ length ws
@@ -69,7 +69,7 @@ module _ (ws : List ℕ) (p : EntryParts) (k n : ℕ) (ek : k ≡ word_at ws p.c
   module _ (offsets : List ℕ) (i : Interface) (stage mode : ℕ) (s : ShaderStage) (L : Layout) (S : Sizes) (a : Answer) (passed : ℕ)
       (g : Given ws offsets i (standing ws p)) (es : s ≡ stage_at stage) where
     pub resources_derived : (m : ℕ) (M : Layout) → m ≡ bits 17 12 k → mode ≡ 1
-        → derive_result a passed M ≡ derive_steps s (resourceTable ws offsets) (pairs_of (take m (drop p.pairs ws))) (contents (take n (drop p.resources ws))) L
+        → derive_result a passed M ≡ derive_steps s (resource_table ws offsets) (pairs_of (take m (drop p.pairs ws))) (contents (take n (drop p.resources ws))) L
         → state a M S ≡ resource_steps (stage_at stage) (eqb mode 1) i.resources (standing ws p).pairs (standing ws p).resources L S
     unfolding resource_steps
     resources_derived m M em t h =
@@ -77,7 +77,7 @@ module _ (ws : List ℕ) (p : EntryParts) (k n : ℕ) (ek : k ≡ word_at ws p.c
         rw (yes_true (eqb mode 1) (eq-eqb mode 1 t), ← e)
 
     pub resources_provided : (T : Sizes) → (mode ≡ 1 → ⊥)
-        → provide_result a passed T ≡ provide_steps s L (resourceTable ws offsets) (contents (take n (drop p.resources ws))) S
+        → provide_result a passed T ≡ provide_steps s L (resource_table ws offsets) (contents (take n (drop p.resources ws))) S
         → state a L T ≡ resource_steps (stage_at stage) (eqb mode 1) i.resources (standing ws p).pairs (standing ws p).resources L S
     unfolding resource_steps
     resources_provided T t h =
@@ -87,7 +87,7 @@ module _ (ws : List ℕ) (p : EntryParts) (k n : ℕ) (ek : k ≡ word_at ws p.c
 -- ---- the judgement, and the list out
 
 module _ (ws offsets : List ℕ) (i : Interface) (e : EntryPoint) (g : Given ws offsets i e) where
-  pub table_encodable : eachEncodable (resourceTable ws offsets) ≡ true
+  pub table_encodable : each_encodable (resource_table ws offsets) ≡ true
   table_encodable = rw g.table g.named.encodable
 
   pub table_outputs : every output_encodable e.outputs ≡ true
@@ -109,7 +109,7 @@ names_of ws k z = record { encodable = given_encodable ws z; below = given_below
 
 pub gives : (ws offsets : List ℕ) (p : EntryParts) (k : ℕ) → decoded_number (decode ws) ≡ 0 → Offsets ws offsets → standing ws p ≡ entry_point_nth (interface_of (decode ws)).entries k
     → Given ws offsets (interface_of (decode ws)) (standing ws p)
-unfolding resourceTable
+unfolding resource_table
 gives ws offsets p k z o e = rw e (record { table = o.resources z; inside = record { words = λ i h. o.within z i (counted ws offsets i h).0 }; named = names_of ws k z })
 
 out_words_lem : (ws : List ℕ) (p : EntryParts) (s : Summary) → Summed ws p s → 2 + 2 * s.locals ≡ out_words (standing ws p)

@@ -20,11 +20,11 @@ use Rattle.interface.specs.declared.types.Varying.TheVariants as Var
 use Rattle.interface.proofs.EncodeEntry.{type_below}
 use Rattle.interface.proofs.Packs.{GivenParts, resources_given, entry_given_lem}
 use Rattle.output_steps.specs.Inner.ListOut.{output_encodable}
-use Rattle.resource_steps.specs.Inner.Given.{eachEncodable, eachBelow, pairBelow, pairsBelow}
+use Rattle.resource_steps.specs.Inner.Given.{each_encodable, each_below, pair_below, pairs_below}
 use Rattle.resource_steps.specs.Resources.{resource_nth}
 use Rattle.resource_steps.proofs.ResourceParts.{listed_encodable}
 
-pair_in : (resources : List Resource) (listed : List ℕ) (p : SamplingPair) → pair_good resources listed p ≡ true → pairBelow (length resources) p ≡ true
+pair_in : (resources : List Resource) (listed : List ℕ) (p : SamplingPair) → pair_good resources listed p ≡ true → pair_below (length resources) p ≡ true
 pair_in resources listed p h =
     let t : of_type is_texture resources p.texture ≡ true = search (first, second) in
     let s : of_type is_sampler resources p.sampler ≡ true = search (first, second) in
@@ -40,7 +40,7 @@ encodable_output (Var.BuiltIn b) h = refl
 -- ---- a pack that decodes
 
 module _ (ws : List ℕ) (i : Interface) (d : decode ws ≡ Pack i) where
-  all_encodable : eachEncodable i.resources ≡ true
+  all_encodable : each_encodable i.resources ≡ true
   all_encodable = resources_given ws i d
 
   pub resource_encodable_lem : (k : ℕ) → resource_encodable (resource_nth i.resources k) ≡ true
@@ -60,7 +60,7 @@ module _ (ws : List ℕ) (z : decoded_number (decode ws) ≡ 0) where
   abbrev i : Interface
   i = interface_of (decode ws)
 
-  pub given_encodable : eachEncodable i.resources ≡ true
+  pub given_encodable : each_encodable i.resources ≡ true
   given_encodable = all_encodable ws i (pack_of (decode ws) z)
 
   module _ (k : ℕ) where
@@ -70,12 +70,12 @@ module _ (ws : List ℕ) (z : decoded_number (decode ws) ≡ 0) where
     parts : GivenParts i.resources e
     parts = entry_given_lem ws i (pack_of (decode ws) z) k
 
-    pub given_below : eachBelow (length i.resources) e.resources ≡ true
+    pub given_below : each_below (length i.resources) e.resources ≡ true
     given_below = parts.below
 
-    pub given_pairs : pairsBelow (length i.resources) e.pairs ≡ true
+    pub given_pairs : pairs_below (length i.resources) e.pairs ≡ true
     given_pairs =
-        every_as (pair_good i.resources e.resources) (pairBelow (length i.resources)) (pair_in i.resources e.resources) e.pairs parts.pairs
+        every_as (pair_good i.resources e.resources) (pair_below (length i.resources)) (pair_in i.resources e.resources) e.pairs parts.pairs
 
     pub given_outputs : every output_encodable e.outputs ≡ true
     given_outputs = every_as (varying_encodable 5) output_encodable encodable_output e.outputs parts.outputs

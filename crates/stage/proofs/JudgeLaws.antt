@@ -38,7 +38,7 @@ use Rattle.output_steps.specs.ListOut.{stage_out}
 use Rattle.input_steps.specs.declared.types.InputWalk.{InputWalk}
 use Rattle.input_steps.specs.declared.types.Walked.{Walked}
 use Rattle.resource_steps.specs.Resources.{pair_uses}
-use Rattle.resource_steps.specs.Inner.Given.{resourceTable, pairsBelow}
+use Rattle.resource_steps.specs.Inner.Given.{resource_table, pairs_below}
 use Rattle.stage.specs.Inner.Given.{Given}
 use Rattle.stage.specs.Inner.Judging.{judged_inputs, stop_at, judged}
 use Rattle.stage.specs.Stage.{pair_step, input_walk, behind_inputs, behind_pairs, handed_out}
@@ -185,10 +185,10 @@ unfolding standing
 pairs_standing ws p k n ek en = rw (en, ek)
 
 module _ (ws offsets : List ℕ) (i : Interface) (p : EntryParts) (k n : ℕ) (g : Given ws offsets i (standing ws p)) (ek : k ≡ word_at ws p.counts) (en : n ≡ bits 17 12 k) where
-  pub pairs_given : pairsBelow (length (resourceTable ws offsets)) (pairs_of (take n (drop p.pairs ws))) ≡ true
+  pub pairs_given : pairs_below (length (resource_table ws offsets)) (pairs_of (take n (drop p.pairs ws))) ≡ true
   pairs_given = rw (pairs_standing ws p k n ek en, g.table) g.named.pairs
 
-  pub pairs_provided : (L : Layout) (derived : Bool) (r : Answer) → derived ≡ false → r ≡ pair_uses L (resourceTable ws offsets) (pairs_of (take n (drop p.pairs ws)))
+  pub pairs_provided : (L : Layout) (derived : Bool) (r : Answer) → derived ≡ false → r ≡ pair_uses L (resource_table ws offsets) (pairs_of (take n (drop p.pairs ws)))
       → r ≡ pair_step derived i.resources (standing ws p) L
   pairs_provided L derived r d h = rw (yes_false derived d, ← g.table) (h ∙ rw (pairs_standing ws p k n ek en))
 

@@ -10,27 +10,27 @@ use Rattle.interface.specs.Inner.Parts.{resource_count}
 use Rattle.interface.specs.declared.types.SamplingPair.{SamplingPair}
 
 -- the resources of a pack, each at its position in a table of as many
-unfoldable pub resourceTable : List ℕ → List ℕ → List Resource
-resourceTable ws offsets = resources_at ws (take (resource_count ws) offsets)
+unfoldable pub resource_table : List ℕ → List ℕ → List Resource
+resource_table ws offsets = resources_at ws (take (resource_count ws) offsets)
 
 -- the words of a resource with a size stand from each position of such a table on
 pub record Inside (ws offsets : List ℕ) : Type 0 where
-  pub words : (k : ℕ) → k < length (resourceTable ws offsets) → word_at offsets k + resource_width ≤ length ws
+  pub words : (k : ℕ) → k < length (resource_table ws offsets) → word_at offsets k + resource_width ≤ length ws
 
 -- each is one that a pack can hold
-abbrev pub eachEncodable : List Resource → Bool
-eachEncodable rs = every resource_encodable rs
+abbrev pub each_encodable : List Resource → Bool
+each_encodable rs = every resource_encodable rs
 
 -- each index is below the number of resources
-abbrev pub eachBelow : ℕ → List ℕ → Bool
-eachBelow count is = every (λ i. ltb i count) is
+abbrev pub each_below : ℕ → List ℕ → Bool
+each_below count is = every (λ i. ltb i count) is
 
 -- and so are both indexes of each pair
-abbrev pub pairBelow : ℕ → SamplingPair → Bool
-pairBelow count p = ltb p.texture count && ltb p.sampler count
+abbrev pub pair_below : ℕ → SamplingPair → Bool
+pair_below count p = ltb p.texture count && ltb p.sampler count
 
-abbrev pub pairsBelow : ℕ → List SamplingPair → Bool
-pairsBelow count ps = every (pairBelow count) ps
+abbrev pub pairs_below : ℕ → List SamplingPair → Bool
+pairs_below count ps = every (pair_below count) ps
 
 -- the type word and the least size of a binding type that a layout list can hold
 pub record TypeWords (type least : ℕ) (ty : BindingType) : Type 0 where
@@ -39,5 +39,5 @@ pub record TypeWords (type least : ℕ) (ty : BindingType) : Type 0 where
   pub least_size : least ≡ least_size_of ty
 
 -- a type is the one that a word means, with whatever least size
-abbrev pub wordMeans : ℕ → BindingType → Type 0
-wordMeans w ty = (least : ℕ) × (ty ≡ binding_type_of w least)
+abbrev pub WordMeans : ℕ → BindingType → Type 0
+WordMeans w ty = (least : ℕ) × (ty ≡ binding_type_of w least)

@@ -4,14 +4,14 @@ use lib.ListN.{length, take, drop}
 use mathlib.Core.Bool.{true}
 use Rattle.layouts.specs.Format.{decode_layout}
 use Rattle.interface.specs.Format.{pairs_of}
-use Rattle.resource_steps.specs.Inner.Given.{resourceTable, pairsBelow}
+use Rattle.resource_steps.specs.Inner.Given.{resource_table, pairs_below}
 use Rattle.resource_steps.specs.Resources.{pair_uses}
-use Rattle.resource_steps.proofs.PairLaws.{pair_below, pairs_rest, pairs_refused, pairs_onward, pairs_ended}
+use Rattle.resource_steps.proofs.PairLaws.{pair_below_lem, pairs_rest, pairs_refused, pairs_onward, pairs_ended}
 use borrow.Author.Rules.{rules}
 use Rattle.resource_steps.proofs.pairs.pair_uses.Goals as goal
 
 pub pair_use-a-requires-clause-w_value : goal.pair_use-a-requires-clause-w_value
-pair_use-a-requires-clause-w_value c = (search pair_below, search rules)
+pair_use-a-requires-clause-w_value c = (search pair_below_lem, search rules)
 
 pub returns-then-a-ne0 : goal.returns-then-a-ne0
 returns-then-a-ne0 c = search pairs_refused

@@ -5,7 +5,7 @@ use mathlib.Core.Bool.{true}
 use Rattle.sizes.specs.Format.{sizes_well_formed, decode_sizes}
 use Rattle.layouts.specs.Format.{decode_layout}
 use Rattle.interface.specs.Format.{contents}
-use Rattle.resource_steps.specs.Inner.Given.{resourceTable, eachBelow}
+use Rattle.resource_steps.specs.Inner.Given.{resource_table, each_below}
 use Rattle.resource_steps.specs.Inner.Notes.{provide_notes}
 use Rattle.resource_steps.specs.Resources.{provide_steps}
 use Rattle.resource_steps.proofs.ResourceWalk.{below_start, below_here, below_rest}

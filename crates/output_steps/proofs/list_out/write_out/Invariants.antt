@@ -1,0 +1,18 @@
+use mathlib.Core.Path.{◌≡◌}
+use mathlib.Core.Bool.{true}
+use lib.ListN.{length, drop, set}
+use Rattle.stage_lists.specs.Format.{out_well_formed, decode_stage}
+use Rattle.interface.specs.Inner.Reads.{varyings}
+use Rattle.input_steps.proofs.VaryingLaws.{Ahead, ahead, second_there}
+use Rattle.output_steps.proofs.OutputLaws.{ahead_by}
+use Rattle.output_steps.proofs.ListOutLaws.{handed_all, Roomy, begun_roomy, next_encodable, next_few, next_room, roomy_onward, all_onward, as_long, all_ended}
+use borrow.Author.Rules.{rules}
+use Rattle.output_steps.proofs.list_out.write_out.Given as goal
+
+abbrev pub invariant-loop-left : goal.invariant-loop-left
+invariant-loop-left l =
+    Ahead l.pack l.left l.at × (length l.out ≡ length l.initial.out) × (out_well_formed (set l.out 0 l.head) ≡ true) × Roomy (varyings l.left (drop l.at l.pack)) (decode_stage (set l.out 0 l.head))
+    × (handed_all (varyings l.n (drop l.from l.pack)) (decode_stage (set l.initial.out 0 l.initial.head)) ≡ handed_all (varyings l.left (drop l.at l.pack)) (decode_stage (set l.out 0 l.head)))
+
+abbrev pub decreases-loop-left : goal.decreases-loop-left
+decreases-loop-left l = l.left
