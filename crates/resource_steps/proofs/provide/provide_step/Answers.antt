@@ -27,7 +27,7 @@ pub returns-then-recorded-ne0-clause-entries_after : goal.returns-then-recorded-
 returns-then-recorded-ne0-clause-entries_after c = search notes_ended
 
 pub returns-clause-sizes_after : goal.returns-clause-sizes_after
-returns-clause-sizes_after c = search (provide_went _ _ _ c.requires.offsets_value.1)
+returns-clause-sizes_after c = search (provide_went _ _ _ c.requires.i_in_bounds)
 
 pub returns-clause-entries_after : goal.returns-clause-entries_after
-returns-clause-entries_after c = search (notes_went _ _ _ c.requires.offsets_value.1)
+returns-clause-entries_after c = search (notes_went _ _ _ c.requires.i_in_bounds)

@@ -1,0 +1,27 @@
+use Rattle.populate.proofs.PutWays.{put_local, put_built_in, put_none, local_first, local_second, built_in_room}
+use borrow.Author.Rules.{rules}
+use Rattle.populate.proofs.put.put_bound.Reads as reads
+use Rattle.populate.proofs.put.put_bound.Lts as lts
+use Rattle.populate.proofs.put.built_in_word.Reads as built-in-word-reads
+use Rattle.populate.proofs.put.var_word.Reads as var-word-reads
+use Rattle.word.proofs.content.Reads as content-reads
+use Rattle.word.proofs.kind.Reads as kind-reads
+use Rattle.populate.proofs.put.put_bound.Goals as goal
+
+pub bounds-out-to : goal.bounds-out-to
+bounds-out-to c = search local_first
+
+pub bounds-out-to-then-kind-eq12 : goal.bounds-out-to-then-kind-eq12
+bounds-out-to-then-kind-eq12 c = search local_second
+
+pub returns-then-kind-eq12 : goal.returns-then-kind-eq12
+returns-then-kind-eq12 c = search put_local
+
+pub bounds-out-to-then-kind-eq14 : goal.bounds-out-to-then-kind-eq14
+bounds-out-to-then-kind-eq14 c = search built_in_room
+
+pub returns-then-kind-eq14 : goal.returns-then-kind-eq14
+returns-then-kind-eq14 c = search put_built_in
+
+pub returns : goal.returns
+returns c = search put_none

@@ -1,0 +1,22 @@
+use Rattle.populate.proofs.PutWays.{numeric_room, numeric_put, array_room, array_put}
+use borrow.Author.Rules.{rules}
+use Rattle.populate.proofs.put.put_lone.Reads as reads
+use Rattle.populate.proofs.put.put_lone.Lts as lts
+use Rattle.populate.proofs.put.put_bound.Reads as put-bound-reads
+use Rattle.populate.proofs.put.put_clip.Reads as put-clip-reads
+use Rattle.word.proofs.content.Reads as content-reads
+use Rattle.word.proofs.kind.Reads as kind-reads
+use Rattle.word.proofs.word.Reads as word-reads
+use Rattle.populate.proofs.put.put_lone.Goals as goal
+
+pub put_bound-requires : goal.put_bound-requires
+put_bound-requires c = search numeric_room
+
+pub returns-then-kind-eq22 : goal.returns-then-kind-eq22
+returns-then-kind-eq22 c = search numeric_put
+
+pub put_clip-requires-clause-var_in_bounds : goal.put_clip-requires-clause-var_in_bounds
+put_clip-requires-clause-var_in_bounds c = search array_room
+
+pub returns : goal.returns
+returns c = search array_put
