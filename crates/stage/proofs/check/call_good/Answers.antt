@@ -1,0 +1,9 @@
+use Rattle.stage.proofs.CheckLaws.{tests_on}
+use borrow.Author.Rules.{rules}
+use Rattle.stage.proofs.check.call_good.Goals as goal
+
+pub returns-then-lists_good : goal.returns-then-lists_good
+returns-then-lists_good c = search tests_on
+
+pub returns : goal.returns
+returns c = search tests_on

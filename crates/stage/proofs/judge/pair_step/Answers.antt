@@ -1,0 +1,12 @@
+use Rattle.stage.proofs.JudgeLaws.{pairs_derived, pairs_given, pairs_provided}
+use borrow.Author.Rules.{rules}
+use Rattle.stage.proofs.judge.pair_step.Goals as goal
+
+pub returns-then-derived : goal.returns-then-derived
+returns-then-derived c = search pairs_derived
+
+pub pair_uses-requires-clause-pack_value : goal.pair_uses-requires-clause-pack_value
+pair_uses-requires-clause-pack_value c = search pairs_given
+
+pub returns : goal.returns
+returns c = search pairs_provided

@@ -1,0 +1,6 @@
+use Rattle.stage.proofs.JudgeLaws.{payload_there}
+use borrow.Author.Rules.{rules}
+use Rattle.stage.proofs.judge.payload_of.Goals as goal
+
+pub returns : goal.returns
+returns c = search payload_there

@@ -1,0 +1,6 @@
+use Rattle.stage.proofs.JudgeLaws.{workgroup_there}
+use borrow.Author.Rules.{rules}
+use Rattle.stage.proofs.judge.workgroup_of.Goals as goal
+
+pub returns : goal.returns
+returns c = search workgroup_there
