@@ -46,7 +46,7 @@ use Rattle.resource_steps.proofs.ResourceWalk.{index_next, index_none, one_more}
 -- a type by its word and its least size, and that of an entry
 module _ (ty least : ℕ) (b e : BindingType) (q : b ≡ binding_type_of ty least) (t : TypeWords ty least b) (x : ℕ) (ex : x ≡ of_kind 18 (binding_code e)) (back : binding_type_of x (least_size_of e) ≡ e) where
   pub type_differs : (x ≡ ty → ⊥) → false ≡ same_binding b e
-  type_differs n = sym (other_by_code b e (λ q. n (omega (arith, t.type_word_lem))))
+  type_differs n = sym (other_by_code b e (λ q. n (omega (arith, t.type_word))))
 
   -- where the words are the same, the least sizes decide
   pub type_by_least : (y : ℕ) → x ≡ ty → y ≡ least_size_of e → eqb least y ≡ same_binding b e
@@ -88,10 +88,10 @@ module _ (place ty least p v : ℕ) (b : BindingType) (t : TypeWords ty least b)
   place_again = omega arith
 
   pub new_well_formed : parts_well_formed (0x20000000 + p) ty least (0x98000000 + v) ≡ true
-  new_well_formed = rw (place_again, t.type_word_lem, t.least_size) (entry_well_formed_lem new new_encodable)
+  new_well_formed = rw (place_again, t.type_word, t.least_size) (entry_well_formed_lem new new_encodable)
 
   new_mean : parts ≡ new
-  new_mean = rw (place_again, t.type_word_lem, t.least_size) (entry_read new new_encodable)
+  new_mean = rw (place_again, t.type_word, t.least_size) (entry_read new new_encodable)
 
   pub new_fits : (L : Layout) → (place_of place).group < L.groups → entry_fits L.groups parts ≡ true
   new_fits L g = rw (new_mean, new_encodable, lt-ltb (place_of place).group L.groups g)
@@ -145,7 +145,7 @@ module _ (named : Bool) (w size ty least : ℕ) (h : type_encodable (resource_ty
       some_derived d ty (e size) z λ b q x.
       let f : format_encodable b ≡ true = derived_encodable (resource_type_of w size) named b h q in
       let y : least ≡ least_size_of b = rw (derived_least w size named b q) s in
-      k b q (record { encodable = f; type_word_lem = x; least_size = y }) (rw (y, x) (type_read b f))
+      k b q (record { encodable = f; type_word = x; least_size = y }) (rw (y, x) (type_read b f))
 
   pub derived_words : TypeWords ty least (binding_type_of ty least)
   derived_words = typed (λ b q t m. rw m t)

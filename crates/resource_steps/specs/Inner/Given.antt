@@ -35,7 +35,7 @@ pairs_below count ps = every (pair_below count) ps
 -- the type word and the least size of a binding type that a layout list can hold
 pub record TypeWords (type least : ℕ) (ty : BindingType) : Type 0 where
   pub encodable : format_encodable ty ≡ true
-  pub type_word_lem : type ≡ of_kind 18 (binding_code ty)
+  pub type_word : type ≡ of_kind 18 (binding_code ty)
   pub least_size : least ≡ least_size_of ty
 
 -- a type is the one that a word means, with whatever least size

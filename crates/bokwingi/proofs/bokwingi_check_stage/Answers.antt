@@ -1,0 +1,15 @@
+use Rattle.bokwingi.proofs.DetailLaws.{stage_handed, stage_layout, stage_sizes, stage_out_lem}
+use borrow.Author.Rules.{rules}
+use Rattle.bokwingi.proofs.bokwingi_check_stage.Goals as goal
+
+pub returns-clause-handed : goal.returns-clause-handed
+returns-clause-handed c = search stage_handed
+
+pub returns-clause-layout_after : goal.returns-clause-layout_after
+returns-clause-layout_after c = search stage_layout
+
+pub returns-clause-sizes_after : goal.returns-clause-sizes_after
+returns-clause-sizes_after c = search stage_sizes
+
+pub returns-clause-out_after : goal.returns-clause-out_after
+returns-clause-out_after c = search stage_out_lem

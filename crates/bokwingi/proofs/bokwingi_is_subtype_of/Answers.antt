@@ -1,0 +1,6 @@
+use Rattle.bokwingi.proofs.DetailLaws.{compared_number}
+use borrow.Author.Rules.{rules}
+use Rattle.bokwingi.proofs.bokwingi_is_subtype_of.Goals as goal
+
+pub returns : goal.returns
+returns c = search compared_number

@@ -1,0 +1,9 @@
+use Rattle.bokwingi.proofs.DetailLaws.{pair_handed, pair_out}
+use borrow.Author.Rules.{rules}
+use Rattle.bokwingi.proofs.bokwingi_populate.Goals as goal
+
+pub returns-clause-handed : goal.returns-clause-handed
+returns-clause-handed c = search pair_handed
+
+pub returns-clause-out_after : goal.returns-clause-out_after
+returns-clause-out_after c = search pair_out
