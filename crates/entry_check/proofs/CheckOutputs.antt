@@ -11,7 +11,6 @@ use Rattle.varying.specs.Format.{location_well_formed, var_well_formed}
 use Rattle.interface.specs.Format.{built_in_well_formed, built_in_of, read_varying, local, is_clip, clips}
 use Rattle.entry_check.specs.Inner.Walks.{thence, varyings_behind}
 use Rattle.entry_check.proofs.CheckVaryings.{Below, below, other_code, code_clip}
-use Rattle.interface.specs.declared.types.BuiltIn.{BuiltIn}
 use Rattle.interface.specs.declared.types.BuiltIn.TheVariants as In
 use Rattle.interface.specs.declared.types.Varying.{Varying}
 use Rattle.interface.specs.declared.types.Varying.TheVariants as Var

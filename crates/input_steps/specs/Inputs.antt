@@ -1,5 +1,5 @@
 -- The inputs of an entry point against what the stage before provides (document 01, 'Inputs, in order'; WebGPU, 'validating inter-stage interfaces').
-use Rattle.std.specs.Prelude.{ℕ, ◌+◌, ◌-◌, true, false, ◌||◌, List, [], ◌∷◌, eqb}
+use Rattle.std.specs.Prelude.{ℕ, ◌+◌, true, false, ◌||◌, List, [], ◌∷◌, eqb}
 use Rattle.word.specs.Choice.{pick, yes}
 use Rattle.word.specs.Numbers as Number
 use Rattle.word.specs.Answers.{answer, accepted}
@@ -11,7 +11,6 @@ use Rattle.varying.specs.declared.Located.{Located}
 use Rattle.stage_lists.specs.Meaning.{varying_at}
 use Rattle.stage_lists.specs.declared.types.Provided.{Provided}
 use Rattle.stage_lists.specs.declared.types.Provided.TheVariants as Pro
-use Rattle.stage_lists.specs.declared.types.PrimitiveIndex.{PrimitiveIndex}
 use Rattle.interface.specs.declared.types.ShaderStage.{ShaderStage}
 use Rattle.interface.specs.declared.types.ShaderStage.TheVariants as Stage
 use Rattle.interface.specs.declared.types.BuiltIn.{BuiltIn}

@@ -1,5 +1,5 @@
 -- The workgroup size of an entry point (document 01, 'Compute, task, mesh'; WebGPU, limits of compute stages).
-use Rattle.std.specs.Prelude.{ℕ, ◌-◌, ◌*◌, ◌||◌, List, eqb, ltb, get_or}
+use Rattle.std.specs.Prelude.{ℕ, ◌*◌, ◌||◌, List, eqb, ltb, get_or}
 use Rattle.word.specs.Choice.{pick}
 use Rattle.word.specs.Numbers as Number
 use Rattle.word.specs.Answers.{answer, accepted}

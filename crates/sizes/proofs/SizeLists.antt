@@ -10,7 +10,7 @@ use Rattle.word.specs.Words.{word_at, kind_of, bits, of_kind, content_of}
 use Rattle.word.proofs.Truth.{first, second}
 use Rattle.sizes.specs.Meaning.{Sizes, distinct_sizes}
 use Rattle.word.specs.Lists.{every}
-use Rattle.places.specs.Records.{each, count_of, records}
+use Rattle.places.specs.Records.{each, count_of}
 use Rattle.sizes.specs.Format.{read_size, size_good, size_record_words, size_encodable, read_sizes, sizes_head, sizes_well_formed, decode_sizes, encode_sizes, sizes_good}
 use Rattle.places.proofs.Records.{Joined, Carried, read_length, room_length, flat_read, every_read, carried}
 use Rattle.places.proofs.Words.{two}

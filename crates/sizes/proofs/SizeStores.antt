@@ -15,7 +15,7 @@ use Rattle.bindings.proofs.EntryFormat.{place_back}
 use Rattle.word.proofs.Truth.{first, second}
 use Rattle.sizes.specs.Meaning.{size_places, size_has, size_record, size_fits, recorded}
 use Rattle.places.specs.Places.{found_below, place_from, distinct_places, places}
-use Rattle.places.specs.Records.{room_for, put, past, each, count_of, records}
+use Rattle.places.specs.Records.{room_for, put, past, each, count_of}
 use Rattle.sizes.specs.Format.{read_size, read_sizes, size_good, size_record_words, sizes_well_formed, decode_sizes, encode_sizes, sizes_good}
 use Rattle.sizes.specs.declared.size_record.SizeRecord.{SizeRecord}
 use Rattle.sizes.specs.Inner.Near.{find_size, note_next}

@@ -1,6 +1,5 @@
 use Rattle.varying.proofs.Ways.{location_kind}
 use Rattle.word.proofs.Tests.{tests}
-use borrow.Author.Rules.{rules}
 use Rattle.varying.proofs.location_well_formed.Goals as goal
 
 pub returns : goal.returns

@@ -1,6 +1,5 @@
 use Rattle.varying.proofs.Ways.{payload_kind}
 use Rattle.word.proofs.Tests.{tests}
-use borrow.Author.Rules.{rules}
 use Rattle.varying.proofs.payload_well_formed.Goals as goal
 
 pub returns-then-kind-ne9 : goal.returns-then-kind-ne9

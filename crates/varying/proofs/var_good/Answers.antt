@@ -1,5 +1,4 @@
 use Rattle.varying.proofs.Ways.{var_same}
-use borrow.Author.Rules.{rules}
 use Rattle.varying.proofs.var_good.Goals as goal
 
 pub returns-then-w-good : goal.returns-then-w-good

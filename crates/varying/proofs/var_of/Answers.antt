@@ -1,5 +1,4 @@
 use Rattle.varying.proofs.Ways.{var_parts}
-use borrow.Author.Rules.{rules}
 use Rattle.varying.proofs.var_of.Goals as goal
 
 pub returns : goal.returns

@@ -1,6 +1,5 @@
 use Rattle.varying.proofs.Ways.{var_kind}
 use Rattle.word.proofs.Tests.{tests}
-use borrow.Author.Rules.{rules}
 use Rattle.varying.proofs.var_well_formed.Goals as goal
 
 pub returns-then-kind-ne13 : goal.returns-then-kind-ne13

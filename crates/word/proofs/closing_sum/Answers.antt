@@ -1,5 +1,4 @@
-use Rattle.std.proofs.Common.{◌≡◌, ◌-◌, ◌%◌, ◌^◌, ◌≤◌, length, take, rules}
-use Rattle.word.specs.Words.{sum_of}
+use Rattle.std.proofs.Common.{rules}
 use Rattle.word.proofs.Sums.{sum_begins, sum_onward, sum_ended}
 use Rattle.word.proofs.closing_sum.Goals as goal
 

@@ -1,6 +1,5 @@
-use Rattle.std.proofs.Common.{◌≡◌, ◌-◌, ◌%◌, ◌^◌, ◌≤◌, length, take, rules}
+use Rattle.std.proofs.Common.{◌≡◌, ◌-◌, ◌%◌, ◌^◌, ◌≤◌, length, take}
 use Rattle.word.specs.Words.{sum_of}
-use Rattle.word.proofs.Sums.{sum_begins, sum_onward, sum_ended}
 use Rattle.word.proofs.closing_sum.Given as goal
 
 abbrev pub invariant-loop-i : goal.invariant-loop-i

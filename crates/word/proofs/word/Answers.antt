@@ -1,5 +1,4 @@
 use lib.ListN.{get_or-eq_default}
-use Rattle.std.proofs.Common.{rules}
 use Rattle.word.proofs.word.Goals as goal
 
 pub returns-else-at-s : goal.returns-else-at-s

@@ -1,5 +1,4 @@
 use Rattle.word.proofs.Tests.{tests}
-use Rattle.std.proofs.Common.{rules}
 use Rattle.bindings.proofs.answers.binding_answer.Goals as goal
 
 pub returns-then-number-eq0 : goal.returns-then-number-eq0

@@ -1,5 +1,4 @@
 use Rattle.word.proofs.Tests.{tests}
-use Rattle.std.proofs.Common.{rules}
 use Rattle.bindings.proofs.binding_codes.flag.Goals as goal
 
 pub returns-then-b-clause-value : goal.returns-then-b-clause-value

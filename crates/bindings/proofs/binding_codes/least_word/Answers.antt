@@ -1,4 +1,4 @@
-use Rattle.std.proofs.Common.{arith, rules}
+use Rattle.std.proofs.Common.{arith}
 use Rattle.bindings.proofs.CodeLaws.{least_fits}
 use Rattle.bindings.proofs.binding_codes.least_word.Goals as goal
 

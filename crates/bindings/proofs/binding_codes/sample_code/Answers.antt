@@ -1,6 +1,5 @@
 use Rattle.bindings.proofs.CodeLaws.{float_code}
 use Rattle.word.proofs.Tests.{tests}
-use Rattle.std.proofs.Common.{rules}
 use Rattle.bindings.proofs.binding_codes.sample_code.Goals as goal
 
 pub returns-then-filterable-clause-value : goal.returns-then-filterable-clause-value

@@ -1,5 +1,4 @@
 use Rattle.bindings.proofs.EntryLaws.{entry_past, entry_there_lem}
-use Rattle.std.proofs.Common.{rules}
 use Rattle.bindings.proofs.entry_words.entry_at.Goals as goal
 
 pub returns-then-l-at-clause-value : goal.returns-then-l-at-clause-value

@@ -1,5 +1,4 @@
 use Rattle.bindings.proofs.EntryLaws.{entry_parts}
-use Rattle.std.proofs.Common.{rules}
 use Rattle.bindings.proofs.entry_words.entry_of.Goals as goal
 
 pub returns-clause-value : goal.returns-clause-value

@@ -1,5 +1,4 @@
 use Rattle.bindings.proofs.EntryLaws.{well_formed_past, well_formed_there}
-use Rattle.std.proofs.Common.{rules}
 use Rattle.bindings.proofs.entry_words.entry_well_formed.Goals as goal
 
 pub returns-then-l-at : goal.returns-then-l-at

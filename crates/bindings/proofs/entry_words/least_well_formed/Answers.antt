@@ -1,5 +1,4 @@
 use Rattle.word.proofs.Tests.{tests}
-use Rattle.std.proofs.Common.{rules}
 use Rattle.bindings.proofs.entry_words.least_well_formed.Goals as goal
 
 pub returns-then-least-ne6 : goal.returns-then-least-ne6

@@ -1,5 +1,4 @@
 use Rattle.bindings.proofs.EntryLaws.{type_word_lem}
-use Rattle.std.proofs.Common.{rules}
 use Rattle.bindings.proofs.entry_words.type_well_formed.Goals as goal
 
 pub returns : goal.returns

@@ -1,5 +1,4 @@
 use Rattle.bindings.proofs.ReadLaws.{place_encodable_lem}
-use Rattle.std.proofs.Common.{rules}
 use Rattle.bindings.proofs.resource_words.place_of.Goals as goal
 
 pub returns-clause-result_value : goal.returns-clause-result_value

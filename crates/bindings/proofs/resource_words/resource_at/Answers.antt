@@ -1,5 +1,4 @@
 use Rattle.bindings.proofs.ResourceLaws.{resource_past, resource_there_lem}
-use Rattle.std.proofs.Common.{rules}
 use Rattle.bindings.proofs.resource_words.resource_at.Goals as goal
 
 pub returns-then-pack-at-clause-value : goal.returns-then-pack-at-clause-value

@@ -1,5 +1,4 @@
 use Rattle.bindings.proofs.ResourceLaws.{next_few, next_no_place, next_no_type, next_sized, next_later}
-use Rattle.std.proofs.Common.{rules}
 use Rattle.bindings.proofs.resource_words.resource_next.Goals as goal
 
 pub returns-then-body-at-lt2-clause-result_value : goal.returns-then-body-at-lt2-clause-result_value

@@ -1,5 +1,4 @@
 use Rattle.bindings.proofs.ResourceLaws.{resource_parts}
-use Rattle.std.proofs.Common.{rules}
 use Rattle.bindings.proofs.resource_words.resource_of.Goals as goal
 
 pub returns-clause-value : goal.returns-clause-value

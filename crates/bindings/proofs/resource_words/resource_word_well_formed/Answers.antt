@@ -1,5 +1,4 @@
 use Rattle.word.proofs.Tests.{tests}
-use Rattle.std.proofs.Common.{rules}
 use Rattle.bindings.proofs.resource_words.resource_word_well_formed.Goals as goal
 
 pub returns-then-w-eq16 : goal.returns-then-w-eq16

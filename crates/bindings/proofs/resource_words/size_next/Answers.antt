@@ -1,5 +1,4 @@
 use Rattle.bindings.proofs.ResourceLaws.{size_none, size_past, size_bad, size_good_lem}
-use Rattle.std.proofs.Common.{rules}
 use Rattle.bindings.proofs.resource_words.size_next.Goals as goal
 
 pub returns-then-not-is_buffer-clause-result_value : goal.returns-then-not-is_buffer-clause-result_value

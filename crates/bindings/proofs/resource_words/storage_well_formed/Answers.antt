@@ -1,6 +1,5 @@
 use Rattle.bindings.proofs.ResourceLaws.{storage_bits}
 use Rattle.word.proofs.Tests.{tests}
-use Rattle.std.proofs.Common.{rules}
 use Rattle.bindings.proofs.resource_words.storage_well_formed.Goals as goal
 
 pub returns-then-w-ne0 : goal.returns-then-w-ne0

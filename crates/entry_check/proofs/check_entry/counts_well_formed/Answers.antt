@@ -1,6 +1,5 @@
 use Rattle.entry_check.proofs.CheckWords.{kind_first}
 use Rattle.word.proofs.Tests.{tests}
-use Rattle.std.proofs.Common.{rules}
 use Rattle.entry_check.proofs.check_entry.counts_well_formed.Goals as goal
 
 pub returns-then-kind-ne15 : goal.returns-then-kind-ne15

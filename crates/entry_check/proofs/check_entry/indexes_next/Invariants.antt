@@ -1,10 +1,7 @@
-use Rattle.std.proofs.Common.{◌≡◌, ◌+◌, ◌-◌, ◌≤◌, take, drop, refl, rules}
+use Rattle.std.proofs.Common.{◌≡◌, ◌+◌, ◌-◌, ◌≤◌, take, drop}
 use Rattle.word.specs.Parse.{one, several, behind, rest_at}
-use Rattle.word.proofs.Parse.{several_begins, several_ended}
 use Rattle.interface.specs.Format.{index_well_formed, contents}
 use Rattle.entry_check.specs.Inner.Walks.{roles_of}
-use Rattle.entry_check.proofs.CheckSteps.{words_lack, words_stop, words_go}
-use Rattle.entry_check.proofs.CheckPairs.{marks_begin, index_past, index_told, marks_go, marks_end}
 use Rattle.entry_check.proofs.check_entry.indexes_next.Given as goal
 
 abbrev pub invariant-loop-i : goal.invariant-loop-i

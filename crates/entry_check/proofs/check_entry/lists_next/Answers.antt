@@ -1,4 +1,3 @@
-use Rattle.std.proofs.Common.{rules}
 use Rattle.entry_check.proofs.CheckPairs.{lists_stop, pairs_stop, lists_go}
 use Rattle.entry_check.proofs.check_entry.lists_next.Goals as goal
 

@@ -1,7 +1,6 @@
 use Rattle.interface.specs.Format.{topology_well_formed}
 use Rattle.entry_check.proofs.CheckSteps.{steps, word_in, rest_behind}
 use Rattle.entry_check.proofs.CheckWalks.{mesh_absent, mesh_present}
-use Rattle.std.proofs.Common.{rules}
 use Rattle.entry_check.proofs.check_entry.mesh_next.Goals as goal
 
 pub returns-then-not-marked-clause-result_value : goal.returns-then-not-marked-clause-result_value

@@ -1,6 +1,5 @@
 use Rattle.entry_check.proofs.CheckWords.{kind_alone}
 use Rattle.word.proofs.Tests.{tests}
-use Rattle.std.proofs.Common.{rules}
 use Rattle.entry_check.proofs.check_entry.of_kind.Goals as goal
 
 pub returns : goal.returns

@@ -1,6 +1,5 @@
 use Rattle.entry_check.proofs.CheckWords.{pair_kind, pair_other, pair_last}
 use Rattle.word.proofs.Tests.{tests}
-use Rattle.std.proofs.Common.{rules}
 use Rattle.entry_check.proofs.check_entry.pair_well_formed.Goals as goal
 
 pub returns-then-kind-ne5 : goal.returns-then-kind-ne5

@@ -1,7 +1,5 @@
-use Rattle.std.proofs.Common.{◌≡◌, ◌+◌, ◌-◌, ◌≤◌, drop, rules}
-use Rattle.word.specs.Parse.{one, several, behind, rest_at}
+use Rattle.std.proofs.Common.{rules}
 use Rattle.word.proofs.Parse.{several_begins, several_ended}
-use Rattle.entry_check.specs.Inner.Walks.{pair_by_roles}
 use Rattle.entry_check.proofs.CheckSteps.{words_lack, words_stop, words_go}
 use Rattle.word.proofs.Truth.{told_false, told_true}
 use Rattle.entry_check.proofs.check_entry.pairs_next.Goals as goal

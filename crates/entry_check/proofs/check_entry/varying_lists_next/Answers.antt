@@ -1,5 +1,4 @@
 use Rattle.entry_check.proofs.CheckSteps.{steps}
-use Rattle.std.proofs.Common.{rules}
 use Rattle.entry_check.proofs.check_entry.varying_lists_next.Goals as goal
 
 pub returns-then-outputs-eq0-clause-result_value : goal.returns-then-outputs-eq0-clause-result_value

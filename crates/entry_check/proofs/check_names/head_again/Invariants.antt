@@ -1,6 +1,5 @@
-use Rattle.std.proofs.Common.{◌≡◌, ◌-◌, length, drop, rules}
+use Rattle.std.proofs.Common.{◌≡◌, ◌-◌, length, drop}
 use Rattle.entry_check.specs.Inner.Walks.{has_head}
-use Rattle.entry_check.proofs.CheckHeads.{head_found, head_missed, heads_ended}
 use Rattle.entry_check.proofs.check_names.head_again.Given as goal
 
 abbrev pub invariant-loop-i : goal.invariant-loop-i

@@ -1,6 +1,4 @@
-use Rattle.std.proofs.Common.{◌≡◌, ◌≤◌, length, drop, rules}
-use Rattle.word.specs.Parse.{behind}
-use Rattle.interface.specs.Format.{read_name}
+use Rattle.std.proofs.Common.{rules}
 use Rattle.entry_check.proofs.CheckNames.{name_stops, name_goes, name_in, name_ended}
 use Rattle.entry_check.proofs.check_names.name_next.Goals as goal
 

@@ -1,7 +1,6 @@
-use Rattle.std.proofs.Common.{◌≡◌, ◌≤◌, length, drop, rules}
+use Rattle.std.proofs.Common.{◌≡◌, ◌≤◌, length, drop}
 use Rattle.word.specs.Parse.{behind}
 use Rattle.interface.specs.Format.{read_name}
-use Rattle.entry_check.proofs.CheckNames.{name_stops, name_goes, name_in, name_ended}
 use Rattle.entry_check.proofs.check_names.name_next.Given as goal
 
 abbrev pub invariant-loop-left : goal.invariant-loop-left

@@ -1,6 +1,5 @@
-use Rattle.std.proofs.Common.{◌≡◌, ◌-◌, length, drop, rules}
+use Rattle.std.proofs.Common.{◌≡◌, ◌-◌, length, drop}
 use Rattle.entry_check.specs.Inner.Walks.{distinct_heads}
-use Rattle.entry_check.proofs.CheckHeads.{head_twice, head_once, distinct_ended}
 use Rattle.entry_check.proofs.check_names.names_distinct.Given as goal
 
 abbrev pub invariant-loop-i : goal.invariant-loop-i

@@ -1,4 +1,3 @@
-use Rattle.std.proofs.Common.{rules}
 use Rattle.entry_check.proofs.CheckHeads.{same_heads}
 use Rattle.entry_check.proofs.check_names.same_head.Goals as goal
 

@@ -1,5 +1,4 @@
-use Rattle.std.proofs.Common.{◌≡◌, ◌+◌, ◌^◌, ◌<◌, drop, rules}
-use Rattle.entry_check.specs.Inner.Walks.{same_name}
+use Rattle.std.proofs.Common.{rules}
 use Rattle.entry_check.proofs.CheckHeads.{names_differ, names_agree, names_ended}
 use Rattle.entry_check.proofs.check_names.same_name.Goals as goal
 

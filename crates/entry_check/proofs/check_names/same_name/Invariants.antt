@@ -1,6 +1,5 @@
-use Rattle.std.proofs.Common.{◌≡◌, ◌+◌, ◌^◌, ◌<◌, drop, rules}
+use Rattle.std.proofs.Common.{◌≡◌, ◌+◌, ◌^◌, ◌<◌, drop}
 use Rattle.entry_check.specs.Inner.Walks.{same_name}
-use Rattle.entry_check.proofs.CheckHeads.{names_differ, names_agree, names_ended}
 use Rattle.entry_check.proofs.check_names.same_name.Given as goal
 
 abbrev pub invariant-loop-left : goal.invariant-loop-left

@@ -1,5 +1,4 @@
 use Rattle.entry_check.proofs.CheckHeads.{words_compared}
-use Rattle.std.proofs.Common.{rules}
 use Rattle.entry_check.proofs.check_names.same_words.Goals as goal
 
 pub returns : goal.returns

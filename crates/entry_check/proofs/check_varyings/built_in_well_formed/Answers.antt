@@ -1,4 +1,3 @@
-use Rattle.std.proofs.Common.{rules}
 use Rattle.entry_check.proofs.CheckWords.{built_in_bits, built_in_code_lem, built_in_kind}
 use Rattle.entry_check.proofs.check_varyings.built_in_well_formed.Goals as goal
 

@@ -1,8 +1,6 @@
-use Rattle.std.proofs.Common.{◌≡◌, ◌≤◌, true, length, drop, rules}
+use Rattle.std.proofs.Common.{◌≡◌, ◌≤◌, true, length, drop}
 use Rattle.varying.specs.Format.{var_well_formed}
 use Rattle.entry_check.specs.Inner.Walks.{varyings_behind}
-use Rattle.varying.proofs.Ways.{var_vector}
-use Rattle.entry_check.proofs.CheckVaryings.{local_stop, local_in, local_good, local_go, built_in_stop, built_in_in, built_in_go, codes_stay, varyings_ended}
 use Rattle.entry_check.proofs.check_varyings.varyings_next.Given as goal
 
 abbrev pub invariant-loop-left : goal.invariant-loop-left

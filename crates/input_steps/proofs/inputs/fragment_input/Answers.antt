@@ -1,5 +1,4 @@
 use Rattle.input_steps.proofs.InputLaws.{fragment_same, fragment_read}
-use borrow.Author.Rules.{rules}
 use Rattle.input_steps.proofs.inputs.fragment_input.Goals as goal
 
 pub returns-then-w-provided-clause-value : goal.returns-then-w-provided-clause-value

@@ -1,6 +1,5 @@
 use Rattle.places.proofs.PlaceWays.{found_inside, found_bytes}
 use Rattle.input_steps.proofs.InputLaws.{number_found, number_missing}
-use borrow.Author.Rules.{rules}
 use Rattle.input_steps.proofs.inputs.input_number.Goals as goal
 
 pub offset_bounds-inputs-index : goal.offset_bounds-inputs-index

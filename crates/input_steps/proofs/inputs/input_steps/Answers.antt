@@ -1,4 +1,4 @@
-use Rattle.std.proofs.Common.{◌≡◌, ℕ, ◌+◌, ◌-◌, ◌<◌, ◌≤◌, length, drop, [], ◌∷◌, List, refl, arith}
+use Rattle.std.proofs.Common.{◌≡◌, ℕ, ◌+◌, drop, [], ◌∷◌, List, refl, arith}
 use Rattle.word.specs.Words.{word_at}
 use Rattle.word.specs.declared.answer.Answer.{Answer}
 use Rattle.stage_lists.specs.Format.{decode_stage}
@@ -41,10 +41,12 @@ pub loop-left-preserved : goal.loop-left-preserved
 loop-left-preserved c =
     let e = c.input_step-answer.ensures in
     let s : walked c.input_step-answer.new.walk c.input_step-answer.result ≡ input_step c.args.stage (decode_stage c.args.inputs.now).varyings (varying (c.word_in-first.result ∷ c.word_in-second.result ∷ [])) c.loop-left.walk = in_parts _ _ _ e.0 e.1 in
-    let on = wide c.args.pack.now _ _ _ c.word_in-first.ensures c.past_input-at.ensures in
-    (rw on (ends_left _ _ _ c.loop-left.invariant.0 c.loop-left-test.true _ refl), locals_left _ _ _ _ _ _ s c.loop-left-test.true c.loop-left.invariant.1,
-    inputs_onward c.args.stage (decode_stage c.args.inputs.now).varyings c.args.pack.now c.loop-left.left c.loop-left.at c.loop-left.walk _ c.loop-left.invariant.2 _ _ c.loop-left-test.true (varying_words_lem c.args.pack.now c.loop-left.at _ _ c.word_in-first.ensures c.word_in-second.ensures) s _
-    c.if-answer-ne0.false on)
+    let on = wide c.args.pack.now _ _ _ c.word_in-first.ensures c.past_input-at.ensures in (
+      rw on (ends_left _ _ _ c.loop-left.invariant.0 c.loop-left-test.true _ refl),
+      locals_left _ _ _ _ _ _ s c.loop-left-test.true c.loop-left.invariant.1,
+      inputs_onward c.args.stage (decode_stage c.args.inputs.now).varyings c.args.pack.now c.loop-left.left c.loop-left.at c.loop-left.walk _ c.loop-left.invariant.2 _ _ c.loop-left-test.true (varying_words_lem c.args.pack.now c.loop-left.at _ _ c.word_in-first.ensures c.word_in-second.ensures) s _
+          c.if-answer-ne0.false on,
+    )
 
 pub returns : goal.returns
 returns c = inputs_ended c.args.stage (decode_stage c.args.inputs.now).varyings c.args.pack.now c.loop-left.left c.loop-left.at c.loop-left.walk _ c.loop-left.invariant.2 _ c.loop-left-test.false c.accepted.ensures

@@ -1,5 +1,4 @@
 use Rattle.input_steps.proofs.InputLaws.{value_refused, value_met}
-use borrow.Author.Rules.{rules}
 use Rattle.input_steps.proofs.inputs.input_value.Goals as goal
 
 pub returns-then-number-ne0 : goal.returns-then-number-ne0

@@ -1,5 +1,4 @@
 use Rattle.input_steps.proofs.InputLaws.{past_local, past_built_in}
-use borrow.Author.Rules.{rules}
 use Rattle.input_steps.proofs.inputs.met.Goals as goal
 
 pub returns-then-location_well_formed : goal.returns-then-location_well_formed

@@ -1,5 +1,4 @@
 use Rattle.input_steps.proofs.InputLaws.{met_at}
-use borrow.Author.Rules.{rules}
 use Rattle.input_steps.proofs.inputs.met_built_in.Goals as goal
 
 pub returns-in-Other : goal.returns-in-Other

@@ -1,5 +1,4 @@
 use Rattle.input_steps.proofs.InputLaws.{met_local_lem}
-use borrow.Author.Rules.{rules}
 use Rattle.input_steps.proofs.inputs.met_local.Goals as goal
 
 pub returns : goal.returns

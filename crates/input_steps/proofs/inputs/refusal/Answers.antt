@@ -1,5 +1,4 @@
 use Rattle.input_steps.proofs.InputLaws.{number_local, number_built_in}
-use borrow.Author.Rules.{rules}
 use Rattle.input_steps.proofs.inputs.refusal.Goals as goal
 
 pub returns-then-location_well_formed-clause-value : goal.returns-then-location_well_formed-clause-value

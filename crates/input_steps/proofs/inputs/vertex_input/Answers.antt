@@ -1,5 +1,4 @@
 use Rattle.input_steps.proofs.InputLaws.{vertex_kind, vertex_primitive, vertex_good}
-use borrow.Author.Rules.{rules}
 use Rattle.input_steps.proofs.inputs.vertex_input.Goals as goal
 
 pub returns-then-w-provided-clause-value : goal.returns-then-w-provided-clause-value

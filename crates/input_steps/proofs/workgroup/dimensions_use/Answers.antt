@@ -1,5 +1,4 @@
 use Rattle.input_steps.proofs.WorkgroupLaws.{use_large, use_zero, use_good}
-use borrow.Author.Rules.{rules}
 use Rattle.input_steps.proofs.workgroup.dimensions_use.Goals as goal
 
 pub returns-then-too_large : goal.returns-then-too_large

@@ -1,5 +1,4 @@
 use Rattle.input_steps.proofs.WorkgroupLaws.{over_none, over_two, two_fit, three_fit}
-use borrow.Author.Rules.{rules}
 use Rattle.input_steps.proofs.workgroup.product_over.Goals as goal
 
 pub returns-then-z-eq0 : goal.returns-then-z-eq0

@@ -1,5 +1,4 @@
 use Rattle.word.proofs.Tests.{tests}
-use borrow.Author.Rules.{rules}
 use Rattle.input_steps.proofs.workgroup.too_large.Goals as goal
 
 pub returns-then-x-size : goal.returns-then-x-size

@@ -1,8 +1,6 @@
-use Rattle.interface.proofs.ReadsParts.{end_begins, end_onward, end_ended}
 use Prim.Native.Nat.{◌+◌, ◌*◌, ◌≤◌}
 use mathlib.Core.Path.{◌≡◌}
 use Rattle.interface.specs.Inner.Parts.{entries_at, end_from, resource_end}
-use borrow.Author.Rules.{rules}
 use Rattle.interface.proofs.parts.entries_at.Given as goal
 
 abbrev pub invariant-loop-left : goal.invariant-loop-left

@@ -1,5 +1,4 @@
 use Rattle.word.proofs.Tests.{tests}
-use borrow.Author.Rules.{rules}
 use Rattle.interface.proofs.parts.mesh_width.Goals as goal
 
 pub returns-then-head-eq1-clause-value : goal.returns-then-head-eq1-clause-value

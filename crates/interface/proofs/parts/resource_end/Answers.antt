@@ -1,5 +1,4 @@
 use Rattle.interface.proofs.ReadsParts.{resource_buffer, resource_other}
-use borrow.Author.Rules.{rules}
 use Rattle.interface.proofs.parts.resource_end.Goals as goal
 
 pub returns-then-word-eq0-clause-value : goal.returns-then-word-eq0-clause-value

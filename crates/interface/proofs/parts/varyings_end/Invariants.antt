@@ -1,9 +1,7 @@
-use Rattle.interface.proofs.ReadsParts.{varyings_start, next_inside, varyings_inside, varyings_onward, end_ended}
 use Prim.Native.Nat.{◌<◌}
 use mathlib.Core.Path.{◌≡◌}
 use lib.ListN.{length}
 use Rattle.interface.specs.Inner.Parts.{varyings_end}
-use borrow.Author.Rules.{rules}
 use Rattle.interface.proofs.parts.varyings_end.Given as goal
 
 abbrev pub invariant-loop-left : goal.invariant-loop-left

@@ -1,5 +1,4 @@
 use Rattle.interface.proofs.ReadsParts.{heads_there, head_inside, entry_inside, pack_short, nth_read, nth_placed, nth_parts}
-use borrow.Author.Rules.{rules}
 use Rattle.interface.proofs.reads.entry_parts.Goals as goal
 
 pub position_at-requires : goal.position_at-requires

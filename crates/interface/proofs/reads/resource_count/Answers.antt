@@ -1,5 +1,4 @@
 use Rattle.interface.proofs.ReadsWays.{word_there, resources_counted, resources_few}
-use borrow.Author.Rules.{rules}
 use Rattle.interface.proofs.reads.resource_count.Goals as goal
 
 pub bounds-pack-1 : goal.bounds-pack-1

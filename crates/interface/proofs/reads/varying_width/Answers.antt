@@ -1,5 +1,4 @@
 use Rattle.interface.proofs.ReadsWays.{width_local, width_built_in}
-use borrow.Author.Rules.{rules}
 use Rattle.interface.proofs.reads.varying_width.Goals as goal
 
 pub returns-then-kind-eq12-clause-value : goal.returns-then-kind-eq12-clause-value

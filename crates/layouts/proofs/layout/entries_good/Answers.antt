@@ -1,8 +1,3 @@
-use Prim.Native.Nat.{◌+◌, ◌*◌, ◌≤◌}
-use mathlib.Core.Path.{◌≡◌}
-use lib.ListN.{length, drop}
-use Rattle.layouts.specs.Format.{groups_of, entry_good}
-use Rattle.places.specs.Records.{count_of, each}
 use Rattle.layouts.proofs.LayoutWays.{good_begins}
 use Rattle.places.proofs.Ways.{each_fails, each_onward, each_ended}
 use borrow.Author.Rules.{rules}

@@ -1,5 +1,4 @@
 use Rattle.layouts.proofs.LayoutWays.{entry_is, entry_not}
-use borrow.Author.Rules.{rules}
 use Rattle.layouts.proofs.layout.entry_good.Goals as goal
 
 pub returns-then-words_well_formed : goal.returns-then-words_well_formed

@@ -1,5 +1,4 @@
 use Rattle.layouts.proofs.LayoutStores.{type_there, type_means}
-use borrow.Author.Rules.{rules}
 use Rattle.layouts.proofs.layout.entry_type.Goals as goal
 
 pub returns-clause-value : goal.returns-clause-value

@@ -1,5 +1,4 @@
 use Rattle.layouts.proofs.LayoutStores.{visibility_there}
-use borrow.Author.Rules.{rules}
 use Rattle.layouts.proofs.layout.entry_visibility.Goals as goal
 
 pub returns : goal.returns

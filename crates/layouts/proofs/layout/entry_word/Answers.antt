@@ -1,5 +1,4 @@
 use Rattle.layouts.proofs.LayoutStores.{entry_scaled, entry_placed, word_placed, word_bytes, word_inside}
-use borrow.Author.Rules.{rules}
 use Rattle.layouts.proofs.layout.entry_word.Goals as goal
 
 pub overflow_mul-result : goal.overflow_mul-result

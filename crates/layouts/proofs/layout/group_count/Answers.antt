@@ -1,5 +1,4 @@
 use Rattle.layouts.proofs.LayoutWays.{groups_decoded}
-use borrow.Author.Rules.{rules}
 use Rattle.layouts.proofs.layout.group_count.Goals as goal
 
 pub returns : goal.returns

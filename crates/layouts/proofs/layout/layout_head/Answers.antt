@@ -1,6 +1,5 @@
 use Rattle.layouts.proofs.LayoutWays.{head_word_lem}
 use Rattle.word.proofs.Tests.{tests}
-use borrow.Author.Rules.{rules}
 use Rattle.layouts.proofs.layout.layout_head.Goals as goal
 
 pub returns-then-w-ne17 : goal.returns-then-w-ne17

@@ -1,5 +1,4 @@
 use Rattle.layouts.proofs.LayoutStores.{head_there, entry_stored, room_lacking, room_there, words_kept, head_more, push_stored, push_decoded, push_well_formed}
-use borrow.Author.Rules.{rules}
 use Rattle.layouts.proofs.layout.push_entry.Goals as goal
 
 pub counted-n-requires : goal.counted-n-requires

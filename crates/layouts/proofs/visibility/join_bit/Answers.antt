@@ -1,5 +1,4 @@
 use Rattle.layouts.proofs.BitWays.{join_seen, join_new}
-use borrow.Author.Rules.{rules}
 use Rattle.layouts.proofs.visibility.join_bit.Goals as goal
 
 pub returns-then-sees-clause-value : goal.returns-then-sees-clause-value

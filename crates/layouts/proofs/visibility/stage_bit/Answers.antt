@@ -1,5 +1,4 @@
 use Rattle.layouts.proofs.BitWays.{bit_is, bit_small}
-use borrow.Author.Rules.{rules}
 use Rattle.layouts.proofs.visibility.stage_bit.Goals as goal
 
 pub returns-clause-value : goal.returns-clause-value

@@ -1,5 +1,4 @@
 use Rattle.word.proofs.Tests.{tests}
-use borrow.Author.Rules.{rules}
 use Rattle.numeric.proofs.type_words.dimension_at.Goals as goal
 
 pub returns-then-code-eq0 : goal.returns-then-code-eq0

@@ -1,5 +1,4 @@
 use Rattle.numeric.proofs.TypeWords.{both_types, second_bad, first_bad}
-use borrow.Author.Rules.{rules}
 use Rattle.numeric.proofs.type_words.is_subtype_of.Goals as goal
 
 pub returns-in-Numeric-read_type : goal.returns-in-Numeric-read_type

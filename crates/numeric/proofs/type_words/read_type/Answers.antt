@@ -1,5 +1,4 @@
 use Rattle.numeric.proofs.TypeWords.{other_word, more_bits, when_well_formed, when_malformed}
-use borrow.Author.Rules.{rules}
 use Rattle.numeric.proofs.type_words.read_type.Goals as goal
 
 pub returns-then-kind-ne13 : goal.returns-then-kind-ne13

@@ -1,5 +1,4 @@
 use Rattle.numeric.proofs.TypeWords.{vector_code, matrix_code}
-use borrow.Author.Rules.{rules}
 use Rattle.numeric.proofs.type_words.shape_code.Goals as goal
 
 pub returns-in-Vector-clause-value : goal.returns-in-Vector-clause-value

@@ -1,5 +1,4 @@
 use Rattle.numeric.proofs.TypeWords.{type_parts}
-use borrow.Author.Rules.{rules}
 use Rattle.numeric.proofs.type_words.type_of.Goals as goal
 
 pub returns : goal.returns

@@ -1,5 +1,4 @@
 use Rattle.numeric.proofs.TypeWords.{word_parts}
-use borrow.Author.Rules.{rules}
 use Rattle.numeric.proofs.type_words.type_word.Goals as goal
 
 pub returns : goal.returns

@@ -1,5 +1,4 @@
 use Rattle.places.proofs.MarkLaws.{bit_is}
-use borrow.Author.Rules.{rules}
 use Rattle.places.proofs.places.bit_of.Goals as goal
 
 pub returns-clause-value : goal.returns-clause-value

@@ -5,8 +5,6 @@ use lib.ListN.{drop}
 use Rattle.places.specs.Places.{distinct_places, places}
 use Rattle.word.specs.Lists.{every}
 use Rattle.places.specs.Inner.Marks.{taken}
-use Rattle.places.proofs.MarkLaws.{records_fit, end_fits, record_fits, record_within, record_starts, marks_begin, marked_begins, bits_onward, bits_apart, differ_not, differ_all}
-use borrow.Author.Rules.{rules}
 use Rattle.places.proofs.places.bits_differ.Given as goal
 
 abbrev pub invariant-loop-left : goal.invariant-loop-left

@@ -1,10 +1,3 @@
-use Prim.Native.Nat.{◌+◌, ◌-◌, ◌*◌, ◌<◌, ◌≤◌, ◌^◌}
-use mathlib.Core.Path.{◌≡◌}
-use mathlib.Core.Bool.{true}
-use lib.ListN.{length, drop}
-use Rattle.places.specs.Places.{distinct_places, places}
-use Rattle.word.specs.Lists.{every}
-use Rattle.places.specs.Inner.Marks.{marked}
 use Rattle.places.proofs.MarkLaws.{records_fit, end_fits, record_fits, record_within, behind_within, record_starts, marks_begin, marked_begins, marks_onward, marked_twice, marked_onward, marked_ended}
 use borrow.Author.Rules.{rules}
 use Rattle.places.proofs.places.distinct_marked.Goals as goal

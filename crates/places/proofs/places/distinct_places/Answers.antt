@@ -1,5 +1,4 @@
 use Rattle.places.proofs.MarkLaws.{few_distinct, differ_distinct}
-use borrow.Author.Rules.{rules}
 use Rattle.places.proofs.places.distinct_places.Goals as goal
 
 pub returns-then-n-lt2 : goal.returns-then-n-lt2

@@ -1,8 +1,3 @@
-use Prim.Native.Nat.{◌+◌, ◌-◌, ◌*◌, ◌<◌, ◌≤◌, ◌^◌}
-use mathlib.Core.Path.{◌≡◌}
-use lib.ListN.{length, drop}
-use Rattle.bindings.specs.Format.{place_of}
-use Rattle.places.specs.Places.{place_from, places}
 use Rattle.places.proofs.PlaceWays.{sought_begins, content_nowhere, content_found, content_onward, found_below_lem, within, within_onward}
 use borrow.Author.Tests.{lt-ltb}
 use borrow.Author.Rules.{rules}

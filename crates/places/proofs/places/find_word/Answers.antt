@@ -1,11 +1,3 @@
-use Prim.Native.Nat.{◌+◌, ◌-◌, ◌*◌, ◌<◌, ◌≤◌, ◌^◌}
-use mathlib.Core.Path.{◌≡◌}
-use mathlib.Core.Bool.{true}
-use lib.ListN.{length, drop}
-use Rattle.bindings.specs.Format.{place_of}
-use Rattle.places.specs.Places.{place_from, places}
-use Rattle.places.specs.Records.{each}
-use Rattle.places.specs.Inner.Begins.{place_first}
 use Rattle.places.proofs.PlaceWays.{sought_begins, word_nowhere, word_found, word_onward, places_onward, found_below_lem, within, within_onward}
 use borrow.Author.Tests.{lt-ltb}
 use borrow.Author.Rules.{rules}

@@ -6,9 +6,6 @@ use Rattle.bindings.specs.Format.{place_of}
 use Rattle.places.specs.Places.{place_from, places}
 use Rattle.places.specs.Records.{each}
 use Rattle.places.specs.Inner.Begins.{place_first}
-use Rattle.places.proofs.PlaceWays.{sought_begins, word_nowhere, word_found, word_onward, places_onward, found_below_lem, within, within_onward}
-use borrow.Author.Tests.{lt-ltb}
-use borrow.Author.Rules.{rules}
 use Rattle.places.proofs.places.find_word.Given as goal
 
 abbrev pub invariant-loop-left : goal.invariant-loop-left

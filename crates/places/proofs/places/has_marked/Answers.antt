@@ -1,4 +1,3 @@
-use borrow.Author.Rules.{rules}
 use Rattle.places.proofs.MarkLaws.{unmarked, mark_lacks}
 use Rattle.places.proofs.places.has_marked.Goals as goal
 

@@ -1,5 +1,4 @@
 use Rattle.places.proofs.PlaceWays.{place_found, place_lacks}
-use borrow.Author.Rules.{rules}
 use Rattle.places.proofs.places.has_place.Goals as goal
 
 pub returns-in-At : goal.returns-in-At

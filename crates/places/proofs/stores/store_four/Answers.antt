@@ -1,5 +1,4 @@
 use Rattle.places.proofs.Words.{stored_four}
-use borrow.Author.Rules.{rules}
 use Rattle.places.proofs.stores.store_four.Goals as goal
 
 pub returns : goal.returns

@@ -1,7 +1,6 @@
 use lib.ListN.{length-set}
 use native.Mathlib.Omega.{arith}
 use Rattle.places.proofs.Words.{stored_two}
-use borrow.Author.Rules.{rules}
 use Rattle.places.proofs.stores.store_two.Goals as goal
 
 pub bounds-l-at-2 : goal.bounds-l-at-2

@@ -1,5 +1,4 @@
 use Rattle.sizes.proofs.SizeStores.{head_there, push_lacks, push_fits, push_refused, head_more, push_stored}
-use borrow.Author.Rules.{rules}
 use Rattle.sizes.proofs.sizes.push_size.Goals as goal
 
 pub counted-n-requires : goal.counted-n-requires

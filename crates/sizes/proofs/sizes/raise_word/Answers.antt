@@ -1,5 +1,4 @@
 use Rattle.sizes.proofs.SizeWays.{word_raised, word_kept}
-use borrow.Author.Rules.{rules}
 use Rattle.sizes.proofs.sizes.raise_word.Goals as goal
 
 pub returns-then-l-at : goal.returns-then-l-at

@@ -1,6 +1,5 @@
 use Rattle.word.proofs.Tests.{tests}
 use Rattle.sizes.proofs.SizeWays.{size_no_place, size_is}
-use borrow.Author.Rules.{rules}
 use Rattle.sizes.proofs.sizes.size_good.Goals as goal
 
 pub returns-then-l-at-ne4 : goal.returns-then-l-at-ne4

@@ -1,8 +1,3 @@
-use Prim.Native.Nat.{◌+◌, ◌*◌, ◌≤◌}
-use mathlib.Core.Path.{◌≡◌}
-use lib.ListN.{length, drop}
-use Rattle.places.specs.Records.{count_of, each}
-use Rattle.sizes.specs.Format.{size_good}
 use Rattle.places.proofs.Ways.{each_begins, each_fails, each_onward, each_ended}
 use borrow.Author.Rules.{rules}
 use Rattle.sizes.proofs.sizes.sizes_good.Goals as goal

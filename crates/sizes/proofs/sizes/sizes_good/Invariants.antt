@@ -3,8 +3,6 @@ use mathlib.Core.Path.{◌≡◌}
 use lib.ListN.{length, drop}
 use Rattle.places.specs.Records.{count_of, each}
 use Rattle.sizes.specs.Format.{size_good}
-use Rattle.places.proofs.Ways.{each_begins, each_fails, each_onward, each_ended}
-use borrow.Author.Rules.{rules}
 use Rattle.sizes.proofs.sizes.sizes_good.Given as goal
 
 abbrev pub invariant-loop-left : goal.invariant-loop-left

@@ -1,6 +1,5 @@
 use Rattle.sizes.proofs.SizeWays.{head_word_lem}
 use Rattle.word.proofs.Tests.{tests}
-use borrow.Author.Rules.{rules}
 use Rattle.sizes.proofs.sizes.sizes_head.Goals as goal
 
 pub returns-then-w-ne20 : goal.returns-then-w-ne20

@@ -1,5 +1,4 @@
 use Rattle.stage_lists.proofs.OutStores.{begun_words, begun_first, begun_decoded, begun_well_formed}
-use borrow.Author.Rules.{rules}
 use Rattle.stage_lists.proofs.list_out.begin_out.Goals as goal
 
 pub returns-clause-out_after : goal.returns-clause-out_after

@@ -1,12 +1,3 @@
-use Prim.Native.Nat.{◌+◌, ◌*◌, ◌<◌, ◌≤◌, ◌^◌}
-use mathlib.Core.Path.{◌≡◌}
-use mathlib.Core.Bool.{true}
-use lib.ListN.{length, drop}
-use Rattle.word.specs.Lists.{flat}
-use Rattle.varying.specs.Format.{var_of, located_words}
-use Rattle.stage_lists.specs.Meaning.{insert}
-use Rattle.places.specs.Records.{put, each}
-use Rattle.stage_lists.specs.Format.{located_good, read_varyings}
 use Rattle.stage_lists.proofs.OutStores.{var_again, good_onward, place_ended, place_before, place_over, place_onward, count_ended, count_before, count_over, count_onward}
 use borrow.Author.Rules.{rules}
 use Rattle.stage_lists.proofs.list_out.place.Goals as goal

@@ -1,5 +1,4 @@
 use Rattle.stage_lists.proofs.OutStores.{var_again, last_counted, last_placed}
-use borrow.Author.Rules.{rules}
 use Rattle.stage_lists.proofs.list_out.place_last.Goals as goal
 
 pub returns-then-out-n-clause-out_after : goal.returns-then-out-n-clause-out_after

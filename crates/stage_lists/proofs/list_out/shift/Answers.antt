@@ -1,8 +1,3 @@
-use Prim.Native.Nat.{◌+◌, ◌*◌, ◌<◌, ◌≤◌, ◌^◌}
-use mathlib.Core.Path.{◌≡◌}
-use mathlib.Core.List.{◌∷◌}
-use lib.ListN.{length, take, drop}
-use Rattle.places.specs.Records.{put}
 use Rattle.stage_lists.proofs.OutStores.{shift_onward, shift_ended}
 use borrow.Author.Rules.{rules}
 use Rattle.stage_lists.proofs.list_out.shift.Goals as goal

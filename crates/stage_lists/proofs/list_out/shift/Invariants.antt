@@ -3,8 +3,6 @@ use mathlib.Core.Path.{◌≡◌}
 use mathlib.Core.List.{◌∷◌}
 use lib.ListN.{length, take, drop}
 use Rattle.places.specs.Records.{put}
-use Rattle.stage_lists.proofs.OutStores.{shift_onward, shift_ended}
-use borrow.Author.Rules.{rules}
 use Rattle.stage_lists.proofs.list_out.shift.Given as goal
 
 abbrev pub invariant-loop-left : goal.invariant-loop-left

@@ -1,5 +1,4 @@
 use Rattle.stage_lists.proofs.OutWords.{payload_none, payload_some, payload_sum}
-use borrow.Author.Rules.{rules}
 use Rattle.stage_lists.proofs.out_words.payload_word.Goals as goal
 
 pub overflow_add-result : goal.overflow_add-result

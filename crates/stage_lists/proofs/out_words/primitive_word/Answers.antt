@@ -1,5 +1,4 @@
 use Rattle.stage_lists.proofs.OutWords.{primitive_told}
-use borrow.Author.Rules.{rules}
 use Rattle.stage_lists.proofs.out_words.primitive_word.Goals as goal
 
 pub returns-in-None : goal.returns-in-None

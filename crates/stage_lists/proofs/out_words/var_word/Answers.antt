@@ -1,5 +1,4 @@
 use Rattle.stage_lists.proofs.OutWords.{var_first, var_other}
-use borrow.Author.Rules.{rules}
 use Rattle.stage_lists.proofs.out_words.var_word.Goals as goal
 
 pub returns-then-shape-lt13 : goal.returns-then-shape-lt13

@@ -1,8 +1,3 @@
-use Prim.Native.Nat.{◌<◌, ◌≤◌, ◌+◌, ◌*◌, ◌^◌}
-use mathlib.Core.Path.{◌≡◌}
-use lib.ListN.{length, drop}
-use Rattle.stage_lists.specs.Format.{read_varyings}
-use Rattle.stage_lists.specs.Inner.Found.{location_from}
 use Rattle.stage_lists.proofs.StageWays.{location_hit, location_miss, location_ended, location_found, within_below}
 use borrow.Author.Rules.{rules}
 use Rattle.stage_lists.proofs.stage_io.find_within.Goals as goal

@@ -3,8 +3,6 @@ use mathlib.Core.Path.{◌≡◌}
 use lib.ListN.{length, drop}
 use Rattle.stage_lists.specs.Format.{read_varyings}
 use Rattle.stage_lists.specs.Inner.Found.{location_from}
-use Rattle.stage_lists.proofs.StageWays.{location_hit, location_miss, location_ended, location_found, within_below}
-use borrow.Author.Rules.{rules}
 use Rattle.stage_lists.proofs.stage_io.find_within.Given as goal
 
 abbrev pub invariant-loop-left : goal.invariant-loop-left

@@ -1,5 +1,4 @@
 use Rattle.stage_lists.proofs.StageWays.{located_is, located_not}
-use borrow.Author.Rules.{rules}
 use Rattle.stage_lists.proofs.stage_io.located_good.Goals as goal
 
 pub returns-then-location_well_formed : goal.returns-then-location_well_formed

@@ -1,6 +1,5 @@
 use Rattle.stage_lists.proofs.StageWays.{primitive_word}
 use Rattle.word.proofs.Tests.{tests}
-use borrow.Author.Rules.{rules}
 use Rattle.stage_lists.proofs.stage_io.primitive_index.Goals as goal
 
 pub returns-then-code-eq0 : goal.returns-then-code-eq0

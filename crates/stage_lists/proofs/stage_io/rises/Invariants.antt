@@ -3,8 +3,6 @@ use mathlib.Core.Path.{◌≡◌}
 use lib.ListN.{length, drop}
 use Rattle.stage_lists.specs.Meaning.{rising}
 use Rattle.stage_lists.specs.Format.{read_varyings}
-use Rattle.stage_lists.proofs.StageWays.{rising_falls, rising_onward, rising_ended}
-use borrow.Author.Rules.{rules}
 use Rattle.stage_lists.proofs.stage_io.rises.Given as goal
 
 abbrev pub invariant-loop-left : goal.invariant-loop-left

@@ -1,6 +1,5 @@
 use Rattle.stage_lists.proofs.StageWays.{head_word_lem, payload_word_lem}
 use Rattle.word.proofs.Tests.{tests}
-use borrow.Author.Rules.{rules}
 use Rattle.stage_lists.proofs.stage_io.stage_head.Goals as goal
 
 pub returns-then-w-ne11 : goal.returns-then-w-ne11

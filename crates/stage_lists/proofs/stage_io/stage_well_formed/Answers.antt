@@ -1,5 +1,4 @@
 use Rattle.word.proofs.Tests.{tests}
-use borrow.Author.Rules.{rules}
 use Rattle.stage_lists.proofs.stage_io.stage_well_formed.Goals as goal
 
 pub returns-then-l-gt1024 : goal.returns-then-l-gt1024

@@ -1,10 +1,3 @@
-use Prim.Native.Nat.{◌≤◌, ◌+◌, ◌*◌}
-use mathlib.Core.Path.{◌≡◌}
-use mathlib.Core.Bool.{true}
-use lib.ListN.{length, drop}
-use Rattle.varying.specs.Format.{var_well_formed}
-use Rattle.places.specs.Records.{count_of, each}
-use Rattle.stage_lists.specs.Format.{located_good}
 use Rattle.places.proofs.Ways.{each_begins, each_fails, each_onward, each_ended}
 use Rattle.varying.proofs.Ways.{var_vector}
 use Rattle.stage_lists.proofs.StageWays.{located_var}

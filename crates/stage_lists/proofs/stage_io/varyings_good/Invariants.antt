@@ -5,10 +5,6 @@ use lib.ListN.{length, drop}
 use Rattle.varying.specs.Format.{var_well_formed}
 use Rattle.places.specs.Records.{count_of, each}
 use Rattle.stage_lists.specs.Format.{located_good}
-use Rattle.places.proofs.Ways.{each_begins, each_fails, each_onward, each_ended}
-use Rattle.varying.proofs.Ways.{var_vector}
-use Rattle.stage_lists.proofs.StageWays.{located_var}
-use borrow.Author.Rules.{rules}
 use Rattle.stage_lists.proofs.stage_io.varyings_good.Given as goal
 
 abbrev pub invariant-loop-left : goal.invariant-loop-left

@@ -1,5 +1,4 @@
 use Rattle.numeric.proofs.Fits.{fit_known}
-use borrow.Author.Rules.{rules}
 use Rattle.numeric.proofs.types.NumericType.fits.Goals as goal
 
 pub returns-in-Fits : goal.returns-in-Fits

@@ -1,5 +1,4 @@
 use Rattle.numeric.proofs.Fits.{too_wide, other_kind, shape_fits_lem, other_shape}
-use borrow.Author.Rules.{rules}
 use Rattle.numeric.proofs.types.NumericType.is_subtype_of.Goals as goal
 
 pub returns-then-scalar-other_scalar : goal.returns-then-scalar-other_scalar
