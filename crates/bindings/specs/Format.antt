@@ -242,7 +242,7 @@ sampler_code Samp.Filtering = 0
 sampler_code Samp.NonFiltering = 1
 sampler_code Samp.Comparison = 2
 
--- 'buffer (bit 0 storage, 1 read_only, only with 0, 2 dynamic)'
+-- 'buffer (bit 0 storage, 1 read-only, only with 0, 2 dynamic)'
 abbrev pub buffer_at : ℕ → BufferBindingType
 buffer_at w = pick (bit_set 0 w) (Buf.Storage (bit_set 1 w)) Buf.Uniform
 

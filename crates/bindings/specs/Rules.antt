@@ -61,7 +61,7 @@ storable format = nat_lt format 43 && (not (format == 28) && not (format == 31))
 
 -- ---- buffers
 
--- the address space that a buffer entry stands for: read_only storage is load, other storage load with store
+-- the address space that a buffer entry stands for: read-only storage is load, other storage load with store
 abbrev pub space_of : BufferBindingType → AddressSpace
 space_of Buf.Uniform = Space.Uniform
 space_of (Buf.Storage read_only) = Space.Storage (pick (yes read_only) 1 3)
@@ -315,7 +315,7 @@ derived_texture (Class.Depth multi) view named = Bind.Texture Sample.Depth view 
 derived_texture (Class.Storage format access) view named = Bind.StorageTexture (derived_access access) format view
 derived_texture Class.External view named = Bind.ExternalTexture
 
--- storage of load alone is read_only; a space that is neither uniform nor storage is 24
+-- storage of load alone is read-only; a space that is neither uniform nor storage is 24
 abbrev pub derived_buffer : ℕ → AddressSpace → Derived
 derived_buffer size Space.Uniform = Der.Binding (Bind.Buffer Buf.Uniform false size)
 derived_buffer size (Space.Storage access) = Der.Binding (Bind.Buffer (Buf.Storage (access == 1)) false size)

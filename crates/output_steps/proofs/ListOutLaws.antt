@@ -26,7 +26,6 @@ use Rattle.interface.specs.Inner.Reads.{varying, varying_width, varyings, standi
 use Rattle.interface.specs.declared.types.EntryParts.{EntryParts}
 use Rattle.interface.specs.declared.types.ShaderStage.{ShaderStage}
 use Rattle.interface.specs.declared.types.ShaderStage.TheVariants as Stage
-use Rattle.interface.specs.declared.types.BuiltIn.{BuiltIn}
 use Rattle.interface.specs.declared.types.Varying.{Varying}
 use Rattle.interface.specs.declared.types.Varying.TheVariants as Var
 use Rattle.output_steps.specs.Outputs.{is_local, local_count}

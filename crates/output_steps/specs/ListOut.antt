@@ -8,7 +8,6 @@ use Rattle.stage_lists.specs.declared.types.PrimitiveIndex.TheVariants as Index
 use Rattle.interface.specs.Meaning.{EntryPoint}
 use Rattle.interface.specs.declared.types.ShaderStage.{ShaderStage}
 use Rattle.interface.specs.declared.types.ShaderStage.TheVariants as Stage
-use Rattle.interface.specs.declared.types.BuiltIn.{BuiltIn}
 use Rattle.interface.specs.declared.types.Varying.{Varying}
 use Rattle.interface.specs.declared.types.Varying.TheVariants as Var
 use Rattle.input_steps.specs.declared.types.InputWalk.{InputWalk}

@@ -34,6 +34,6 @@ each width test (suc n) ws = let rest = each width test n (drop width ws) in pic
 unfoldable pub put : List ℕ → ℕ → List ℕ → List ℕ
 put l at ws = take at l ++ (ws ++ drop (at + length ws) l)
 
--- a new record of some words room_for into the free room
+-- a new record of some words into the free room
 abbrev pub room_for : ℕ → List ℕ → Bool
 room_for words room = leb words (length room)

@@ -4,8 +4,8 @@ use native.Mathlib.Omega.{arith}
 use mathlib.Core.Path.{◌≡◌, refl, sym, ap, ◌∙◌}
 use mathlib.Core.Bool.{Bool, true, false, not, false≢true}
 use mathlib.Core.List.{List, [], ◌∷◌, ◌++◌}
-use borrow.Author.Tests.{ltb-true, lt-ltb, le-ltb, leb-true, not-true, not-false}
-use lib.Dec.{ltb, leb}
+use borrow.Author.Tests.{lt-ltb, le-ltb, not-true, not-false}
+use lib.Dec.{ltb}
 use lib.ListN.{get_or, length, drop, length-drop, replicate}
 use Rattle.word.specs.Choice.{pick}
 use Rattle.word.specs.Words.{word_at, kind_of, content_of, bits}
@@ -15,11 +15,9 @@ use Rattle.word.specs.Answers.{answer, refused}
 use Rattle.word.specs.Parse.{Parsed, fault, got, behind, rest_at}
 use Rattle.word.specs.declared.answer.Answer.{Answer}
 use Rattle.word.proofs.Parse.{stopped}
-use Rattle.word.proofs.Truth.{by_test}
-use Rattle.interface.specs.Format.{varying_words}
 use Rattle.interface.specs.declared.types.Varying.{Varying}
 use Rattle.interface.specs.declared.types.Varying.TheVariants as Var
-use Rattle.type_lists.specs.Meaning.{Binding, TypeInner}
+use Rattle.type_lists.specs.Meaning.{TypeInner}
 use Rattle.type_lists.specs.Rules.{populate, nesting}
 use Rattle.type_lists.specs.Format.{read_binding, binding_good, decode}
 use Rattle.type_check.specs.declared.notes.Note.{Note}
@@ -30,7 +28,7 @@ use Rattle.type_check.proofs.Taken.{binding_took}
 use Rattle.type_check.proofs.ClipWays.{good_is, element_small}
 use Rattle.type_check.proofs.GivenWays.{given_is}
 use Rattle.type_check.proofs.MemberWays.{went_on}
-use Rattle.populate.specs.Populate.{given_words, populated, bound_on, asked_on, populate_call}
+use Rattle.populate.specs.Populate.{populated, bound_on, asked_on, populate_call}
 use Rattle.populate.specs.Inner.Written.{put, room, Written}
 use Rattle.populate.proofs.Puts.{put_first}
 

@@ -1,9 +1,9 @@
 -- The code's ways through what a type that is no struct gives.
-use Prim.Native.Nat.{ℕ, zero, suc, ◌+◌, ◌-◌, ◌*◌, ◌/◌, ◌%◌, ◌^◌, ◌<◌, ◌≤◌}
+use Prim.Native.Nat.{ℕ, ◌+◌, ◌*◌, ◌/◌, ◌%◌, ◌^◌, ◌<◌, ◌≤◌}
 use native.Mathlib.Omega.{arith}
-use mathlib.Core.Path.{◌≡◌, refl, sym, ap, ◌∙◌}
-use mathlib.Core.Bool.{Bool, true, false, not, ◌&&◌}
-use mathlib.Core.List.{List, [], ◌∷◌, ◌++◌}
+use mathlib.Core.Path.{◌≡◌, refl, sym, ◌∙◌}
+use mathlib.Core.Bool.{Bool, true, false, not}
+use mathlib.Core.List.{List, [], ◌∷◌}
 use borrow.Author.Tests.{eq-eqb, ne_eqb, eqb-true, not-true, not-false}
 use lib.Dec.{eqb}
 use lib.ListN.{length, drop, set, length-set}
@@ -11,17 +11,16 @@ use Rattle.word.specs.Choice.{pick, yes}
 use Rattle.word.specs.Words.{word_at, kind_of, content_of, bits, bit, of_kind}
 use Rattle.word.specs.Lists.{flat}
 use Rattle.word.proofs.Truth.{by_test}
-use Rattle.numeric.specs.Types.{kind_code}
-use Rattle.numeric.specs.TypeWords.{shape_code, shape_at, kind_at, type_of, type_word}
+use Rattle.numeric.specs.TypeWords.{shape_at, kind_at, type_of, type_word}
 use Rattle.numeric.specs.declared.types.NumericType.{NumericType}
 use Rattle.numeric.proofs.Joined.{kind_below, shape_below}
 use Rattle.varying.specs.Format.{var_word}
 use Rattle.varying.proofs.Joined.{flag_back}
-use Rattle.interface.specs.Format.{built_in_of, built_in_code, varying_words}
+use Rattle.interface.specs.Format.{built_in_of, built_in_code}
 use Rattle.interface.specs.declared.types.BuiltIn.TheVariants as In
 use Rattle.interface.proofs.RestoreVaryings.{code_back}
-use Rattle.type_lists.specs.Meaning.{Binding, Unbound, Location, BuiltIn, Array}
-use Rattle.type_lists.specs.Format.{is_clip, shaped, numeric_type}
+use Rattle.type_lists.specs.Meaning.{Binding, Unbound, Location, BuiltIn}
+use Rattle.type_lists.specs.Format.{is_clip}
 use Rattle.type_lists.specs.Rules.{numeric_gives, array_gives, type_gives}
 use Rattle.type_check.specs.Inner.Positions.{binding_of, type_at, struct_at}
 use Rattle.type_check.specs.Inner.Notes.{words_of, clip_word}

@@ -1,29 +1,27 @@
 -- The code's ways through the walk.
-use Prim.Native.Nat.{ℕ, zero, suc, ◌+◌, ◌-◌, ◌*◌, ◌^◌, ◌<◌, ◌≤◌, min}
+use Prim.Native.Nat.{ℕ, zero, suc, ◌+◌, ◌-◌, ◌<◌, ◌≤◌, min}
 use native.Mathlib.Omega.{arith}
 use native.Mathlib.Numerals.{sub-one}
 use mathlib.Core.Path.{◌≡◌, refl, sym, ap, ◌∙◌}
-use mathlib.Core.Bool.{Bool, true, false, not, ◌&&◌, false≢true}
+use mathlib.Core.Bool.{Bool, true, false, not, false≢true}
 use mathlib.Core.List.{List, [], ◌∷◌, ◌++◌}
-use borrow.Author.Tests.{eq-eqb, ne_eqb, eqb-true, eqb-false, ltb-true, not-true, not-false}
+use borrow.Author.Tests.{ne_eqb, eqb-true, eqb-false, ltb-true, not-false}
 use lib.Dec.{eqb, ltb}
 use lib.ListN.{get_or, length, drop, set, length-append, length-set}
 use lib.Seq.{drop-drop, get_or-drop, get_or-set_same, get_or-set_other}
-use Rattle.word.specs.Choice.{pick}
-use Rattle.word.specs.Words.{word_at, kind_of, content_of, bits}
+use Rattle.word.specs.Words.{word_at, content_of, bits}
 use Rattle.word.specs.Lists.{every, flat}
 use Rattle.word.proofs.Parse.{first_of, others_of}
 use Rattle.word.proofs.Truth.{by_test}
 use Rattle.word.proofs.Lists.{every_first, every_others}
 use Rattle.numeric.specs.TypeWords.{type_of}
-use Rattle.interface.specs.Format.{varying_words}
 use Rattle.interface.specs.declared.types.Varying.{Varying}
 use Rattle.interface.specs.declared.types.Varying.TheVariants as Var
-use Rattle.type_lists.specs.Meaning.{Binding, Unbound, StructMember, TypeInner, Struct, type_numbered}
-use Rattle.type_lists.specs.Rules.{members_give, type_gives, populate, nesting}
+use Rattle.type_lists.specs.Meaning.{Binding, Unbound, TypeInner, Struct, type_numbered}
+use Rattle.type_lists.specs.Rules.{members_give, type_gives, populate}
 use Rattle.type_check.specs.declared.notes.Note.{Note}
-use Rattle.type_check.specs.Inner.Positions.{binding_of, member_width, member_at, members_at, type_at, struct_at, members_below, names_below}
-use Rattle.type_check.specs.Inner.Notes.{words_of, note, note_of, is_struct, lone_note, number_note, start_in, note_in, Stands, Noted}
+use Rattle.type_check.specs.Inner.Positions.{binding_of, member_width, member_at, members_at, type_at, struct_at, members_below}
+use Rattle.type_check.specs.Inner.Notes.{words_of, note_of, is_struct, number_note, start_in, note_in, Noted}
 use Rattle.type_check.proofs.Gives.{lone_gives, struct_gives, struct_ignores}
 use Rattle.type_check.proofs.Noting.{words_append}
 use Rattle.type_check.proofs.GivenWays.{by_kind, shaped_lone}

@@ -2,16 +2,13 @@
 use Prim.Native.Nat.{ℕ}
 use mathlib.Core.Path.{◌≡◌, refl}
 use mathlib.Core.Bool.{Bool, true, false}
-use mathlib.Core.List.{List, [], ◌∷◌, ◌++◌}
+use mathlib.Core.List.{List, [], ◌∷◌}
 use lib.Dec.{ltb}
-use lib.ListN.{length, drop}
+use lib.ListN.{length}
 use Rattle.word.specs.Choice.{pick}
 use Rattle.word.specs.Lists.{every, among}
-use Rattle.word.specs.Numbers as Number
-use Rattle.word.specs.Answers.{answer, refused}
 use Rattle.word.specs.Parse.{Parsed, fault, got}
 use Rattle.word.specs.declared.answer.Answer.{Answer}
-use Rattle.word.proofs.Truth.{by_test}
 use Rattle.type_lists.specs.Meaning.{Binding, TypeInner}
 use Rattle.type_lists.specs.Rules.{populate, nesting}
 use Rattle.type_lists.specs.Format.{read_binding, binding_good, decode}

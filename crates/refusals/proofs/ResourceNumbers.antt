@@ -1,12 +1,12 @@
 -- Which numbers a resource is refused with: 5 and 20 to 30, with its place.
-use Prim.Native.Nat.{ℕ, ◌-◌}
+use Prim.Native.Nat.{ℕ}
 use mathlib.Core.Path.{◌≡◌, refl}
 use mathlib.Core.Bool.{Bool, true}
 use lib.Dec.{eqb, ltb}
 use borrow.Author.Tests.{eqb-false, eq-eqb}
 use Rattle.word.proofs.Truth.{by_test}
 use Rattle.word.specs.Numbers as Number
-use Rattle.word.specs.Answers.{answer, accepted}
+use Rattle.word.specs.Answers.{accepted}
 use Rattle.word.specs.declared.answer.Answer.{Answer}
 use Rattle.word.specs.Lists.{among}
 use Rattle.bindings.specs.Rules.{check_binding_use, use_number, same_binding, derive_binding_type}

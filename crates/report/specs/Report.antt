@@ -1,5 +1,5 @@
 -- What the program prints (document 01, 'Deliveries': 'A program reads a pack's bytes …').
-use Rattle.std.specs.Prelude.{ℕ, ◌+◌, ◌%◌, ◌||◌, not, List, [], ◌∷◌, ◌++◌, eqb, ltb, length, replicate}
+use Rattle.std.specs.Prelude.{ℕ, ◌%◌, ◌||◌, not, List, [], ◌∷◌, ◌++◌, eqb, ltb, length, replicate}
 use Rattle.word.specs.Choice.{pick}
 use Rattle.word.specs.Numbers as Number
 use Rattle.word.specs.Answers.{refused}

@@ -2,7 +2,7 @@
 use Rattle.std.specs.Prelude.{ℕ, ◌+◌, ◌*◌, Bool, ◌&&◌, List, eqb, ltb, length}
 use Rattle.word.specs.Choice.{pick, yes}
 use Rattle.word.specs.Numbers as Number
-use Rattle.word.specs.Answers.{answer, accepted, refused, both}
+use Rattle.word.specs.Answers.{accepted, refused, both}
 use Rattle.word.specs.declared.answer.Answer.{Answer}
 use Rattle.bindings.specs.declared.types.Resource.{Resource}
 use Rattle.layouts.specs.Meaning.{Layout}

@@ -8,7 +8,6 @@ use borrow.Author.Tests.{eq-eqb, ne_eqb, eqb-true, eqb-false, ltb-true, lt-leb, 
 use lib.Dec.{eqb, leb, ltb}
 use lib.ListN.{get_or, length, drop}
 use lib.Seq.{get_or-drop}
-use Rattle.word.specs.Choice.{pick}
 use Rattle.word.specs.Words.{word_at, kind_of, content_of, bits}
 use Rattle.word.proofs.Parse.{first_of, others_of}
 use Rattle.word.proofs.Truth.{by_test}
@@ -17,11 +16,11 @@ use Rattle.numeric.specs.declared.types.Scalar as Numeric
 use Rattle.numeric.specs.declared.types.NumericDimension.{NumericDimension}
 use Rattle.numeric.specs.declared.types.NumericDimension.TheVariants as D
 use Rattle.interface.specs.Format.{built_in_of}
-use Rattle.type_lists.specs.Meaning.{BuiltIn, StructMember, TypeInner, Array, Struct, type_numbered}
+use Rattle.type_lists.specs.Meaning.{BuiltIn, TypeInner, Array, Struct, type_numbered}
 use Rattle.type_lists.specs.Format.{is_clip, is_float, is_f32, clip_good, binding_good, shaped, numeric_type}
-use Rattle.type_check.specs.Inner.Positions.{binding_at, binding_of, members_at, type_at, names_below}
-use Rattle.type_check.specs.Inner.Notes.{start_in, clip_word, Stands, Noted}
-use Rattle.type_check.specs.Inner.Clips.{f_32_at, clip_good_at, binding_good_at}
+use Rattle.type_check.specs.Inner.Positions.{binding_at, binding_of, members_at, type_at}
+use Rattle.type_check.specs.Inner.Notes.{start_in, clip_word, Noted}
+use Rattle.type_check.specs.Inner.Clips.{f32_at, clip_good_at, binding_good_at}
 
 -- ---- what stands at a position, by the first word's kind
 
@@ -42,10 +41,10 @@ module _ (ws : List ℕ) (at : ℕ) where
 -- ---- the code's ways
 
 module _ (ws : List ℕ) (at w x : ℕ) (e : w ≡ word_at ws at) (k : x ≡ kind_of w) where
-  pub f32_other : (x ≡ 22 → ⊥) → false ≡ f_32_at ws at
+  pub f32_other : (x ≡ 22 → ⊥) → false ≡ f32_at ws at
   f32_other n = let q : eqb (kind_of (word_at ws at)) 22 ≡ false = rw (← e, ← k) (ne_eqb x 22 n) in rw q
 
-  pub f32_numeric : x ≡ 22 → eqb (w % 1024) 288 ≡ f_32_at ws at
+  pub f32_numeric : x ≡ 22 → eqb (w % 1024) 288 ≡ f32_at ws at
   f32_numeric n = let q : eqb (kind_of (word_at ws at)) 22 ≡ true = rw (← e, ← k) (eq-eqb x 22 n) in rw (q, e)
 
   pub element_below : (kind_of (word_at ws at) ≡ 23 → bits 15 0 (word_at ws at) < 256) → x ≡ 23 → w % 2 ^ 16 < 256
@@ -76,17 +75,17 @@ module _ (ws notes : List ℕ) (at w x : ℕ) (e : w ≡ word_at ws at) (k : x �
   clip_24 z y = rw (kind_now, ne_eqb x 22 z, ne_eqb x 23 y)
 
   module _ (z : x ≡ 22 → ⊥) (y : x ≡ 23) (v m : ℕ) (f : v ≡ word_at ws (at + 1)) (g : m ≡ content_of v) where
-    clip_array : clip_good_at ws notes at ≡ (f_32_at ws (start_in (get_or notes (w % 2 ^ 16) 0)) && (leb 1 m && leb m 255))
+    clip_array : clip_good_at ws notes at ≡ (f32_at ws (start_in (get_or notes (w % 2 ^ 16) 0)) && (leb 1 m && leb m 255))
     unfolding clip_good_at
     clip_array = rw (kind_now, ne_eqb x 22 z, eq-eqb x 23 y, ← e, ← f, ← g)
 
     pub clip_empty : m ≡ 0 → false ≡ clip_good_at ws notes at
-    clip_empty q = sym (clip_array ∙ rw (q, none_and (f_32_at ws (start_in (get_or notes (w % 2 ^ 16) 0)))))
+    clip_empty q = sym (clip_array ∙ rw (q, none_and (f32_at ws (start_in (get_or notes (w % 2 ^ 16) 0)))))
 
     pub clip_long : (m ≡ 0 → ⊥) → 255 < m → false ≡ clip_good_at ws notes at
-    clip_long q l = sym (clip_array ∙ rw (le-leb 1 m (omega arith), lt-leb m 255 l, none_and (f_32_at ws (start_in (get_or notes (w % 2 ^ 16) 0)))))
+    clip_long q l = sym (clip_array ∙ rw (le-leb 1 m (omega arith), lt-leb m 255 l, none_and (f32_at ws (start_in (get_or notes (w % 2 ^ 16) 0)))))
 
-    pub clip_element : (p : ℕ) (i : Bool) → (m ≡ 0 → ⊥) → m ≤ 255 → p ≡ start_in (get_or notes (w % 2 ^ 16) 0) → i ≡ f_32_at ws p → i ≡ clip_good_at ws notes at
+    pub clip_element : (p : ℕ) (i : Bool) → (m ≡ 0 → ⊥) → m ≤ 255 → p ≡ start_in (get_or notes (w % 2 ^ 16) 0) → i ≡ f32_at ws p → i ≡ clip_good_at ws notes at
     clip_element p i q l o j = sym (clip_array ∙ rw (le-leb 1 m (omega arith), le-leb m 255 l, ← o, ← j, all_and i))
 
 module _ (ws notes : List ℕ) (n w : ℕ) (b : Bool) (f : b ≡ clip_word w) where
@@ -151,7 +150,7 @@ f32_word w =
     (λ a. rw f (no_scalar (bits 3 0 w) _ a))
 
 module _ (types : List TypeInner) (ws notes : List ℕ) (s : Noted types ws notes) where
-  f32_is : (n : ℕ) → n < length types → is_f32 (type_numbered types n) ≡ f_32_at ws (start_in (get_or notes n 0))
+  f32_is : (n : ℕ) → n < length types → is_f32 (type_numbered types n) ≡ f32_at ws (start_in (get_or notes n 0))
   f32_is n h =
       rw (s.each n h).is
       (by_test (eqb (kind_of (word_at ws (start_in (get_or notes n 0)))) 22)

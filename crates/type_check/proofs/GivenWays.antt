@@ -1,11 +1,10 @@
 -- What a type gives with a binding, by words and notes: the code's ways, and that it is what the definition gives.
-use Prim.Native.Nat.{ℕ, ◌+◌, ◌<◌, ◌≤◌, min}
-use native.Mathlib.Omega.{arith}
+use Prim.Native.Nat.{ℕ, ◌+◌, ◌<◌, min}
 use mathlib.Core.Path.{◌≡◌, refl, sym, ap, ◌∙◌}
-use mathlib.Core.Bool.{Bool, true, false, not, ◌&&◌}
-use mathlib.Core.List.{List, [], ◌∷◌}
-use borrow.Author.Tests.{eq-eqb, ne_eqb, eqb-true, eqb-false}
-use lib.Dec.{eqb, leb}
+use mathlib.Core.Bool.{Bool, true, false}
+use mathlib.Core.List.{List, []}
+use borrow.Author.Tests.{ne_eqb, eqb-true, eqb-false}
+use lib.Dec.{eqb}
 use lib.ListN.{get_or, length, drop}
 use Rattle.word.specs.Choice.{pick, yes}
 use Rattle.word.specs.Words.{word_at, kind_of, content_of, bits}
@@ -16,15 +15,13 @@ use Rattle.numeric.specs.declared.types.Scalar as Numeric
 use Rattle.numeric.specs.declared.types.NumericDimension.{NumericDimension}
 use Rattle.numeric.specs.declared.types.NumericDimension.TheVariants as D
 use Rattle.numeric.specs.declared.types.NumericType.{NumericType}
-use Rattle.interface.specs.Format.{built_in_of}
-use Rattle.interface.specs.declared.types.BuiltIn as Interface
 use Rattle.interface.specs.declared.types.BuiltIn.TheVariants as In
-use Rattle.type_lists.specs.Meaning.{Binding, Unbound, Location, BuiltIn, StructMember, TypeInner, Array, Struct, type_numbered}
+use Rattle.type_lists.specs.Meaning.{Binding, Unbound, Location, BuiltIn, TypeInner, Array, Struct, type_numbered}
 use Rattle.type_lists.specs.Format.{is_clip, shaped, numeric_type}
 use Rattle.type_lists.specs.Rules.{numeric_gives, array_gives, type_gives, populate, nesting}
 use Rattle.type_check.specs.declared.notes.Note.{Note}
 use Rattle.type_check.specs.Inner.Positions.{binding_at, binding_of, members_at, type_at, struct_at}
-use Rattle.type_check.specs.Inner.Notes.{note, note_of, is_struct, lone_note, number_note, start_in, note_in, clip_word, bound_note, array_note, lone_note_at, given_note, Stands, Noted}
+use Rattle.type_check.specs.Inner.Notes.{note, note_of, is_struct, number_note, start_in, note_in, clip_word, bound_note, array_note, lone_note_at, given_note, Noted}
 use Rattle.type_check.proofs.Gives.{lone_gives, struct_ignores}
 use Rattle.type_check.proofs.ClipWays.{type_22, type_23, type_24, clip_bound}
 

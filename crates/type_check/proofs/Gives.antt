@@ -2,17 +2,16 @@
 use Prim.Native.Nat.{ℕ, ◌<◌, ◌≤◌}
 use native.Mathlib.Omega.{arith}
 use mathlib.Core.Path.{◌≡◌, refl, sym, ap, ◌∙◌}
-use mathlib.Core.Bool.{Bool, true, false, false≢true}
-use mathlib.Core.List.{List, [], ◌∷◌, ◌++◌}
+use mathlib.Core.Bool.{true, false, false≢true}
+use mathlib.Core.List.{List, [], ◌∷◌}
 use borrow.Author.Tests.{eqb-true, eqb-false, ltb-true}
 use lib.Dec.{eqb, ltb}
 use lib.ListN.{length}
-use Rattle.word.specs.Lists.{every}
 use Rattle.word.proofs.Truth.{by_test}
 use Rattle.word.proofs.Lists.{every_first, every_others}
 use Rattle.interface.specs.declared.types.Varying.{Varying}
-use Rattle.type_lists.specs.Meaning.{Binding, Unbound, StructMember, TypeInner, Scalar, Vector, Matrix, Array, Struct, type_numbered, by_number}
-use Rattle.type_lists.specs.Rules.{members_give, type_gives, populate, type_nests, nesting}
+use Rattle.type_lists.specs.Meaning.{Binding, StructMember, TypeInner, Scalar, Vector, Matrix, Array, Struct, type_numbered}
+use Rattle.type_lists.specs.Rules.{members_give, type_gives, populate}
 use Rattle.type_lists.proofs.Numbered.{numbered_last, numbered_earlier, by_last, by_earlier}
 use Rattle.type_check.specs.Inner.Positions.{members_below, names_below}
 use Rattle.type_check.specs.Inner.Notes.{is_struct}

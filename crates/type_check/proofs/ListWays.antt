@@ -1,27 +1,26 @@
 -- The code's ways through a list of types.
-use Prim.Native.Nat.{ℕ, zero, suc, ◌+◌, ◌-◌, ◌^◌, ◌<◌, ◌≤◌}
+use Prim.Native.Nat.{ℕ, suc, ◌+◌, ◌-◌, ◌<◌, ◌≤◌}
 use native.Mathlib.Omega.{arith}
 use native.Mathlib.Nat.{zero-add}
-use mathlib.Core.Path.{◌≡◌, refl, sym, ap, ◌∙◌}
-use mathlib.Core.Bool.{Bool, true, false, not, ◌&&◌}
+use mathlib.Core.Path.{◌≡◌, refl, sym, ◌∙◌}
+use mathlib.Core.Bool.{Bool, true, false, not}
 use mathlib.Core.List.{List, [], ◌∷◌}
-use borrow.Author.Tests.{eq-eqb, ne_eqb, eqb-true, eqb-false, leb-true, lt-leb, le-leb, not-true, not-false}
+use borrow.Author.Tests.{eqb-true, eqb-false, leb-true, lt-leb, le-leb, not-true, not-false}
 use lib.Dec.{eqb, leb}
 use lib.ListN.{get_or, set, length, drop, length-drop}
 use lib.Seq.{get_or-set_same, get_or-set_other}
-use Rattle.word.specs.Choice.{pick}
 use Rattle.word.specs.Words.{word_at, kind_of, content_of}
-use Rattle.word.specs.Parse.{Parsed, fault, got, next, one, from, behind, rest_at}
-use Rattle.word.proofs.Parse.{rest_from, rest_past, one_fault, one_got, one_in, stopped}
+use Rattle.word.specs.Parse.{fault, got, one, behind, rest_at}
+use Rattle.word.proofs.Parse.{rest_past, one_fault, one_got, one_in, stopped}
 use Rattle.word.proofs.Truth.{second, by_test}
-use Rattle.type_lists.specs.Meaning.{TypeInner, type_numbered}
-use Rattle.type_lists.specs.Format.{head_well_formed, read_type, read_types, count_well_formed, read_list, decode, most_types}
+use Rattle.type_lists.specs.Meaning.{TypeInner}
+use Rattle.type_lists.specs.Format.{head_well_formed, read_type, read_types, count_well_formed, read_list, decode}
 use Rattle.type_lists.proofs.Numbered.{types_add, types_one, types_length, numbered_last, numbered_earlier}
 use Rattle.interface.proofs.RestoreRecords.{one_then}
 use Rattle.type_check.specs.declared.notes.Note.{Note}
 use Rattle.type_check.specs.declared.notes.Reading.{Reading}
-use Rattle.type_check.specs.Inner.Positions.{type_at, names_below, types_of, earlier_of, declared, accepted, listed}
-use Rattle.type_check.specs.Inner.Notes.{number_note, start_in, note_in, note_word, Stands, Noted, reached_at, type_reached}
+use Rattle.type_check.specs.Inner.Positions.{earlier_of, declared, listed}
+use Rattle.type_check.specs.Inner.Notes.{number_note, note_word, Stands, Noted, reached_at, type_reached}
 use Rattle.type_check.proofs.Taken.{type_took}
 use Rattle.type_check.proofs.Noting.{Bounded, note_back, start_back}
 use Rattle.type_check.proofs.MemberWays.{went_on, reached_got, reached_fault}

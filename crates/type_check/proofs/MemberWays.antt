@@ -4,17 +4,17 @@ use native.Mathlib.Omega.{arith}
 use native.Mathlib.Numerals.{sub-one}
 use mathlib.Core.Path.{◌≡◌, refl, sym, ap, ◌∙◌}
 use mathlib.Core.Bool.{Bool, true, false, not}
-use mathlib.Core.List.{List, [], ◌∷◌}
-use borrow.Author.Tests.{eq-eqb, ne_eqb, ltb-true, not-true, not-false}
+use mathlib.Core.List.{List, ◌∷◌}
+use borrow.Author.Tests.{ne_eqb, ltb-true, not-true, not-false}
 use lib.Dec.{eqb, ltb}
 use lib.ListN.{get_or, length, drop}
 use Rattle.word.specs.Choice.{pick}
 use Rattle.word.specs.Words.{word_at, kind_of, content_of, bits}
-use Rattle.word.specs.Parse.{Parsed, fault, got, next, one, several, nowhere, from, behind, rest_at}
-use Rattle.word.proofs.Parse.{rest_from, rest_past, first_of, others_of, one_fault, one_got, one_in, stopped}
+use Rattle.word.specs.Parse.{Parsed, fault, got, next, several, nowhere, from, behind, rest_at}
+use Rattle.word.proofs.Parse.{rest_past, first_of, others_of, one_fault, one_got, one_in, stopped}
 use Rattle.word.proofs.Truth.{second}
 use Rattle.interface.specs.Format.{index_well_formed}
-use Rattle.type_lists.specs.Meaning.{Binding, StructMember, TypeInner}
+use Rattle.type_lists.specs.Meaning.{StructMember, TypeInner}
 use Rattle.type_lists.specs.Format.{read_binding, binding_good, read_member}
 use Rattle.type_lists.specs.Rules.{populate, nesting}
 use Rattle.type_check.specs.declared.notes.Note.{Note}
@@ -24,7 +24,7 @@ use Rattle.type_check.specs.Inner.Notes as N
 use Rattle.type_check.specs.Inner.Notes.{note, note_of, both, member_note, members_note, start_in, given_note, Noted, Reached, upto, reached_at, reached, member_reached, members_reached, onward}
 use Rattle.type_check.specs.Inner.Clips.{binding_good_at}
 use Rattle.type_check.proofs.Taken.{binding_took, member_took}
-use Rattle.type_check.proofs.Noting.{Bounded, of_bounded, members_more, members_first, members_end}
+use Rattle.type_check.proofs.Noting.{of_bounded, members_more, members_first, members_end}
 use Rattle.type_check.proofs.ClipWays.{good_is, element_small}
 use Rattle.type_check.proofs.GivenWays.{given_is}
 

@@ -1,24 +1,23 @@
 -- What the grammar of a type list reads is what stands at positions, and each type names earlier ones only.
-use Prim.Native.Nat.{ℕ, zero, suc, ◌<◌}
+use Prim.Native.Nat.{ℕ, zero, suc}
 use native.Mathlib.Omega.{arith}
-use mathlib.Core.Path.{◌≡◌, refl, sym, ◌∙◌}
-use mathlib.Core.Bool.{Bool, true, false, ◌&&◌, ◌||◌}
+use mathlib.Core.Path.{◌≡◌, refl}
+use mathlib.Core.Bool.{true, ◌&&◌}
 use mathlib.Core.List.{List, [], ◌∷◌}
-use borrow.Author.Tests.{eqb-true, eqb-false}
+use borrow.Author.Tests.{eqb-true}
 use lib.Dec.{eqb, ltb}
 use lib.ListN.{length, drop}
-use Rattle.word.specs.Choice.{pick}
-use Rattle.word.specs.Words.{word_at, kind_of, content_of, bits, of_kind}
+use Rattle.word.specs.Words.{kind_of, content_of, bits, of_kind}
 use Rattle.word.specs.Lists.{every}
-use Rattle.word.specs.Parse.{Parsed, fault, got, next, one, several}
+use Rattle.word.specs.Parse.{got, several}
 use Rattle.word.proofs.Truth.{first, second, by_test}
 use Rattle.word.proofs.ParseReads.{next_then, picked}
-use Rattle.numeric.specs.TypeWords.{type_well_formed, type_of}
+use Rattle.numeric.specs.TypeWords.{type_of}
 use Rattle.numeric.specs.declared.types.Scalar as Numeric
 use Rattle.numeric.specs.declared.types.NumericDimension.{NumericDimension}
 use Rattle.numeric.specs.declared.types.NumericDimension.TheVariants as D
 use Rattle.varying.specs.Format.{location_well_formed}
-use Rattle.interface.specs.Format.{of_word, index_well_formed, built_in_well_formed, built_in_of}
+use Rattle.interface.specs.Format.{of_word, index_well_formed, built_in_of}
 use Rattle.interface.proofs.RestoreRecords.{got_as, one_then}
 use Rattle.type_lists.specs.Meaning.{Binding, Unbound, BuiltIn, StructMember, TypeInner, Array, Struct}
 use Rattle.type_lists.specs.Format.{bound_well_formed, built_in_bound, located, read_binding, binding_good, read_member, head_well_formed, shaped, numeric_type, read_type}

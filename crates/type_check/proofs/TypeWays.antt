@@ -1,10 +1,10 @@
 -- The code's ways through one type.
-use Prim.Native.Nat.{ℕ, zero, suc, ◌+◌, ◌/◌, ◌%◌, ◌^◌, ◌<◌, ◌≤◌, min}
+use Prim.Native.Nat.{ℕ, suc, ◌+◌, ◌%◌, ◌^◌, ◌<◌, ◌≤◌, min}
 use native.Mathlib.Omega.{arith}
 use mathlib.Core.Path.{◌≡◌, refl, sym, ap, ◌∙◌}
 use mathlib.Core.Bool.{Bool, true, false, not, ◌&&◌}
-use mathlib.Core.List.{List, [], ◌∷◌}
-use borrow.Author.Tests.{eq-eqb, ne_eqb, eqb-true, eqb-false, ltb-true, not-true, not-false}
+use mathlib.Core.List.{List, ◌∷◌}
+use borrow.Author.Tests.{eq-eqb, ne_eqb, ltb-true, not-true, not-false}
 use lib.Dec.{eqb, ltb}
 use lib.ListN.{get_or, length, drop}
 use Rattle.word.specs.Choice.{pick}
@@ -12,18 +12,18 @@ use Rattle.word.specs.Words.{word_at, kind_of, content_of, bits}
 use Rattle.word.specs.Parse.{Parsed, fault, got, next, one, several}
 use Rattle.word.proofs.Parse.{one_fault, one_got, one_in}
 use Rattle.word.proofs.Truth.{second, by_test}
-use Rattle.numeric.specs.TypeWords.{type_well_formed, type_of}
+use Rattle.numeric.specs.TypeWords.{type_of}
 use Rattle.numeric.specs.declared.types.Scalar as Numeric
 use Rattle.numeric.specs.declared.types.NumericDimension.{NumericDimension}
 use Rattle.numeric.specs.declared.types.NumericDimension.TheVariants as D
 use Rattle.interface.specs.Format.{of_word}
-use Rattle.type_lists.specs.Meaning.{Unbound, StructMember, TypeInner, Array, Struct, type_numbered}
+use Rattle.type_lists.specs.Meaning.{Unbound, StructMember, TypeInner, Array, Struct}
 use Rattle.type_lists.specs.Format.{read_member, head_well_formed, shaped, numeric_type, read_type}
 use Rattle.type_lists.specs.Rules.{populate, members_give, type_nests, nesting, deepest}
 use Rattle.type_lists.proofs.Numbered.{numbered_last, numbered_earlier, by_last, by_earlier}
 use Rattle.type_check.specs.declared.notes.Note.{Note}
 use Rattle.type_check.specs.declared.notes.Reading.{Reading}
-use Rattle.type_check.specs.Inner.Notes.{note, note_of, members_note, is_struct, lone_note, number_note, note_in, Noted, Reached, nowhere, upto, reached_at, members_reached, struct_of, type_reached}
+use Rattle.type_check.specs.Inner.Notes.{note, note_of, members_note, is_struct, lone_note, number_note, note_in, Noted, nowhere, upto, reached_at, members_reached, struct_of, type_reached}
 use Rattle.type_check.proofs.Gives.{gives_last, gives_earlier}
 use Rattle.type_check.proofs.GivenWays.{shaped_lone, depth_noted}
 

@@ -1,18 +1,17 @@
 -- The code's ways through single words: a word's kind and content are asked for by calls.
-use Prim.Native.Nat.{ℕ, ◌+◌, ◌/◌, ◌%◌, ◌^◌, ◌<◌}
+use Prim.Native.Nat.{ℕ, ◌+◌, ◌<◌}
 use mathlib.Core.Path.{◌≡◌, sym, ◌∙◌}
-use mathlib.Core.Bool.{Bool, true, false, ◌&&◌, ◌||◌, not}
+use mathlib.Core.Bool.{Bool, false, ◌&&◌, ◌||◌, not}
 use mathlib.Core.List.{List}
 use borrow.Author.Tests.{eq-eqb, ne_eqb, lt-ltb}
 use lib.Dec.{eqb, ltb, leb}
 use lib.ListN.{get_or, drop}
 use lib.Seq.{get_or-drop}
-use Rattle.word.specs.Choice.{pick, yes}
+use Rattle.word.specs.Choice.{pick}
 use Rattle.word.specs.Words.{word_at, kind_of, content_of, bits}
 use Rattle.numeric.specs.TypeWords.{type_well_formed}
 use Rattle.interface.specs.Format.{index_well_formed}
 use Rattle.type_lists.specs.Format.{bound_well_formed, built_in_bound, head_well_formed, count_well_formed}
-use Rattle.type_check.specs.declared.notes.Note.{Note}
 use Rattle.type_check.specs.Inner.Positions.{member_width, struct_at}
 use Rattle.type_check.specs.Inner.Notes.{clip_word, bound_note, note}
 

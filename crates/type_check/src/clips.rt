@@ -2,7 +2,7 @@
 ghost use Rattle.std.specs.Prelude.{◌≡◌, ◌<◌, get_or};
 ghost use Rattle.word.specs.Words.{word_at, kind_of, bits};
 ghost use Rattle.type_check.specs.Inner.Notes.{start_in, clip_word};
-ghost use Rattle.type_check.specs.Inner.Clips.{f_32_at, clip_good_at, binding_good_at};
+ghost use Rattle.type_check.specs.Inner.Clips.{f32_at, clip_good_at, binding_good_at};
 
 use crate::notes::start_at;
 
@@ -18,7 +18,7 @@ pub fn is_clip(w: u32) -> bool
 
 // Whether a 32-bit float stands at a position.
 fn is_f32(types: &[u32], at: usize) -> bool
-    ensures { result ≡ f_32_at types.now at }
+    ensures { result ≡ f32_at types.now at }
 {
     let w = word::word(types, at);
     if word::kind(w) != 22 {

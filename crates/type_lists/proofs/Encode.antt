@@ -1,38 +1,36 @@
 -- What was written is read: bindings, types, and a list with words behind it.
-use Prim.Native.Nat.{ℕ, zero, suc, ◌+◌, ◌*◌, ◌/◌, ◌%◌, ◌^◌, ◌<◌, ◌≤◌}
+use Prim.Native.Nat.{ℕ, ◌+◌, ◌*◌, ◌^◌, ◌<◌, ◌≤◌}
 use native.Mathlib.Omega.{arith}
 use native.Mathlib.Numerals.{add-one}
-use mathlib.Core.Path.{◌≡◌, refl, sym, ◌∙◌}
-use mathlib.Core.Bool.{Bool, true, false, ◌&&◌, ◌||◌}
+use mathlib.Core.Path.{◌≡◌, refl, ◌∙◌}
+use mathlib.Core.Bool.{Bool, true, false, ◌||◌}
 use mathlib.Core.List.{List, [], ◌∷◌, ◌++◌, append_assoc}
-use borrow.Author.Tests.{eq-eqb, eqb-true, ltb-true, lt-ltb, leb-true, le-leb}
+use borrow.Author.Tests.{eqb-true, ltb-true, lt-ltb, leb-true, le-leb}
 use lib.Dec.{eqb, ltb, leb}
 use lib.ListN.{length}
-use Rattle.word.specs.Choice.{pick, yes}
-use Rattle.word.specs.Words.{kind_of, content_of, content, bits, bit, of_kind}
-use Rattle.word.specs.Lists.{every, flat}
-use Rattle.word.specs.Parse.{Parsed, fault, got, next, one, several}
-use Rattle.word.proofs.Truth.{first, second, or_right}
+use Rattle.word.specs.Choice.{yes}
+use Rattle.word.specs.Words.{kind_of, content_of, bits, bit, of_kind}
+use Rattle.word.specs.Lists.{every}
+use Rattle.word.specs.Parse.{got}
+use Rattle.word.proofs.Truth.{first, second}
 use Rattle.word.proofs.ParseReads.{picked}
 use Rattle.bindings.specs.Format.{flag}
-use Rattle.numeric.specs.Types.{numeric, kind_code}
-use Rattle.numeric.specs.TypeWords.{shape_code, shape_at, kind_at, width_known, type_well_formed, type_of, type_word}
-use Rattle.numeric.specs.declared.types.Scalar as Numeric
-use Rattle.numeric.specs.declared.types.NumericDimension.{NumericDimension}
+use Rattle.numeric.specs.Types.{kind_code}
+use Rattle.numeric.specs.TypeWords.{shape_code, width_known, type_well_formed, type_of, type_word}
 use Rattle.numeric.specs.declared.types.NumericDimension.TheVariants as D
 use Rattle.numeric.specs.declared.types.NumericType.{NumericType}
 use Rattle.numeric.proofs.Joined.{kind_again, shape_again, kind_below, shape_below, width_below}
 use Rattle.varying.specs.Format.{location_well_formed}
 use Rattle.varying.proofs.Joined.{location_well_formed_lem, location_read}
-use Rattle.interface.specs.Format.{index_well_formed, built_in_well_formed, built_in_of, built_in_code, varying_words, read_varying}
+use Rattle.interface.specs.Format.{index_well_formed, built_in_well_formed, built_in_of, built_in_code, read_varying}
 use Rattle.interface.specs.Encodable as Pack
 use Rattle.interface.specs.declared.types.BuiltIn as Interface
 use Rattle.interface.specs.declared.types.BuiltIn.TheVariants as In
 use Rattle.interface.specs.declared.types.Varying.TheVariants as Var
-use Rattle.interface.proofs.EncodeRecords.{next_got, records_got}
+use Rattle.interface.proofs.EncodeRecords.{records_got}
 use Rattle.interface.proofs.EncodeVaryings.{varying_got}
 use Rattle.type_lists.specs.Meaning.{Binding, Unbound, Location, BuiltIn, StructMember, TypeInner, Scalar, Vector, Matrix, Array, Struct}
-use Rattle.type_lists.specs.Format.{bound_well_formed, built_in_bound, located, binding_behind, read_binding, binding_good, read_member, head_well_formed, shaped, numeric_type}
+use Rattle.type_lists.specs.Format.{bound_well_formed, read_binding, binding_good, read_member, head_well_formed, numeric_type}
 use Rattle.type_lists.specs.Format.{read_type, read_types, count_well_formed, read_list, decode, most_types, most_words, binding_words, member_words, numeric_words, type_words, types_words, encode}
 use Rattle.type_lists.specs.Encodable.{built_in_encodable, binding_encodable, member_encodable, type_encodable, types_encodable, list_encodable}
 use Rattle.type_lists.proofs.Numbered.{types_one}

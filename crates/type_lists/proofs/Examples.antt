@@ -1,26 +1,23 @@
 -- What the definitions say of a written-out list: f32, vec3 f32, an array of five f32, a struct of an f32 at location 3 and an unbound vec3,
 -- and one of the struct, with a location that is ignored, clip distances and a built-in.
-use Prim.Native.Nat.{ℕ, ◌+◌, ◌*◌, ◌^◌}
+use Prim.Native.Nat.{ℕ}
 use mathlib.Core.Path.{◌≡◌, refl}
 use mathlib.Core.Bool.{true, false}
 use mathlib.Core.List.{List, [], ◌∷◌, ◌++◌}
-use lib.ListN.{length}
 use Rattle.word.specs.Choice.{yes}
 use Rattle.word.specs.Words.{of_kind}
-use Rattle.word.specs.Lists.{every, flat}
-use Rattle.word.specs.Parse.{Parsed, fault, got, several}
-use Rattle.numeric.specs.Types.{numeric}
+use Rattle.word.specs.Lists.{flat}
+use Rattle.word.specs.Parse.{got, several}
 use Rattle.numeric.specs.TypeWords.{type_well_formed, type_of, type_word}
 use Rattle.numeric.specs.declared.types.Scalar as Numeric
 use Rattle.numeric.specs.declared.types.ScalarKind.TheVariants as K
 use Rattle.numeric.specs.declared.types.NumericDimension.TheVariants as D
-use Rattle.numeric.specs.declared.types.VectorSize.TheVariants.{Bi, Tri, Quad}
+use Rattle.numeric.specs.declared.types.VectorSize.TheVariants.{Tri}
 use Rattle.interface.specs.declared.types.BuiltIn.TheVariants as In
 use Rattle.interface.specs.declared.types.Varying.TheVariants as Var
-use Rattle.type_lists.specs.Meaning.{Unbound, Location, BuiltIn, StructMember, TypeInner, Scalar, Vector, Matrix, Array, Struct, type_numbered, by_number}
+use Rattle.type_lists.specs.Meaning.{Unbound, Location, BuiltIn, TypeInner, Scalar, Vector, Array, Struct, type_numbered, by_number}
 use Rattle.type_lists.specs.Rules.{populate, members_give, nesting, deepest}
 use Rattle.type_lists.specs.Format.{bound_well_formed, read_binding, binding_good, read_member, read_type, read_types, read_list, decode, type_words, types_words, encode}
-use Rattle.type_lists.specs.Encodable.{types_encodable}
 
 f32 : Numeric.Scalar
 f32 = record { kind = K.Float; width = 4 }

@@ -3,12 +3,9 @@ use Prim.Native.Nat.{ℕ, zero, suc, ◌+◌, ◌<◌}
 use native.Mathlib.Omega.{arith}
 use native.Mathlib.Nat.{add-zero, zero-add, suc-add}
 use mathlib.Core.Path.{◌≡◌, refl, sym, ◌∙◌}
-use mathlib.Core.Bool.{Bool}
-use mathlib.Core.List.{List, [], ◌∷◌}
+use mathlib.Core.List.{List, ◌∷◌}
 use borrow.Author.Tests.{eq-eqb, ne_eqb}
-use lib.Dec.{eqb}
 use lib.ListN.{length}
-use Rattle.word.specs.Choice.{pick}
 use Rattle.word.specs.Parse.{Parsed, fault, got, next}
 use Rattle.word.proofs.ParseReads.{next_then}
 use Rattle.type_lists.specs.Meaning.{TypeInner, type_numbered, by_number}
@@ -23,12 +20,12 @@ module _ (t : TypeInner) (earlier : List TypeInner) where
   unfolding type_numbered
   numbered_earlier n h = rw (ne_eqb n (length earlier) (λ z. omega arith))
 
-  module _ {A : Type 0} (of_type_lem : (ℕ → A) → TypeInner → A) (none : A) where
-    pub by_last : by_number of_type_lem none (t ∷ earlier) (length earlier) ≡ of_type_lem (by_number of_type_lem none earlier) t
+  module _ {A : Type 0} (of_type : (ℕ → A) → TypeInner → A) (none : A) where
+    pub by_last : by_number of_type none (t ∷ earlier) (length earlier) ≡ of_type (by_number of_type none earlier) t
     unfolding by_number
     by_last = rw (eq-eqb (length earlier) (length earlier) refl)
 
-    pub by_earlier : (n : ℕ) → n < length earlier → by_number of_type_lem none (t ∷ earlier) n ≡ by_number of_type_lem none earlier n
+    pub by_earlier : (n : ℕ) → n < length earlier → by_number of_type none (t ∷ earlier) n ≡ by_number of_type none earlier n
     unfolding by_number
     by_earlier n h = rw (ne_eqb n (length earlier) (λ z. omega arith))
 

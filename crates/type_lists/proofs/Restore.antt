@@ -1,37 +1,33 @@
 -- What was read, written again, is what stood there: bindings, types, and a list before its free room.
-use Prim.Native.Nat.{ℕ, zero, suc, ◌+◌, ◌*◌, ◌/◌, ◌%◌, ◌^◌, ◌<◌, ◌≤◌}
+use Prim.Native.Nat.{ℕ, zero, suc, ◌+◌, ◌*◌, ◌/◌, ◌^◌, ◌<◌}
 use native.Mathlib.Omega.{arith}
 use native.Mathlib.Nat.{zero-add}
 use mathlib.Core.Path.{◌≡◌, refl, sym, ◌∙◌}
-use mathlib.Core.Bool.{Bool, true, false, ◌&&◌, ◌||◌}
+use mathlib.Core.Bool.{true, false, ◌&&◌, ◌||◌}
 use mathlib.Core.List.{List, [], ◌∷◌, ◌++◌, append_assoc}
-use borrow.Author.Tests.{eqb-true, eqb-false, ltb-true}
+use borrow.Author.Tests.{eqb-true, ltb-true}
 use lib.Dec.{eqb, ltb, leb}
 use lib.ListN.{length}
-use Rattle.word.specs.Choice.{pick, yes}
 use Rattle.word.specs.Words.{kind_of, content_of, bits, bit, of_kind}
-use Rattle.word.specs.Lists.{every, flat}
-use Rattle.word.specs.Parse.{Parsed, fault, got, next, one, several}
+use Rattle.word.specs.Parse.{got}
 use Rattle.word.proofs.Truth.{first, second, by_test}
 use Rattle.word.proofs.Lists.{every_any}
 use Rattle.word.proofs.ParseReads.{next_then, picked}
 use Rattle.bindings.specs.Format.{flag}
-use Rattle.numeric.specs.Types.{kind_code}
-use Rattle.numeric.specs.TypeWords.{shape_code, shape_at, kind_at, width_known, type_well_formed, type_of, type_word}
+use Rattle.numeric.specs.TypeWords.{type_well_formed, type_of, type_word}
 use Rattle.numeric.specs.declared.types.Scalar as Numeric
 use Rattle.numeric.specs.declared.types.NumericDimension.{NumericDimension}
 use Rattle.numeric.specs.declared.types.NumericDimension.TheVariants as D
-use Rattle.numeric.specs.declared.types.NumericType.{NumericType}
 use Rattle.numeric.proofs.Joined.{kind_back, shape_back}
 use Rattle.varying.specs.Format.{location_well_formed}
 use Rattle.varying.proofs.Joined.{flag_back, location_written}
-use Rattle.interface.specs.Format.{of_word, index_well_formed, built_in_well_formed, built_in_of, built_in_code, varying_words, read_varying}
+use Rattle.interface.specs.Format.{of_word, index_well_formed, built_in_well_formed, built_in_of, built_in_code, read_varying}
 use Rattle.interface.specs.declared.types.Varying.TheVariants as Var
 use Rattle.interface.proofs.RestoreRecords.{Restores, got_as, one_then, several_then}
 use Rattle.interface.proofs.RestoreVaryings.{varying_back}
-use Rattle.type_lists.specs.Meaning.{Binding, Unbound, Location, BuiltIn, StructMember, TypeInner, Scalar, Vector, Matrix, Array, Struct}
-use Rattle.type_lists.specs.Format.{bound_well_formed, built_in_bound, located, binding_behind, read_binding, binding_good, read_member, head_well_formed, shaped, numeric_type}
-use Rattle.type_lists.specs.Format.{read_type, read_types, count_well_formed, read_list, decode, most_types, most_words, binding_words, member_words, numeric_words, type_words, types_words, encode}
+use Rattle.type_lists.specs.Meaning.{Unbound, BuiltIn, TypeInner, Array, Struct}
+use Rattle.type_lists.specs.Format.{bound_well_formed, built_in_bound, located, read_binding, binding_good, read_member, head_well_formed, shaped, numeric_type}
+use Rattle.type_lists.specs.Format.{read_type, read_types, count_well_formed, read_list, decode, most_words, binding_words, member_words, numeric_words, type_words, types_words, encode}
 use Rattle.type_lists.proofs.Numbered.{types_length}
 
 -- ---- bindings

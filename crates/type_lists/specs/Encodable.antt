@@ -1,5 +1,5 @@
 -- What a type list can hold: the ranges of its numbers, and the rules of document 02 on what it lists.
-use Rattle.std.specs.Prelude.{ℕ, ◌^◌, Bool, true, false, ◌&&◌, List, [], ◌∷◌, eqb, leb, ltb, length}
+use Rattle.std.specs.Prelude.{◌^◌, Bool, true, ◌&&◌, List, [], ◌∷◌, eqb, leb, ltb, length}
 use Rattle.word.specs.Words.{content}
 use Rattle.word.specs.Lists.{every}
 use Rattle.numeric.specs.TypeWords.{width_known}

@@ -31,5 +31,5 @@ type_numbered (t ∷ earlier) n = let rest = type_numbered earlier n in pick (eq
 
 -- what is worked out of each type by what was worked out of earlier ones, told by their numbers
 unfoldable pub by_number : {A : Type 0} → ((ℕ → A) → TypeInner → A) → A → List TypeInner → ℕ → A
-by_number of_type_lem none [] n = none
-by_number of_type_lem none (t ∷ earlier) n = pick (eqb n (length earlier)) (of_type_lem (by_number of_type_lem none earlier) t) (by_number of_type_lem none earlier n)
+by_number of_type none [] n = none
+by_number of_type none (t ∷ earlier) n = pick (eqb n (length earlier)) (of_type (by_number of_type none earlier) t) (by_number of_type none earlier n)

@@ -1,5 +1,4 @@
 use Rattle.bokwingi.proofs.DetailLaws.{stage_handed, stage_layout, stage_sizes, stage_out_lem}
-use borrow.Author.Rules.{rules}
 use Rattle.bokwingi.proofs.bokwingi_check_stage.Goals as goal
 
 pub returns-clause-handed : goal.returns-clause-handed

@@ -1,5 +1,4 @@
 use Rattle.bokwingi.proofs.DetailLaws.{handed_on}
-use borrow.Author.Rules.{rules}
 use Rattle.bokwingi.proofs.bokwingi_check_texture_format.Goals as goal
 
 pub returns : goal.returns

@@ -1,5 +1,4 @@
 use Rattle.bokwingi.proofs.DetailLaws.{compared_number}
-use borrow.Author.Rules.{rules}
 use Rattle.bokwingi.proofs.bokwingi_is_subtype_of.Goals as goal
 
 pub returns : goal.returns

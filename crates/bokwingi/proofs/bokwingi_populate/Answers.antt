@@ -1,5 +1,4 @@
 use Rattle.bokwingi.proofs.DetailLaws.{pair_handed, pair_out}
-use borrow.Author.Rules.{rules}
 use Rattle.bokwingi.proofs.bokwingi_populate.Goals as goal
 
 pub returns-clause-handed : goal.returns-clause-handed

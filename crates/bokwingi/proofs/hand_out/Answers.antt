@@ -1,5 +1,4 @@
 use Rattle.bokwingi.proofs.DetailLaws.{room_none, room_one, room_two, room_three, room_past_one, room_past_two}
-use borrow.Author.Rules.{rules}
 use Rattle.bokwingi.proofs.hand_out.Goals as goal
 
 pub returns-then-details-eq0 : goal.returns-then-details-eq0

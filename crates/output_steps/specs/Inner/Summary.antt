@@ -1,6 +1,5 @@
 -- What one pass over varyings gathers.
 use Rattle.std.specs.Prelude.{ℕ, ◌+◌, max, ◌||◌, List, [], ◌∷◌}
-use Rattle.interface.specs.declared.types.BuiltIn.{BuiltIn}
 use Rattle.interface.specs.declared.types.Varying.{Varying}
 use Rattle.interface.specs.declared.types.Varying.TheVariants as Var
 use Rattle.output_steps.specs.declared.types.Summary.{Summary}

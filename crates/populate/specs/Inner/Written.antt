@@ -1,5 +1,5 @@
 -- What the functions that write varyings carry along.
-use Rattle.std.specs.Prelude.{ℕ, zero, suc, ◌+◌, ◌<◌, ◌≤◌, min, ◌≡◌, Bool, true, false, List, [], ◌∷◌, eqb, length, set, get_or}
+use Rattle.std.specs.Prelude.{ℕ, zero, suc, ◌+◌, ◌<◌, ◌≤◌, min, ◌≡◌, Bool, false, List, [], ◌∷◌, eqb, length, set, get_or}
 use Rattle.word.specs.Choice.{pick}
 use Rattle.word.specs.Words.{bits, bit}
 use Rattle.numeric.specs.declared.types.NumericType.{NumericType}

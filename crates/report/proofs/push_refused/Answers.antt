@@ -1,5 +1,4 @@
 use Rattle.report.proofs.Reporting.{refused_written}
-use borrow.Author.Rules.{rules}
 use Rattle.report.proofs.push_refused.Goals as goal
 
 pub returns : goal.returns

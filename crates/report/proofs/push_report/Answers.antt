@@ -1,5 +1,4 @@
 use Rattle.report.proofs.Reporting.{report_odd, report_long, report_pack, words_counted}
-use borrow.Author.Rules.{rules}
 use Rattle.report.proofs.push_report.Goals as goal
 
 pub returns-then-bytes-ne0 : goal.returns-then-bytes-ne0

@@ -1,5 +1,4 @@
 use Rattle.report.proofs.Reporting.{used_written}
-use borrow.Author.Rules.{rules}
 use Rattle.report.proofs.push_used.Goals as goal
 
 pub returns : goal.returns

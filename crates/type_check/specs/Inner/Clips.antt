@@ -4,14 +4,14 @@ use Rattle.word.specs.Choice.{pick}
 use Rattle.word.specs.Words.{word_at, kind_of, content_of, bits}
 use Rattle.type_check.specs.Inner.Notes.{start_in, clip_word}
 
-abbrev pub f_32_at : List ℕ → ℕ → Bool
-f_32_at ws at = eqb (kind_of (word_at ws at)) 22 && eqb (word_at ws at % 1024) 288
+abbrev pub f32_at : List ℕ → ℕ → Bool
+f32_at ws at = eqb (kind_of (word_at ws at)) 22 && eqb (word_at ws at % 1024) 288
 
 unfoldable pub clip_good_at : List ℕ → List ℕ → ℕ → Bool
 clip_good_at ws notes at =
     pick (eqb (kind_of (word_at ws at)) 22) false
     (pick (eqb (kind_of (word_at ws at)) 23)
-    (f_32_at ws (start_in (get_or notes (bits 15 0 (word_at ws at)) 0)) && (leb 1 (content_of (word_at ws (at + 1))) && leb (content_of (word_at ws (at + 1))) 255))
+    (f32_at ws (start_in (get_or notes (bits 15 0 (word_at ws at)) 0)) && (leb 1 (content_of (word_at ws (at + 1))) && leb (content_of (word_at ws (at + 1))) 255))
     true)
 
 -- the type of a number with a binding that begins with a word

@@ -1,12 +1,12 @@
 -- What is noted of a type by its number: where it stands, how deep structs nest in it, how many varyings it gives and how many words they take.
-use Rattle.std.specs.Prelude.{ℕ, suc, ◌+◌, ◌*◌, ◌^◌, ◌<◌, ◌≤◌, min, max, ◌≡◌, Bool, true, false, ◌&&◌, List, [], ◌∷◌, eqb, leb, length, drop, get_or}
+use Rattle.std.specs.Prelude.{ℕ, ◌+◌, ◌*◌, ◌^◌, ◌<◌, ◌≤◌, min, max, ◌≡◌, Bool, true, false, ◌&&◌, List, ◌∷◌, eqb, leb, length, drop, get_or}
 use Rattle.word.specs.Choice.{pick, yes}
 use Rattle.word.specs.Words.{word_at, kind_of, bits}
 use Rattle.word.specs.Lists.{flat}
 use Rattle.word.specs.Parse.{Parsed, fault, got, next}
 use Rattle.interface.specs.Format.{varying_words}
 use Rattle.interface.specs.declared.types.Varying.{Varying}
-use Rattle.type_lists.specs.Meaning.{Binding, Unbound, StructMember, TypeInner, Scalar, Vector, Matrix, Array, Struct, type_numbered}
+use Rattle.type_lists.specs.Meaning.{Unbound, StructMember, TypeInner, Scalar, Vector, Matrix, Array, Struct, type_numbered}
 use Rattle.type_lists.specs.Format.{most_types}
 use Rattle.type_lists.specs.Rules.{populate, members_give, nesting, deepest}
 use Rattle.type_check.specs.Inner.Positions.{type_at, struct_at, names_below}

@@ -1,5 +1,4 @@
 use Rattle.binding_rules.proofs.AnswerLaws.{check_no_resource, check_no_entry, check_found}
-use borrow.Author.Rules.{rules}
 use Rattle.binding_rules.proofs.check_words.check_words.Goals as goal
 
 pub returns-then-not-resource_alone : goal.returns-then-not-resource_alone

@@ -1,5 +1,4 @@
 use Rattle.binding_rules.proofs.AnswerLaws.{derive_no_resource, derive_found, derive_none, derive_encodable}
-use borrow.Author.Rules.{rules}
 use Rattle.binding_rules.proofs.check_words.derive_words.Goals as goal
 
 pub returns-then-not-resource_alone : goal.returns-then-not-resource_alone

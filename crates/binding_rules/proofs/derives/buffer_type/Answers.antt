@@ -1,5 +1,4 @@
 use Rattle.binding_rules.proofs.DeriveLaws.{derived_space}
-use borrow.Author.Rules.{rules}
 use Rattle.binding_rules.proofs.derives.buffer_type.Goals as goal
 
 pub returns-in-Uniform : goal.returns-in-Uniform

@@ -1,5 +1,4 @@
 use Rattle.binding_rules.proofs.DeriveLaws.{derived_buffer_lem, derived_sampler, derived_texture_lem, derived_acceleration}
-use borrow.Author.Rules.{rules}
 use Rattle.binding_rules.proofs.derives.derive_binding_type.Goals as goal
 
 pub returns-in-Buffer : goal.returns-in-Buffer

@@ -1,6 +1,5 @@
 use Rattle.binding_rules.proofs.DeriveLaws.{derived_float}
 use Rattle.word.proofs.Tests.{tests}
-use borrow.Author.Rules.{rules}
 use Rattle.binding_rules.proofs.derives.sample_type.Goals as goal
 
 pub returns-in-Float : goal.returns-in-Float

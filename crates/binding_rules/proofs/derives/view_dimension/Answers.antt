@@ -1,6 +1,5 @@
 use Rattle.binding_rules.proofs.DeriveLaws.{derived_2d, derived_cube}
 use Rattle.word.proofs.Tests.{tests}
-use borrow.Author.Rules.{rules}
 use Rattle.binding_rules.proofs.derives.view_dimension.Goals as goal
 
 pub returns-then-arrayed : goal.returns-then-arrayed

@@ -1,5 +1,4 @@
 use Rattle.binding_rules.proofs.UseLaws.{class_is}
-use borrow.Author.Rules.{rules}
 use Rattle.binding_rules.proofs.texture_uses.class_of.Goals as goal
 
 pub returns-in-Float : goal.returns-in-Float

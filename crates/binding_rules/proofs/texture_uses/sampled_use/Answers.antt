@@ -1,5 +1,4 @@
 use Rattle.binding_rules.proofs.UseLaws.{class_use_lem}
-use borrow.Author.Rules.{rules}
 use Rattle.binding_rules.proofs.texture_uses.sampled_use.Goals as goal
 
 pub returns : goal.returns

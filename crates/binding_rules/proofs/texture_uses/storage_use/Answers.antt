@@ -1,5 +1,4 @@
 use Rattle.binding_rules.proofs.UseLaws.{stored_use, bad_format}
-use borrow.Author.Rules.{rules}
 use Rattle.binding_rules.proofs.texture_uses.storage_use.Goals as goal
 
 pub returns-then-storable : goal.returns-then-storable

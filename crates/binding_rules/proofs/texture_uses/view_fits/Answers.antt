@@ -1,6 +1,5 @@
 use Rattle.binding_rules.proofs.UseLaws.{view_1d, view_2d, view_3d, view_cube}
 use Rattle.word.proofs.Tests.{tests}
-use borrow.Author.Rules.{rules}
 use Rattle.binding_rules.proofs.texture_uses.view_fits.Goals as goal
 
 pub returns-in-D2 : goal.returns-in-D2

@@ -1,6 +1,5 @@
 use Rattle.binding_rules.proofs.UseLaws.{space_case}
 use Rattle.word.proofs.Tests.{tests}
-use borrow.Author.Rules.{rules}
 use Rattle.binding_rules.proofs.uses.space_of.Goals as goal
 
 pub returns-then-read_only : goal.returns-then-read_only

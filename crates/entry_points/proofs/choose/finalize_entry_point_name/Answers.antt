@@ -1,5 +1,4 @@
 use Rattle.entry_points.proofs.ReadsChoice.{few_in, pack_refused, stage_refused, stage_chosen}
-use borrow.Author.Rules.{rules}
 use Rattle.entry_points.proofs.choose.finalize_entry_point_name.Goals as goal
 
 pub returns-then-refusal-ne0 : goal.returns-then-refusal-ne0

@@ -1,8 +1,3 @@
-use Prim.Native.Nat.{◌-◌, ◌≤◌}
-use mathlib.Core.Path.{◌≡◌}
-use lib.ListN.{drop}
-use Rattle.interface.specs.Format.{decode, interface_of}
-use Rattle.entry_points.specs.Rules.{find_from, find_entry_point}
 use Rattle.entry_points.proofs.ReadsChoice.{find_here, find_onward, find_ended, here_in}
 use borrow.Author.Rules.{rules}
 use Rattle.entry_points.proofs.choose.find_entry_point.Goals as goal

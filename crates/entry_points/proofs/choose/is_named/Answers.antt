@@ -1,6 +1,5 @@
 use Rattle.entry_points.proofs.ReadsChoice.{named_same, named_other}
 use Rattle.interface.proofs.ReadsParts.{heads_there, name_placed}
-use borrow.Author.Rules.{rules}
 use Rattle.entry_points.proofs.choose.is_named.Goals as goal
 
 pub position_at-requires : goal.position_at-requires

@@ -1,5 +1,4 @@
 use Rattle.entry_points.proofs.ReadsChoice.{met_first, met_second, met_later, met_other, next_in, still_in}
-use borrow.Author.Rules.{rules}
 use Rattle.entry_points.proofs.choose.met_one.Goals as goal
 
 pub returns-in-Absent-clause-value : goal.returns-in-Absent-clause-value

@@ -1,6 +1,5 @@
 use Rattle.interface.proofs.ReadsParts.{heads_there, head_inside}
 use Rattle.entry_points.proofs.ReadsChoice.{stage_read}
-use borrow.Author.Rules.{rules}
 use Rattle.entry_points.proofs.choose.of_stage.Goals as goal
 
 pub position_at-at-requires : goal.position_at-at-requires

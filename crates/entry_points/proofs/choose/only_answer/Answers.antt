@@ -1,5 +1,4 @@
 use Rattle.entry_points.proofs.ReadsChoice.{place_fits, answer_at, answer_none, answer_several}
-use borrow.Author.Rules.{rules}
 use Rattle.entry_points.proofs.choose.only_answer.Goals as goal
 
 pub overflow_cast-position : goal.overflow_cast-position

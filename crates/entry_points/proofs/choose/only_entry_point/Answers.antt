@@ -1,10 +1,3 @@
-use Prim.Native.Nat.{◌-◌, ◌≤◌}
-use mathlib.Core.Path.{◌≡◌}
-use mathlib.Core.Bool.{true}
-use lib.ListN.{drop}
-use Rattle.interface.specs.Format.{decode, interface_of}
-use Rattle.entry_points.specs.Rules.{only_from, only_entry_point}
-use Rattle.entry_points.specs.Inner.Walk.{chosen_in}
 use Rattle.entry_points.proofs.ReadsChoice.{only_onward, only_ended, ended_in}
 use borrow.Author.Rules.{rules}
 use Rattle.entry_points.proofs.choose.only_entry_point.Goals as goal

@@ -1,10 +1,8 @@
-use Rattle.entry_points.proofs.ReadsNames.{words_begin, words_differ, words_agree, words_ended, words_left}
 use Prim.Native.Nat.{◌+◌, ◌-◌, ◌*◌, ◌/◌, ◌≤◌}
 use mathlib.Core.Path.{◌≡◌}
 use lib.ListN.{length, drop}
 use Rattle.interface.specs.Format.{same_bytes}
 use Rattle.entry_check.specs.Inner.Walks.{name_of}
-use borrow.Author.Rules.{rules}
 use Rattle.entry_points.proofs.names.same_bytes.Given as goal
 
 abbrev pub invariant-loop-i : goal.invariant-loop-i

@@ -1,5 +1,4 @@
 use Rattle.entry_points.proofs.ReadsNames.{name_fits, name_counts, name_bytes}
-use borrow.Author.Rules.{rules}
 use Rattle.entry_points.proofs.names.same_name.Goals as goal
 
 pub returns-then-name-name_count : goal.returns-then-name-name_count

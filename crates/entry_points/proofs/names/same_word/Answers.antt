@@ -1,5 +1,4 @@
 use Rattle.entry_points.proofs.ReadsNames.{word_compared}
-use borrow.Author.Rules.{rules}
 use Rattle.entry_points.proofs.names.same_word.Goals as goal
 
 pub returns : goal.returns

@@ -1,5 +1,4 @@
 use Rattle.entry_points.proofs.ReadsNames.{words_of}
-use borrow.Author.Rules.{rules}
 use Rattle.entry_points.proofs.names.word_of.Goals as goal
 
 pub returns-then-count-eq1 : goal.returns-then-count-eq1

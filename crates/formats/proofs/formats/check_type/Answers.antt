@@ -1,5 +1,4 @@
 use Rattle.formats.proofs.FormatAnswers.{type_fits, type_differs}
-use borrow.Author.Rules.{rules}
 use Rattle.formats.proofs.formats.check_type.Goals as goal
 
 pub returns-then-fits : goal.returns-then-fits

@@ -1,5 +1,4 @@
 use Rattle.formats.proofs.FormatAnswers.{format_case, known_format}
-use borrow.Author.Rules.{rules}
 use Rattle.formats.proofs.formats.format_answer.Goals as goal
 
 pub returns-in-Known : goal.returns-in-Known

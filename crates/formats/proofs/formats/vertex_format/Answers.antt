@@ -1,5 +1,4 @@
 use Rattle.formats.proofs.FormatAnswers.{same_format}
-use borrow.Author.Rules.{rules}
 use Rattle.formats.proofs.formats.vertex_format.Goals as goal
 
 pub returns : goal.returns

@@ -1,5 +1,4 @@
 use Rattle.word.proofs.Both.{sequence}
-use borrow.Author.Rules.{rules}
 use Rattle.last_steps.proofs.last.last_step.Goals as goal
 
 pub returns-then-meshes-ne0 : goal.returns-then-meshes-ne0

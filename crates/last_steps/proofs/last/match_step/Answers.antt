@@ -1,5 +1,4 @@
 use Rattle.word.proofs.Both.{sequence}
-use borrow.Author.Rules.{rules}
 use Rattle.last_steps.proofs.last.match_step.Goals as goal
 
 pub returns-then-payloads-ne0 : goal.returns-then-payloads-ne0

@@ -1,5 +1,4 @@
 use Rattle.last_steps.proofs.LastLaws.{payload_same, payload_other}
-use borrow.Author.Rules.{rules}
 use Rattle.last_steps.proofs.last.mesh_payload_match.Goals as goal
 
 pub returns-then-same_payload : goal.returns-then-same_payload

@@ -1,6 +1,5 @@
 use Rattle.last_steps.proofs.LastLaws.{payload_sized}
 use Rattle.word.proofs.Tests.{tests}
-use borrow.Author.Rules.{rules}
 use Rattle.last_steps.proofs.last.payload_use.Goals as goal
 
 pub returns-in-Absent : goal.returns-in-Absent

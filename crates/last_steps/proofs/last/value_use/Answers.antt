@@ -1,5 +1,4 @@
 use Rattle.word.proofs.Tests.{tests}
-use borrow.Author.Rules.{rules}
 use Rattle.last_steps.proofs.last.value_use.Goals as goal
 
 pub returns-then-limit-value : goal.returns-then-limit-value

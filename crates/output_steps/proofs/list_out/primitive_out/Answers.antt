@@ -1,5 +1,4 @@
 use Rattle.output_steps.proofs.ListOutLaws.{mesh_written, mesh_unwritten, no_mesh}
-use borrow.Author.Rules.{rules}
 use Rattle.output_steps.proofs.list_out.primitive_out.Goals as goal
 
 pub returns-then-written : goal.returns-then-written

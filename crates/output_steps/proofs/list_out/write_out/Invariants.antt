@@ -3,10 +3,8 @@ use mathlib.Core.Bool.{true}
 use lib.ListN.{length, drop, set}
 use Rattle.stage_lists.specs.Format.{out_well_formed, decode_stage}
 use Rattle.interface.specs.Inner.Reads.{varyings}
-use Rattle.input_steps.proofs.VaryingLaws.{Ahead, ahead, second_there}
-use Rattle.output_steps.proofs.OutputLaws.{ahead_by}
-use Rattle.output_steps.proofs.ListOutLaws.{handed_all, Roomy, begun_roomy, next_encodable, next_few, next_room, roomy_onward, all_onward, as_long, all_ended}
-use borrow.Author.Rules.{rules}
+use Rattle.input_steps.proofs.VaryingLaws.{Ahead}
+use Rattle.output_steps.proofs.ListOutLaws.{handed_all, Roomy}
 use Rattle.output_steps.proofs.list_out.write_out.Given as goal
 
 abbrev pub invariant-loop-left : goal.invariant-loop-left

@@ -1,5 +1,4 @@
 use Rattle.output_steps.proofs.OutputLaws.{dual_lacks, depth_lacks, attachments_good}
-use borrow.Author.Rules.{rules}
 use Rattle.output_steps.proofs.outputs.attachment_use.Goals as goal
 
 pub returns-then-lacks : goal.returns-then-lacks

@@ -1,5 +1,4 @@
 use Rattle.output_steps.proofs.OutputLaws.{built_in_taking, built_in_clip}
-use borrow.Author.Rules.{rules}
 use Rattle.output_steps.proofs.outputs.built_in_summary.Goals as goal
 
 pub returns-then-code-lt4 : goal.returns-then-code-lt4

@@ -1,5 +1,4 @@
 use Rattle.word.proofs.Tests.{tests}
-use borrow.Author.Rules.{rules}
 use Rattle.output_steps.proofs.outputs.count_use.Goals as goal
 
 pub returns-then-slots-count : goal.returns-then-slots-count

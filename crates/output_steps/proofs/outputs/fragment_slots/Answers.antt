@@ -1,5 +1,4 @@
 use Rattle.output_steps.proofs.OutputLaws.{fragment_taken, fragment_location_lem, fragment_count_lem}
-use borrow.Author.Rules.{rules}
 use Rattle.output_steps.proofs.outputs.fragment_slots.Goals as goal
 
 pub returns-then-limit-taken : goal.returns-then-limit-taken

@@ -1,5 +1,4 @@
 use Rattle.output_steps.proofs.OutputLaws.{plus_parts}
-use borrow.Author.Rules.{rules}
 use Rattle.output_steps.proofs.outputs.joined.Goals as goal
 
 pub returns : goal.returns

@@ -1,5 +1,4 @@
 use Rattle.output_steps.proofs.OutputLaws.{location_none, location_below, location_past}
-use borrow.Author.Rules.{rules}
 use Rattle.output_steps.proofs.outputs.location_use.Goals as goal
 
 pub returns-then-kind-ne12 : goal.returns-then-kind-ne12

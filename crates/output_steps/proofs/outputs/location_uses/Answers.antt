@@ -1,8 +1,4 @@
-use mathlib.Core.Path.{◌≡◌}
-use lib.ListN.{drop}
-use Rattle.interface.specs.Inner.Reads.{varyings}
-use Rattle.output_steps.specs.Outputs.{location_uses}
-use Rattle.input_steps.proofs.VaryingLaws.{Ahead, ahead}
+use Rattle.input_steps.proofs.VaryingLaws.{ahead}
 use Rattle.output_steps.proofs.OutputLaws.{ahead_by, locations_refused, locations_onward, locations_ended}
 use borrow.Author.Rules.{rules}
 use Rattle.output_steps.proofs.outputs.location_uses.Goals as goal

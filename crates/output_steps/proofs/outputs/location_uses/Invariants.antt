@@ -2,9 +2,7 @@ use mathlib.Core.Path.{◌≡◌}
 use lib.ListN.{drop}
 use Rattle.interface.specs.Inner.Reads.{varyings}
 use Rattle.output_steps.specs.Outputs.{location_uses}
-use Rattle.input_steps.proofs.VaryingLaws.{Ahead, ahead}
-use Rattle.output_steps.proofs.OutputLaws.{ahead_by, locations_refused, locations_onward, locations_ended}
-use borrow.Author.Rules.{rules}
+use Rattle.input_steps.proofs.VaryingLaws.{Ahead}
 use Rattle.output_steps.proofs.outputs.location_uses.Given as goal
 
 abbrev pub invariant-loop-left : goal.invariant-loop-left

@@ -1,5 +1,4 @@
 use Rattle.word.proofs.Tests.{tests}
-use borrow.Author.Rules.{rules}
 use Rattle.output_steps.proofs.outputs.point_part.Goals as goal
 
 pub returns-then-topology-eq0-clause-value : goal.returns-then-topology-eq0-clause-value

@@ -2,9 +2,8 @@ use mathlib.Core.Path.{◌≡◌}
 use lib.ListN.{drop}
 use Rattle.interface.specs.Inner.Reads.{varyings}
 use Rattle.output_steps.specs.Inner.Summary.{summary_of, plus}
-use Rattle.input_steps.proofs.VaryingLaws.{Ahead, ahead}
-use Rattle.output_steps.proofs.OutputLaws.{ahead_by, Within, within_start, within_more, summary_start, summary_onward, summary_ended}
-use borrow.Author.Rules.{rules}
+use Rattle.input_steps.proofs.VaryingLaws.{Ahead}
+use Rattle.output_steps.proofs.OutputLaws.{Within}
 use Rattle.output_steps.proofs.outputs.summary.Given as goal
 
 abbrev pub invariant-loop-left : goal.invariant-loop-left

@@ -1,5 +1,4 @@
 use Rattle.output_steps.proofs.OutputLaws.{vertex_taken, vertex_clipped, vertex_location_lem, vertex_count_lem}
-use borrow.Author.Rules.{rules}
 use Rattle.output_steps.proofs.outputs.vertex_outputs.Goals as goal
 
 pub returns-then-limit-taken : goal.returns-then-limit-taken

@@ -1,5 +1,4 @@
 use Rattle.output_steps.proofs.OutputLaws.{part_locals, part_clip, part_built_in, with_local, with_built_in}
-use borrow.Author.Rules.{rules}
 use Rattle.output_steps.proofs.outputs.with_next.Goals as goal
 
 pub returns-then-kind-eq12 : goal.returns-then-kind-eq12

@@ -1,6 +1,5 @@
 use Rattle.entry_check.proofs.CheckWords.{kind_first}
 use Rattle.word.proofs.Tests.{tests}
-use borrow.Author.Rules.{rules}
 use Rattle.pack_check.proofs.check_pack.edition_well_formed.Goals as goal
 
 pub returns-then-kind-ne1 : goal.returns-then-kind-ne1

@@ -1,5 +1,5 @@
 use mathlib.Core.Path.{refl}
-use borrow.Author.Rules.{rules, counted_is}
+use borrow.Author.Rules.{counted_is}
 use Rattle.pack_check.proofs.CheckPack.{entries_stop, entries_twice, entries_go, heads_long}
 use Rattle.pack_check.proofs.check_pack.entries_next.Goals as goal
 

@@ -1,17 +1,12 @@
 use Prim.Native.Nat.{◌-◌, ◌≤◌}
-use mathlib.Core.Path.{◌≡◌, refl}
+use mathlib.Core.Path.{◌≡◌}
 use mathlib.Core.List.{◌++◌}
 use lib.ListN.{length, take, drop}
-use borrow.Author.Rules.{rules}
 use Rattle.word.specs.Parse.{several, behind, rest_at}
-use Rattle.word.proofs.Parse.{several_begins, several_more, several_stops, several_ended}
 use Rattle.interface.specs.Format.{read_entry_point}
 use Rattle.entry_check.specs.Inner.Walks.{listed, pack_resources}
 use Rattle.pack_check.specs.Inner.Records.{Headed, Stops}
 use Rattle.pack_check.specs.Inner.Positions.{over, positions}
-use Rattle.pack_check.proofs.CheckEntries.{heads_begin, heads_go, heads_end}
-use Rattle.pack_check.proofs.CheckPositions.{stops_none, stops_more, stops_all}
-use Rattle.pack_check.proofs.CheckTables.{positions_begin, positions_more, positions_stop, positions_ended}
 use Rattle.pack_check.proofs.check_pack.entry_points_next.Given as goal
 
 abbrev pub invariant-loop-i : goal.invariant-loop-i

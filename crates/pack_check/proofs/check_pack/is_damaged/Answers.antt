@@ -1,5 +1,4 @@
 use Rattle.pack_check.proofs.CheckPack.{damaged_ways}
-use borrow.Author.Rules.{rules}
 use Rattle.pack_check.proofs.check_pack.is_damaged.Goals as goal
 
 pub returns-then-n-lt16 : goal.returns-then-n-lt16

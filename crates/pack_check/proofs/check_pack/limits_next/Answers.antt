@@ -1,10 +1,5 @@
-use Prim.Native.Nat.{◌+◌, ◌-◌, ◌≤◌}
-use mathlib.Core.Path.{◌≡◌, refl}
-use lib.ListN.{length, drop}
+use mathlib.Core.Path.{refl}
 use borrow.Author.Rules.{rules}
-use Rattle.word.specs.Choice.{pick}
-use Rattle.word.specs.Parse.{one, several, behind, rest_at}
-use Rattle.interface.specs.Format.{of_word}
 use Rattle.pack_check.proofs.CheckLimits.{limits_lack, limits_begin, limits_more, limits_all, limits_none}
 use Rattle.pack_check.proofs.check_pack.limits_next.Goals as goal
 

@@ -1,11 +1,9 @@
 use Prim.Native.Nat.{◌+◌, ◌-◌, ◌≤◌}
-use mathlib.Core.Path.{◌≡◌, refl}
+use mathlib.Core.Path.{◌≡◌}
 use lib.ListN.{length, drop}
-use borrow.Author.Rules.{rules}
 use Rattle.word.specs.Choice.{pick}
 use Rattle.word.specs.Parse.{one, several, behind, rest_at}
 use Rattle.interface.specs.Format.{of_word}
-use Rattle.pack_check.proofs.CheckLimits.{limits_lack, limits_begin, limits_more, limits_all, limits_none}
 use Rattle.pack_check.proofs.check_pack.limits_next.Given as goal
 
 abbrev pub invariant-loop-i : goal.invariant-loop-i

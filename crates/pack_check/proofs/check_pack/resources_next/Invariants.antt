@@ -1,17 +1,12 @@
 use Prim.Native.Nat.{◌-◌, ◌≤◌}
-use mathlib.Core.Path.{◌≡◌, refl}
+use mathlib.Core.Path.{◌≡◌}
 use mathlib.Core.List.{◌++◌}
 use lib.ListN.{length, take, drop}
-use borrow.Author.Rules.{rules}
 use Rattle.word.specs.Parse.{several, behind, rest_at}
-use Rattle.word.proofs.Parse.{several_begins, several_more, several_stops, several_ended}
 use Rattle.bindings.specs.Format.{read_resource}
 use Rattle.entry_check.specs.Inner.Walks.{listed, pair_roles}
 use Rattle.pack_check.specs.Inner.Records.{Stops}
 use Rattle.pack_check.specs.Inner.Positions.{over, positions}
-use Rattle.pack_check.proofs.CheckRecords.{roles_begin, roles_go, roles_end}
-use Rattle.pack_check.proofs.CheckPositions.{stops_none, stops_more, stops_all}
-use Rattle.pack_check.proofs.CheckTables.{positions_begin, positions_more, positions_stop, positions_ended}
 use Rattle.pack_check.proofs.check_pack.resources_next.Given as goal
 
 abbrev pub invariant-loop-i : goal.invariant-loop-i

@@ -1,4 +1,3 @@
-use borrow.Author.Rules.{rules}
 use Rattle.pack_check.proofs.CheckLimits.{still_is, still_not}
 use Rattle.pack_check.proofs.check_pack.still_good.Goals as goal
 

@@ -1,13 +1,5 @@
 use Rattle.populate.proofs.WalkWays.{number_small}
 use Rattle.populate.proofs.CallWays.{binding_fault, words_over, element_there, binding_bad, binding_good_lem}
-use borrow.Author.Rules.{rules}
-use Rattle.populate.proofs.call.populate_bound.Reads as reads
-use Rattle.populate.proofs.call.populate_bound.Lts as lts
-use Rattle.populate.proofs.call.populate_asked.Reads as populate-asked-reads
-use Rattle.type_check.proofs.bound.binding_next.Reads as binding-next-reads
-use Rattle.type_check.proofs.clips.binding_good.Reads as binding-good-reads
-use Rattle.word.proofs.answer.Answer.refused.Reads as refused-reads
-use Rattle.word.proofs.word.Reads as word-reads
 use Rattle.populate.proofs.call.populate_bound.Goals as goal
 
 pub returns-then-end-eq0 : goal.returns-then-end-eq0

@@ -1,12 +1,4 @@
 use Rattle.populate.proofs.CallWays.{list_refused, asked_in, asked_outside, asked_inside, list_noted}
-use borrow.Author.Rules.{rules}
-use Rattle.populate.proofs.call.populate_types.Reads as reads
-use Rattle.populate.proofs.call.populate_types.Lts as lts
-use Rattle.populate.proofs.call.populate_bound.Reads as populate-bound-reads
-use Rattle.type_check.proofs.index.index_types.Reads as index-types-reads
-use Rattle.word.proofs.answer.Answer.refused.Reads as refused-reads
-use Rattle.word.proofs.content.Reads as content-reads
-use Rattle.word.proofs.word.Reads as word-reads
 use Rattle.populate.proofs.call.populate_types.Goals as goal
 
 pub returns-then-not-index_types : goal.returns-then-not-index_types

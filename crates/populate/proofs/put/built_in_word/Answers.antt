@@ -1,7 +1,4 @@
 use Rattle.populate.proofs.PutWays.{built_in_other, built_in_clip}
-use borrow.Author.Rules.{rules}
-use Rattle.populate.proofs.put.built_in_word.Reads as reads
-use Rattle.populate.proofs.put.built_in_word.Lts as lts
 use Rattle.populate.proofs.put.built_in_word.Goals as goal
 
 pub returns-then-code-lt4 : goal.returns-then-code-lt4

@@ -1,13 +1,7 @@
 use Rattle.populate.specs.Inner.Written.{again}
-use lib.ListN.{length, length-set}
+use lib.ListN.{length}
 use mathlib.Core.Path.{◌≡◌}
-use native.Mathlib.Omega.{arith}
 use Prim.Native.Nat.{◌+◌, ◌≤◌}
-use Rattle.populate.proofs.Puts.{again_on, again_done}
-use borrow.Author.Rules.{rules}
-use Rattle.populate.proofs.put.put_again.Reads as reads
-use Rattle.populate.proofs.put.put_again.Lts as lts
-
 use Rattle.populate.proofs.put.put_again.Given as goal
 
 abbrev pub invariant-loop-left : goal.invariant-loop-left

@@ -1,11 +1,4 @@
 use Rattle.populate.proofs.PutWays.{put_local, put_built_in, put_none, local_first, local_second, built_in_room}
-use borrow.Author.Rules.{rules}
-use Rattle.populate.proofs.put.put_bound.Reads as reads
-use Rattle.populate.proofs.put.put_bound.Lts as lts
-use Rattle.populate.proofs.put.built_in_word.Reads as built-in-word-reads
-use Rattle.populate.proofs.put.var_word.Reads as var-word-reads
-use Rattle.word.proofs.content.Reads as content-reads
-use Rattle.word.proofs.kind.Reads as kind-reads
 use Rattle.populate.proofs.put.put_bound.Goals as goal
 
 pub bounds-out-to : goal.bounds-out-to

@@ -1,12 +1,4 @@
 use Rattle.populate.proofs.PutWays.{numeric_room, numeric_put, array_room, array_put}
-use borrow.Author.Rules.{rules}
-use Rattle.populate.proofs.put.put_lone.Reads as reads
-use Rattle.populate.proofs.put.put_lone.Lts as lts
-use Rattle.populate.proofs.put.put_bound.Reads as put-bound-reads
-use Rattle.populate.proofs.put.put_clip.Reads as put-clip-reads
-use Rattle.word.proofs.content.Reads as content-reads
-use Rattle.word.proofs.kind.Reads as kind-reads
-use Rattle.word.proofs.word.Reads as word-reads
 use Rattle.populate.proofs.put.put_lone.Goals as goal
 
 pub put_bound-requires : goal.put_bound-requires

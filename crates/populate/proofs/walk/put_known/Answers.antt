@@ -1,13 +1,5 @@
 use Rattle.populate.proofs.WalkWays.{number_small, gives_nothing, is_written, again_before, again_room, again_put, lone_at, lone_room, lone_put}
 use borrow.Author.Rules.{rules}
-use Rattle.populate.proofs.walk.put_known.Reads as reads
-use Rattle.populate.proofs.walk.put_known.Lts as lts
-use Rattle.populate.proofs.put.put_again.Reads as put-again-reads
-use Rattle.populate.proofs.put.put_lone.Reads as put-lone-reads
-use Rattle.populate.proofs.walk.first_at.Reads as first-at-reads
-use Rattle.type_check.proofs.members.is_struct.Reads as is-struct-reads
-use Rattle.type_check.proofs.notes.note_at.Reads as note-at-reads
-use Rattle.type_check.proofs.notes.start_at.Reads as start-at-reads
 use Rattle.populate.proofs.walk.put_known.Goals as goal
 
 pub note_at-note-requires : goal.note_at-note-requires

@@ -1,5 +1,4 @@
 use Rattle.report.proofs.Naming.{word_written}
-use borrow.Author.Rules.{rules}
 use Rattle.report.proofs.names.push_word.Goals as goal
 
 pub returns-clause-wrote : goal.returns-clause-wrote

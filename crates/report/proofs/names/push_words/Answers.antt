@@ -1,8 +1,3 @@
-use Prim.Native.Nat.{◌≤◌, ◌-◌, ◌*◌}
-use mathlib.Core.Path.{◌≡◌}
-use lib.ListN.{length, take, drop}
-use Rattle.interface.specs.Format.{bytes_of}
-use Rattle.report.specs.Inner.Written.{Wrote}
 use Rattle.report.proofs.Naming.{bytes_begin, bytes_onward, bytes_ended}
 use borrow.Author.Rules.{rules}
 use Rattle.report.proofs.names.push_words.Goals as goal

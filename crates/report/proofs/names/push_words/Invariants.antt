@@ -3,8 +3,6 @@ use mathlib.Core.Path.{◌≡◌}
 use lib.ListN.{length, take, drop}
 use Rattle.interface.specs.Format.{bytes_of}
 use Rattle.report.specs.Inner.Written.{Wrote}
-use Rattle.report.proofs.Naming.{bytes_begin, bytes_onward, bytes_ended}
-use borrow.Author.Rules.{rules}
 use Rattle.report.proofs.names.push_words.Given as goal
 
 abbrev pub invariant-loop-i : goal.invariant-loop-i

@@ -1,6 +1,3 @@
-use Prim.Native.Nat.{◌≤◌, ◌-◌}
-use mathlib.Core.Path.{◌≡◌}
-use lib.ListN.{length, take}
 use Rattle.report.proofs.Running.{copy_onward, copy_ended}
 use borrow.Author.Rules.{rules}
 use Rattle.report.proofs.run.copy.Goals as goal

@@ -1,8 +1,6 @@
 use Prim.Native.Nat.{◌≤◌, ◌-◌}
 use mathlib.Core.Path.{◌≡◌}
 use lib.ListN.{length, take}
-use Rattle.report.proofs.Running.{copy_onward, copy_ended}
-use borrow.Author.Rules.{rules}
 use Rattle.report.proofs.run.copy.Given as goal
 
 abbrev pub invariant-loop-i : goal.invariant-loop-i

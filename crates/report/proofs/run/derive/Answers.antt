@@ -1,5 +1,4 @@
 use Rattle.report.proofs.Running.{derived_answer_lem, derived_layout, derived_fed}
-use borrow.Author.Rules.{rules}
 use Rattle.report.proofs.run.derive.Goals as goal
 
 pub returns-clause-value : goal.returns-clause-value

@@ -1,5 +1,4 @@
 use Rattle.word.proofs.Tests.{tests}
-use borrow.Author.Rules.{rules}
 use Rattle.report.proofs.run.feed.Goals as goal
 
 pub returns-then-number-eq0 : goal.returns-then-number-eq0

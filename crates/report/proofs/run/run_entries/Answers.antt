@@ -1,11 +1,4 @@
-use Prim.Native.Nat.{◌+◌, ◌*◌, ◌<◌, ◌≤◌}
-use mathlib.Core.Path.{◌≡◌}
-use mathlib.Core.List.{[]}
-use lib.ListN.{length, take, drop}
-use Rattle.interface.specs.Format.{decode, interface_of}
-use Rattle.interface.specs.Inner.Parts.{end_from, entry_end}
-use Rattle.interface.proofs.ReadsParts.{left_of, entries_begin, ends_begin, short_pack, ends_onward, entry_within, head_within, name_within}
-use Rattle.report.specs.Report.{ran, run_entries}
+use Rattle.interface.proofs.ReadsParts.{entries_begin, ends_begin, short_pack, ends_onward, entry_within, head_within, name_within}
 use Rattle.report.proofs.Running.{run_begin, run_onward, run_ended, behind_onward}
 use borrow.Author.Rules.{rules}
 use Rattle.report.proofs.run.run_entries.Goals as goal

@@ -1,6 +1,5 @@
 use Rattle.report.proofs.Writing.{wrote_behind}
 use Rattle.report.proofs.Running.{entry_run}
-use borrow.Author.Rules.{rules}
 use Rattle.report.proofs.run.run_entry.Goals as goal
 
 pub returns-clause-text_after : goal.returns-clause-text_after

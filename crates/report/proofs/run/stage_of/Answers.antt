@@ -1,5 +1,4 @@
 use Rattle.report.proofs.Running.{stage_read}
-use borrow.Author.Rules.{rules}
 use Rattle.report.proofs.run.stage_of.Goals as goal
 
 pub returns : goal.returns

@@ -1,5 +1,4 @@
 use Rattle.report.proofs.Writing.{wrote_byte}
-use borrow.Author.Rules.{rules}
 use Rattle.report.proofs.text.push_byte.Goals as goal
 
 pub returns-clause-wrote : goal.returns-clause-wrote

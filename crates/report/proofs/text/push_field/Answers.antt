@@ -1,5 +1,4 @@
 use Rattle.report.proofs.Writing.{wrote_more}
-use borrow.Author.Rules.{rules}
 use Rattle.report.proofs.text.push_field.Goals as goal
 
 pub returns-clause-wrote : goal.returns-clause-wrote

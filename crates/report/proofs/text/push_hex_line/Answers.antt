@@ -1,5 +1,4 @@
 use Rattle.report.proofs.Writing.{hex_written}
-use borrow.Author.Rules.{rules}
 use Rattle.report.proofs.text.push_hex_line.Goals as goal
 
 pub returns-clause-wrote : goal.returns-clause-wrote

@@ -3,8 +3,6 @@ use mathlib.Core.Path.{◌≡◌}
 use lib.ListN.{length, take}
 use Rattle.report.specs.Text.{hex_lines}
 use Rattle.report.specs.Inner.Written.{Wrote}
-use Rattle.report.proofs.Writing.{hex_begins, hex_onward, hex_ended}
-use borrow.Author.Rules.{rules}
 use Rattle.report.proofs.text.push_hex_lines.Given as goal
 
 abbrev pub invariant-loop-i : goal.invariant-loop-i

@@ -1,8 +1,3 @@
-use Prim.Native.Nat.{◌≤◌, ◌-◌, ◌*◌, ◌/◌}
-use mathlib.Core.Path.{◌≡◌}
-use lib.ListN.{length, take}
-use Rattle.report.specs.Text.{words_of}
-use Rattle.report.specs.Inner.Written.{Wrote}
 use Rattle.report.proofs.Packing.{words_begin, words_onward, words_ended}
 use borrow.Author.Rules.{rules}
 use Rattle.report.proofs.words.words_of.Goals as goal

@@ -1,7 +1,6 @@
 use Rattle.resource_steps.proofs.ResourceParts.{position_there}
 use Rattle.resource_steps.proofs.ResourceWalk.{encodable_there, place_inside, type_inside, size_inside}
 use Rattle.resource_steps.proofs.DeriveLaws.{derive_nth}
-use borrow.Author.Rules.{rules}
 use Rattle.resource_steps.proofs.derive.derive_resource.Goals as goal
 
 pub position_at-at-requires : goal.position_at-at-requires

@@ -6,9 +6,7 @@ use Rattle.layouts.specs.Format.{layout_well_formed, decode_layout}
 use Rattle.interface.specs.Format.{contents, pairs_of}
 use Rattle.resource_steps.specs.Inner.Given.{resource_table, each_below}
 use Rattle.resource_steps.specs.Resources.{derive_steps}
-use Rattle.resource_steps.proofs.ResourceWalk.{below_start, below_here, below_rest}
-use Rattle.resource_steps.proofs.DeriveLaws.{derive_behind, derive_start, derive_refused, derive_onward, derive_done}
-use borrow.Author.Rules.{rules}
+use Rattle.resource_steps.proofs.DeriveLaws.{derive_behind}
 use Rattle.resource_steps.proofs.derive.derive_steps.Given as goal
 
 abbrev pub invariant-loop-passed : goal.invariant-loop-passed

@@ -1,5 +1,4 @@
 use Rattle.word.proofs.Tests.{tests}
-use borrow.Author.Rules.{rules}
 use Rattle.resource_steps.proofs.derive.named_sampled.Goals as goal
 
 pub returns-then-w-ne2 : goal.returns-then-w-ne2

@@ -1,8 +1,3 @@
-use Prim.Native.Nat.{◌+◌, ◌≤◌}
-use mathlib.Core.Path.{◌≡◌}
-use lib.ListN.{length, take, drop}
-use Rattle.interface.specs.Format.{pairs_of}
-use Rattle.resource_steps.specs.Resources.{named_texture}
 use Rattle.resource_steps.proofs.DeriveLaws.{named_here, named_onward, named_ended}
 use borrow.Author.Rules.{rules}
 use Rattle.resource_steps.proofs.derive.named_texture.Goals as goal

@@ -1,5 +1,4 @@
 use Rattle.resource_steps.proofs.DeriveLaws.{occupied_joined, occupied_other}
-use borrow.Author.Rules.{rules}
 use Rattle.resource_steps.proofs.derive.occupied.Goals as goal
 
 pub returns-then-same_type-clause-layout_after : goal.returns-then-same_type-clause-layout_after

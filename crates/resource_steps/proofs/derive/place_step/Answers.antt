@@ -1,6 +1,5 @@
 use Rattle.resource_steps.proofs.DeriveLaws.{found_none, place_occupied, place_vacant}
 use Rattle.places.proofs.PlaceWays.{found_inside}
-use borrow.Author.Rules.{rules}
 use Rattle.resource_steps.proofs.derive.place_step.Goals as goal
 
 pub occupied-requires-clause-index_in_bounds : goal.occupied-requires-clause-index_in_bounds

@@ -1,5 +1,4 @@
 use Rattle.resource_steps.proofs.DeriveLaws.{type_differs, type_by_least}
-use borrow.Author.Rules.{rules}
 use Rattle.resource_steps.proofs.derive.same_type.Goals as goal
 
 pub returns-then-entry_type-ty : goal.returns-then-entry_type-ty

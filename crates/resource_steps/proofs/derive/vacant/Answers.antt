@@ -1,5 +1,4 @@
 use Rattle.resource_steps.proofs.DeriveLaws.{new_well_formed, new_fits, new_lacks, vacant_pushed, vacant_full, new_small}
-use borrow.Author.Rules.{rules}
 use Rattle.resource_steps.proofs.derive.vacant.Goals as goal
 
 pub push_entry-requires-clause-least_lt_size_limit : goal.push_entry-requires-clause-least_lt_size_limit

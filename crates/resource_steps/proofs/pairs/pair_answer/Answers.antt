@@ -1,6 +1,5 @@
 use Rattle.word.proofs.Tests.{tests}
 use Rattle.resource_steps.proofs.PairLaws.{pair_refused}
-use borrow.Author.Rules.{rules}
 use Rattle.resource_steps.proofs.pairs.pair_answer.Goals as goal
 
 pub returns-then-number-eq0 : goal.returns-then-number-eq0

@@ -1,5 +1,4 @@
 use Rattle.resource_steps.proofs.PairLaws.{number_filtered, number_plain, number_external, number_other}
-use borrow.Author.Rules.{rules}
 use Rattle.resource_steps.proofs.pairs.pair_number.Goals as goal
 
 pub returns-then-filtering : goal.returns-then-filtering

@@ -1,5 +1,4 @@
 use Rattle.resource_steps.proofs.PairLaws.{texture_below, sampler_below, pair_used}
-use borrow.Author.Rules.{rules}
 use Rattle.resource_steps.proofs.pairs.pair_use.Goals as goal
 
 pub place_at-requires : goal.place_at-requires

@@ -1,11 +1,3 @@
-use Prim.Native.Nat.{◌+◌, ◌≤◌}
-use mathlib.Core.Path.{◌≡◌}
-use lib.ListN.{length, take, drop}
-use mathlib.Core.Bool.{true}
-use Rattle.layouts.specs.Format.{decode_layout}
-use Rattle.interface.specs.Format.{pairs_of}
-use Rattle.resource_steps.specs.Inner.Given.{resource_table, pairs_below}
-use Rattle.resource_steps.specs.Resources.{pair_uses}
 use Rattle.resource_steps.proofs.PairLaws.{pair_below_lem, pairs_rest, pairs_refused, pairs_onward, pairs_ended}
 use borrow.Author.Rules.{rules}
 use Rattle.resource_steps.proofs.pairs.pair_uses.Goals as goal

@@ -6,8 +6,6 @@ use Rattle.layouts.specs.Format.{decode_layout}
 use Rattle.interface.specs.Format.{pairs_of}
 use Rattle.resource_steps.specs.Inner.Given.{resource_table, pairs_below}
 use Rattle.resource_steps.specs.Resources.{pair_uses}
-use Rattle.resource_steps.proofs.PairLaws.{pair_below_lem, pairs_rest, pairs_refused, pairs_onward, pairs_ended}
-use borrow.Author.Rules.{rules}
 use Rattle.resource_steps.proofs.pairs.pair_uses.Given as goal
 
 abbrev pub invariant-loop-left : goal.invariant-loop-left

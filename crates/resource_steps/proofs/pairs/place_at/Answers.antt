@@ -1,7 +1,6 @@
 use Rattle.resource_steps.proofs.ResourceParts.{position_there}
 use Rattle.resource_steps.proofs.ResourceWalk.{place_inside}
 use Rattle.resource_steps.proofs.PairLaws.{place_listed}
-use borrow.Author.Rules.{rules}
 use Rattle.resource_steps.proofs.pairs.place_at.Goals as goal
 
 pub position_at-at-requires : goal.position_at-at-requires

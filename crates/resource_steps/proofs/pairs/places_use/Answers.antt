@@ -1,5 +1,4 @@
 use Rattle.resource_steps.proofs.PairLaws.{places_used}
-use borrow.Author.Rules.{rules}
 use Rattle.resource_steps.proofs.pairs.places_use.Goals as goal
 
 pub returns : goal.returns

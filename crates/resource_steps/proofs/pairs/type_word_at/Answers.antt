@@ -1,6 +1,5 @@
 use Rattle.places.proofs.PlaceWays.{found_inside}
 use Rattle.resource_steps.proofs.PairLaws.{type_found_lem, type_none}
-use borrow.Author.Rules.{rules}
 use Rattle.resource_steps.proofs.pairs.type_word_at.Goals as goal
 
 pub entry_type-requires-clause-index_in_bounds : goal.entry_type-requires-clause-index_in_bounds

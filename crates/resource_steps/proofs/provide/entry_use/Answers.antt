@@ -1,5 +1,4 @@
 use Rattle.resource_steps.proofs.ProvideLaws.{entry_unseen, entry_seen}
-use borrow.Author.Rules.{rules}
 use Rattle.resource_steps.proofs.provide.entry_use.Goals as goal
 
 pub returns-then-not-sees : goal.returns-then-not-sees

@@ -2,7 +2,6 @@ use Rattle.resource_steps.proofs.ResourceParts.{position_there}
 use Rattle.resource_steps.proofs.ResourceWalk.{encodable_there, place_inside, type_inside, size_inside}
 use Rattle.resource_steps.proofs.NoteLaws.{notes_ended, notes_went}
 use Rattle.resource_steps.proofs.ProvideLaws.{provide_ended, provide_went}
-use borrow.Author.Rules.{rules}
 use Rattle.resource_steps.proofs.provide.provide_step.Goals as goal
 
 pub position_at-at-requires : goal.position_at-at-requires

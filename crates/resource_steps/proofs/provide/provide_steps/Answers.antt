@@ -1,16 +1,6 @@
-use Prim.Native.Nat.{◌+◌, ◌-◌, ◌≤◌}
-use mathlib.Core.Path.{◌≡◌}
-use lib.ListN.{length, take, drop}
-use mathlib.Core.Bool.{true}
-use Rattle.sizes.specs.Format.{sizes_well_formed, decode_sizes}
-use Rattle.layouts.specs.Format.{decode_layout}
-use Rattle.interface.specs.Format.{contents}
-use Rattle.resource_steps.specs.Inner.Given.{resource_table, each_below}
-use Rattle.resource_steps.specs.Inner.Notes.{provide_notes}
-use Rattle.resource_steps.specs.Resources.{provide_steps}
 use Rattle.resource_steps.proofs.ResourceWalk.{below_start, below_here, below_rest}
 use Rattle.resource_steps.proofs.NoteLaws.{notes_start, notes_refused, notes_onward, notes_done}
-use Rattle.resource_steps.proofs.ProvideLaws.{provide_behind, provide_start, provide_refused, provide_onward, provide_done}
+use Rattle.resource_steps.proofs.ProvideLaws.{provide_start, provide_refused, provide_onward, provide_done}
 use borrow.Author.Rules.{rules}
 use Rattle.resource_steps.proofs.provide.provide_steps.Goals as goal
 

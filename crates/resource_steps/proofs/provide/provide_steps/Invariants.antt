@@ -8,10 +8,7 @@ use Rattle.interface.specs.Format.{contents}
 use Rattle.resource_steps.specs.Inner.Given.{resource_table, each_below}
 use Rattle.resource_steps.specs.Inner.Notes.{provide_notes}
 use Rattle.resource_steps.specs.Resources.{provide_steps}
-use Rattle.resource_steps.proofs.ResourceWalk.{below_start, below_here, below_rest}
-use Rattle.resource_steps.proofs.NoteLaws.{notes_start, notes_refused, notes_onward, notes_done}
-use Rattle.resource_steps.proofs.ProvideLaws.{provide_behind, provide_start, provide_refused, provide_onward, provide_done}
-use borrow.Author.Rules.{rules}
+use Rattle.resource_steps.proofs.ProvideLaws.{provide_behind}
 use Rattle.resource_steps.proofs.provide.provide_steps.Given as goal
 
 abbrev pub invariant-loop-passed : goal.invariant-loop-passed

@@ -2,7 +2,6 @@ use Rattle.resource_steps.proofs.ResourceLaws.{found_few}
 use Rattle.resource_steps.proofs.NoteLaws.{note_found}
 use Rattle.resource_steps.proofs.ProvideLaws.{provided_none, provided_at}
 use Rattle.places.proofs.PlaceWays.{found_inside}
-use borrow.Author.Rules.{rules}
 use Rattle.resource_steps.proofs.provide.provided_use.Goals as goal
 
 pub note-requires : goal.note-requires

@@ -1,6 +1,5 @@
 use Rattle.resource_steps.proofs.ResourceLaws.{found_byte}
 use Rattle.resource_steps.proofs.NoteLaws.{note_stored, note_past, note_none}
-use borrow.Author.Rules.{rules}
 use Rattle.resource_steps.proofs.resources.note.Goals as goal
 
 pub overflow_cast-entries : goal.overflow_cast-entries

@@ -1,5 +1,4 @@
 use Rattle.resource_steps.proofs.ResourceLaws.{answer_there}
-use borrow.Author.Rules.{rules}
 use Rattle.resource_steps.proofs.resources.place_answer.Goals as goal
 
 pub returns : goal.returns

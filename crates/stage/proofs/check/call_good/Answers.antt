@@ -1,5 +1,4 @@
 use Rattle.stage.proofs.CheckLaws.{tests_on}
-use borrow.Author.Rules.{rules}
 use Rattle.stage.proofs.check.call_good.Goals as goal
 
 pub returns-then-lists_good : goal.returns-then-lists_good

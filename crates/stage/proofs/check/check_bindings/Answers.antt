@@ -1,5 +1,4 @@
 use Rattle.stage.proofs.CheckLaws.{bindings_refused, bindings_went}
-use borrow.Author.Rules.{rules}
 use Rattle.stage.proofs.check.check_bindings.Goals as goal
 
 pub returns-then-resources-ne0-clause-sizes_after : goal.returns-then-resources-ne0-clause-sizes_after

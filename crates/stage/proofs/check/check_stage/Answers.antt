@@ -1,5 +1,4 @@
 use Rattle.stage.proofs.RunLaws.{stage_pack}
-use borrow.Author.Rules.{rules}
 use Rattle.stage.proofs.check.check_stage.Goals as goal
 
 pub returns-then-refusal-ne0 : goal.returns-then-refusal-ne0

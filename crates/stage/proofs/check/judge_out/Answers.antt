@@ -1,5 +1,4 @@
 use Rattle.stage.proofs.JudgeLaws.{judged_is, judged_none, judged_out}
-use borrow.Author.Rules.{rules}
 use Rattle.stage.proofs.check.judge_out.Goals as goal
 
 pub returns-then-answer-ne0-clause-value : goal.returns-then-answer-ne0-clause-value

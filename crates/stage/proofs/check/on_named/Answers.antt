@@ -1,5 +1,4 @@
 use Rattle.stage.proofs.CheckLaws.{chosen_below, chosen_at, chosen_absent, chosen_several}
-use borrow.Author.Rules.{rules}
 use Rattle.stage.proofs.check.on_named.Goals as goal
 
 pub on_entry_point-requires-clause-position_in_bounds : goal.on_entry_point-requires-clause-position_in_bounds

@@ -1,5 +1,4 @@
 use Rattle.stage.proofs.CheckLaws.{request_read}
-use borrow.Author.Rules.{rules}
 use Rattle.stage.proofs.check.request_of.Goals as goal
 
 pub returns : goal.returns

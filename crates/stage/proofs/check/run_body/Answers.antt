@@ -1,6 +1,5 @@
 use Rattle.stage.proofs.CheckLaws.{table_outputs}
 use Rattle.stage.proofs.RunLaws.{body_refused, body_went}
-use borrow.Author.Rules.{rules}
 use Rattle.stage.proofs.check.run_body.Goals as goal
 
 pub returns-then-bindings-ne0 : goal.returns-then-bindings-ne0

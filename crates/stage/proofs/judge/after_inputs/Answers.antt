@@ -1,5 +1,4 @@
 use Rattle.stage.proofs.JudgeLaws.{behind_refused, behind_went}
-use borrow.Author.Rules.{rules}
 use Rattle.stage.proofs.judge.after_inputs.Goals as goal
 
 pub returns-then-slots-ne0 : goal.returns-then-slots-ne0

@@ -1,5 +1,4 @@
 use Rattle.stage.proofs.JudgeLaws.{judged_size, judged_rest}
-use borrow.Author.Rules.{rules}
 use Rattle.stage.proofs.judge.judge.Goals as goal
 
 pub returns-then-size-ne0 : goal.returns-then-size-ne0

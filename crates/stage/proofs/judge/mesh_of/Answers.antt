@@ -1,5 +1,4 @@
 use Rattle.stage.proofs.JudgeLaws.{mesh_absent, mesh_there}
-use borrow.Author.Rules.{rules}
 use Rattle.stage.proofs.judge.mesh_of.Goals as goal
 
 pub returns-then-pack-head-ne1 : goal.returns-then-pack-head-ne1

@@ -1,5 +1,4 @@
 use Rattle.stage.proofs.JudgeLaws.{pairs_derived, pairs_given, pairs_provided}
-use borrow.Author.Rules.{rules}
 use Rattle.stage.proofs.judge.pair_step.Goals as goal
 
 pub returns-then-derived : goal.returns-then-derived

@@ -1,5 +1,4 @@
 use Rattle.stage.proofs.JudgeLaws.{payload_there}
-use borrow.Author.Rules.{rules}
 use Rattle.stage.proofs.judge.payload_of.Goals as goal
 
 pub returns : goal.returns

@@ -1,5 +1,4 @@
 use Rattle.stage.proofs.JudgeLaws.{size_read}
-use borrow.Author.Rules.{rules}
 use Rattle.stage.proofs.judge.size_step.Goals as goal
 
 pub returns : goal.returns

@@ -1,5 +1,4 @@
 use Rattle.stage.proofs.JudgeLaws.{workgroup_there}
-use borrow.Author.Rules.{rules}
 use Rattle.stage.proofs.judge.workgroup_of.Goals as goal
 
 pub returns : goal.returns

@@ -1,11 +1,4 @@
 use Rattle.type_check.proofs.Bindings.{local_bad, local_good, local_in, built_in_good, built_in_in, none_good, none_in, neither_good}
-use borrow.Author.Rules.{rules}
-use Rattle.type_check.proofs.bound.binding_next.Reads as reads
-use Rattle.type_check.proofs.bound.binding_next.Lts as lts
-use Rattle.type_check.proofs.bound.bound_well_formed.Reads as bound-well-formed-reads
-use Rattle.type_check.proofs.bound.built_in_bound.Reads as built-in-bound-reads
-use Rattle.varying.proofs.location_well_formed.Reads as location-well-formed-reads
-use Rattle.word.proofs.word.Reads as word-reads
 use Rattle.type_check.proofs.bound.binding_next.Goals as goal
 
 pub returns-then-not-bound_well_formed-clause-result_value : goal.returns-then-not-bound_well_formed-clause-result_value

@@ -1,9 +1,5 @@
 use Rattle.word.proofs.Tests.{tests}
 use Rattle.type_check.proofs.Words.{bound_kind, bound_last}
-use borrow.Author.Rules.{rules}
-use Rattle.type_check.proofs.bound.bound_well_formed.Reads as reads
-use Rattle.type_check.proofs.bound.bound_well_formed.Lts as lts
-use Rattle.word.proofs.kind.Reads as kind-reads
 use Rattle.type_check.proofs.bound.bound_well_formed.Goals as goal
 
 pub returns-then-kind-ne13 : goal.returns-then-kind-ne13

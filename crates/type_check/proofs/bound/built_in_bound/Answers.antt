@@ -1,9 +1,5 @@
 use Rattle.word.proofs.Tests.{tests}
 use Rattle.type_check.proofs.Words.{built_in_kind}
-use borrow.Author.Rules.{rules}
-use Rattle.type_check.proofs.bound.built_in_bound.Reads as reads
-use Rattle.type_check.proofs.bound.built_in_bound.Lts as lts
-use Rattle.word.proofs.kind.Reads as kind-reads
 use Rattle.type_check.proofs.bound.built_in_bound.Goals as goal
 
 pub returns-then-kind-ne14 : goal.returns-then-kind-ne14

@@ -1,10 +1,5 @@
 use Rattle.type_check.proofs.ClipWays.{good_plain, start_below, good_clip}
 use borrow.Author.Rules.{rules}
-use Rattle.type_check.proofs.clips.binding_good.Reads as reads
-use Rattle.type_check.proofs.clips.binding_good.Lts as lts
-use Rattle.type_check.proofs.clips.clip_good.Reads as clip-good-reads
-use Rattle.type_check.proofs.clips.is_clip.Reads as is-clip-reads
-use Rattle.type_check.proofs.notes.start_at.Reads as start-at-reads
 use Rattle.type_check.proofs.clips.binding_good.Goals as goal
 
 pub returns-then-not-is_clip : goal.returns-then-not-is_clip

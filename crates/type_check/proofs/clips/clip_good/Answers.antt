@@ -1,12 +1,4 @@
 use Rattle.type_check.proofs.ClipWays.{clip_22, clip_24, clip_empty, clip_long, element_below, clip_element}
-use borrow.Author.Rules.{rules}
-use Rattle.type_check.proofs.clips.clip_good.Reads as reads
-use Rattle.type_check.proofs.clips.clip_good.Lts as lts
-use Rattle.type_check.proofs.clips.is_f32.Reads as is-f32-reads
-use Rattle.type_check.proofs.notes.start_at.Reads as start-at-reads
-use Rattle.word.proofs.content.Reads as content-reads
-use Rattle.word.proofs.kind.Reads as kind-reads
-use Rattle.word.proofs.word.Reads as word-reads
 use Rattle.type_check.proofs.clips.clip_good.Goals as goal
 
 pub returns-then-kind-eq22 : goal.returns-then-kind-eq22

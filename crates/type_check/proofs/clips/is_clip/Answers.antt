@@ -1,9 +1,5 @@
 use Rattle.word.proofs.Tests.{tests}
 use Rattle.type_check.proofs.Words.{clip_kind}
-use borrow.Author.Rules.{rules}
-use Rattle.type_check.proofs.clips.is_clip.Reads as reads
-use Rattle.type_check.proofs.clips.is_clip.Lts as lts
-use Rattle.word.proofs.kind.Reads as kind-reads
 use Rattle.type_check.proofs.clips.is_clip.Goals as goal
 
 pub returns-then-kind-ne14 : goal.returns-then-kind-ne14

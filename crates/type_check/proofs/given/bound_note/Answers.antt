@@ -1,8 +1,4 @@
 use Rattle.type_check.proofs.Words.{bound_notes}
-use borrow.Author.Rules.{rules}
-use Rattle.type_check.proofs.given.bound_note.Reads as reads
-use Rattle.type_check.proofs.given.bound_note.Lts as lts
-use Rattle.word.proofs.kind.Reads as kind-reads
 use Rattle.type_check.proofs.given.bound_note.Goals as goal
 
 pub returns-then-kind-eq12 : goal.returns-then-kind-eq12

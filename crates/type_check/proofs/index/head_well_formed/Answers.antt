@@ -1,10 +1,5 @@
 use Rattle.word.proofs.Tests.{tests}
 use Rattle.type_check.proofs.Words.{head_kind}
-use borrow.Author.Rules.{rules}
-use Rattle.type_check.proofs.index.head_well_formed.Reads as reads
-use Rattle.type_check.proofs.index.head_well_formed.Lts as lts
-use Rattle.numeric.proofs.type_words.type_well_formed.Reads as type-well-formed-reads
-use Rattle.word.proofs.kind.Reads as kind-reads
 use Rattle.type_check.proofs.index.head_well_formed.Goals as goal
 
 pub returns-then-w-eq0 : goal.returns-then-w-eq0

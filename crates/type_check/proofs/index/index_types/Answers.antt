@@ -1,12 +1,6 @@
 use mathlib.Core.Bool.{false≢true}
 use Rattle.type_check.proofs.ListWays.{list_long, list_uncounted, list_some, list_few, list_fault, list_good, list_noted, list_count}
 use borrow.Author.Rules.{rules}
-use Rattle.type_check.proofs.index.index_types.Reads as reads
-use Rattle.type_check.proofs.index.index_types.Lts as lts
-use Rattle.type_check.proofs.index.count_well_formed.Reads as count-well-formed-reads
-use Rattle.type_check.proofs.index.types_read.Reads as types-read-reads
-use Rattle.word.proofs.content.Reads as content-reads
-use Rattle.word.proofs.word.Reads as word-reads
 use Rattle.type_check.proofs.index.index_types.Goals as goal
 
 pub returns-then-types-gt1024-clause-value : goal.returns-then-types-gt1024-clause-value

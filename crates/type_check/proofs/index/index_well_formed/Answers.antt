@@ -1,9 +1,4 @@
 use Rattle.type_check.proofs.Words.{index_other, index_five}
-use borrow.Author.Rules.{rules}
-use Rattle.type_check.proofs.index.index_well_formed.Reads as reads
-use Rattle.type_check.proofs.index.index_well_formed.Lts as lts
-use Rattle.word.proofs.content.Reads as content-reads
-use Rattle.word.proofs.kind.Reads as kind-reads
 use Rattle.type_check.proofs.index.index_well_formed.Goals as goal
 
 pub returns-then-kind-ne5 : goal.returns-then-kind-ne5

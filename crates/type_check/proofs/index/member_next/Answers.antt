@@ -1,12 +1,4 @@
 use Rattle.type_check.proofs.MemberWays.{member_unnamed, member_within, member_unbound, named_small, named_element, member_bad, member_good}
-use borrow.Author.Rules.{rules}
-use Rattle.type_check.proofs.index.member_next.Reads as reads
-use Rattle.type_check.proofs.index.member_next.Lts as lts
-use Rattle.type_check.proofs.bound.binding_next.Reads as binding-next-reads
-use Rattle.type_check.proofs.clips.binding_good.Reads as binding-good-reads
-use Rattle.type_check.proofs.index.index_well_formed.Reads as index-well-formed-reads
-use Rattle.word.proofs.content.Reads as content-reads
-use Rattle.word.proofs.word.Reads as word-reads
 use Rattle.type_check.proofs.index.member_next.Goals as goal
 
 pub returns-then-not-index_well_formed-clause-result_value : goal.returns-then-not-index_well_formed-clause-result_value

@@ -1,12 +1,5 @@
 use Rattle.type_check.proofs.MemberWays.{member_stops, member_small, member_went, member_depth, member_count, member_words_lem, none_depth, none_count, none_words}
 use borrow.Author.Rules.{rules}
-use Rattle.type_check.proofs.index.member_read.Reads as reads
-use Rattle.type_check.proofs.index.member_read.Lts as lts
-use Rattle.type_check.proofs.given.given_note.Reads as given-note-reads
-use Rattle.type_check.proofs.index.member_next.Reads as member-next-reads
-use Rattle.type_check.proofs.index.nowhere.Reads as nowhere-reads
-use Rattle.type_check.proofs.members.member_type.Reads as member-type-reads
-use Rattle.word.proofs.word.Reads as word-reads
 use Rattle.type_check.proofs.index.member_read.Goals as goal
 
 pub returns-then-next-eq0-clause-result_value : goal.returns-then-next-eq0-clause-result_value

@@ -1,20 +1,6 @@
-use Rattle.type_check.specs.Inner.Notes.{members_reached, onward}
-use Rattle.type_check.specs.Inner.Positions.{earlier_of}
-use Rattle.type_lists.specs.Format.{read_member}
-use Rattle.word.specs.Parse.{several}
-use lib.ListN.{length, drop}
-use mathlib.Core.Path.{◌≡◌}
-use Prim.Native.Nat.{◌≤◌}
 use Rattle.type_check.proofs.Noting.{both_depth, both_count, both_words}
 use Rattle.type_check.proofs.MemberWays.{members_begin, members_stop, members_on, members_done, none_depth, none_count, none_words}
 use borrow.Author.Rules.{rules}
-use Rattle.type_check.proofs.index.members_read.Reads as reads
-use Rattle.type_check.proofs.index.members_read.Lts as lts
-use Rattle.type_check.proofs.index.member_read.Reads as member-read-reads
-use Rattle.type_check.proofs.index.nowhere.Reads as nowhere-reads
-use Rattle.type_check.proofs.notes.joined.Reads as joined-reads
-use Rattle.type_check.proofs.notes.none.Reads as none_reads
-
 use Rattle.type_check.proofs.index.members_read.Goals as goal
 
 pub loop-left-init : goal.loop-left-init

@@ -1,9 +1,5 @@
 use Rattle.type_check.proofs.TypeWays.{struct_went, deeper_few, deeper_count, deeper_words}
 use borrow.Author.Rules.{rules}
-use Rattle.type_check.proofs.index.struct_read.Reads as reads
-use Rattle.type_check.proofs.index.struct_read.Lts as lts
-use Rattle.type_check.proofs.index.members_read.Reads as members-read-reads
-use Rattle.type_check.proofs.notes.deeper.Reads as deeper-reads
 use Rattle.type_check.proofs.index.struct_read.Goals as goal
 
 pub returns-clause-result_value : goal.returns-clause-result_value

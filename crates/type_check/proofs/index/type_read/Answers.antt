@@ -1,15 +1,6 @@
 use Rattle.type_check.proofs.MemberWays.{none_depth, none_count, none_words}
 use Rattle.type_check.proofs.TypeWays.{type_malformed, type_within, type_next, type_numeric, lone_depth, lone_count, lone_words, element_noted, element_depth, array_malformed, array_next, array_well_formed, type_struct}
 use borrow.Author.Rules.{rules}
-use Rattle.type_check.proofs.index.type_read.Reads as reads
-use Rattle.type_check.proofs.index.type_read.Lts as lts
-use Rattle.type_check.proofs.index.head_well_formed.Reads as head-well-formed-reads
-use Rattle.type_check.proofs.index.lone_read.Reads as lone-read-reads
-use Rattle.type_check.proofs.index.nowhere.Reads as nowhere-reads
-use Rattle.type_check.proofs.index.struct_read.Reads as struct-read-reads
-use Rattle.type_check.proofs.notes.note_at.Reads as note-at-reads
-use Rattle.word.proofs.kind.Reads as kind-reads
-use Rattle.word.proofs.word.Reads as word-reads
 use Rattle.type_check.proofs.index.type_read.Goals as goal
 
 pub returns-then-not-head_well_formed-clause-result_value : goal.returns-then-not-head_well_formed-clause-result_value

@@ -1,19 +1,8 @@
-use Rattle.type_check.specs.Inner.Notes.{Noted}
-use Rattle.type_check.specs.Inner.Positions.{earlier_of}
-use Rattle.type_lists.specs.Format.{read_types}
-use Rattle.word.specs.Parse.{behind, rest_at}
-use lib.ListN.{length, drop, length-set}
-use mathlib.Core.List.{[]}
-use mathlib.Core.Path.{◌≡◌, refl}
+use lib.ListN.{length-set}
+use mathlib.Core.Path.{refl}
 use native.Mathlib.Omega.{arith}
-use Prim.Native.Nat.{◌≤◌, ◌-◌}
 use Rattle.type_check.proofs.ListWays.{types_begin, noted_none, earlier_length, types_stop, type_inside, types_on, noted_on, types_done, noted_all}
 use borrow.Author.Rules.{rules}
-use Rattle.type_check.proofs.index.types_read.Reads as reads
-use Rattle.type_check.proofs.index.types_read.Lts as lts
-use Rattle.type_check.proofs.index.type_read.Reads as type-read-reads
-use Rattle.type_check.proofs.notes.note_word.Reads as note-word-reads
-
 use Rattle.type_check.proofs.index.types_read.Goals as goal
 
 pub loop-i-init : goal.loop-i-init

@@ -1,5 +1,4 @@
 use Rattle.word.proofs.Tests.{tests}
-use borrow.Author.Rules.{rules}
 use Rattle.word_rules.proofs.derives.access_bits.Goals as goal
 
 pub returns-then-access-eq1-clause-value : goal.returns-then-access-eq1-clause-value

@@ -1,5 +1,4 @@
 use Rattle.word_rules.proofs.DeriveLaws.{word_buffer, word_sampler, word_sampled, word_depth, word_storage, word_external, word_acceleration}
-use borrow.Author.Rules.{rules}
 use Rattle.word_rules.proofs.derives.derived_word.Goals as goal
 
 pub returns-then-code-eq0 : goal.returns-then-code-eq0

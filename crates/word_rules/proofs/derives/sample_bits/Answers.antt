@@ -1,5 +1,4 @@
 use Rattle.word.proofs.Tests.{tests}
-use borrow.Author.Rules.{rules}
 use Rattle.word_rules.proofs.derives.sample_bits.Goals as goal
 
 pub returns-then-named-clause-value : goal.returns-then-named-clause-value

@@ -1,6 +1,5 @@
 use Rattle.word_rules.proofs.DeriveLaws.{view_square, view_solid}
 use Rattle.word.proofs.Tests.{tests}
-use borrow.Author.Rules.{rules}
 use Rattle.word_rules.proofs.derives.view_bits.Goals as goal
 
 pub returns-then-dim-eq0-clause-value : goal.returns-then-dim-eq0-clause-value

@@ -1,5 +1,4 @@
 use Rattle.word_rules.proofs.TextureLaws.{external_number, external_view}
-use borrow.Author.Rules.{rules}
 use Rattle.word_rules.proofs.textures.external_number.Goals as goal
 
 pub returns-then-view_fits : goal.returns-then-view_fits

@@ -1,5 +1,4 @@
 use Rattle.word_rules.proofs.TextureLaws.{storage_view, storage_format, storage_number, storage_class}
-use borrow.Author.Rules.{rules}
 use Rattle.word_rules.proofs.textures.storage_number.Goals as goal
 
 pub returns-then-not-view_fits : goal.returns-then-not-view_fits

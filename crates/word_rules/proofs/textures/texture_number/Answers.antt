@@ -1,5 +1,4 @@
 use Rattle.word_rules.proofs.TextureLaws.{on_other}
-use borrow.Author.Rules.{rules}
 use Rattle.word_rules.proofs.textures.texture_number.Goals as goal
 
 pub returns : goal.returns

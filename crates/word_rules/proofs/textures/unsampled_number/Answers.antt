@@ -1,5 +1,4 @@
 use Rattle.word_rules.proofs.TextureLaws.{unsampled_other, unsampled_class, unsampled_view}
-use borrow.Author.Rules.{rules}
 use Rattle.word_rules.proofs.textures.unsampled_number.Goals as goal
 
 pub returns-then-w-ge6 : goal.returns-then-w-ge6

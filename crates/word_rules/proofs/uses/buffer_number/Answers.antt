@@ -1,6 +1,5 @@
 use Rattle.word_rules.proofs.UseLaws.{buffer_other, buffer_spaces}
 use Rattle.word.proofs.Tests.{tests}
-use borrow.Author.Rules.{rules}
 use Rattle.word_rules.proofs.uses.buffer_number.Goals as goal
 
 pub returns-then-entry-ne0 : goal.returns-then-entry-ne0

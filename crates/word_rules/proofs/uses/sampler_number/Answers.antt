@@ -1,6 +1,5 @@
 use Rattle.word_rules.proofs.UseLaws.{sampler_other, sampler_number}
 use Rattle.word.proofs.Tests.{tests}
-use borrow.Author.Rules.{rules}
 use Rattle.word_rules.proofs.uses.sampler_number.Goals as goal
 
 pub returns-then-entry-ne1 : goal.returns-then-entry-ne1

@@ -1,5 +1,4 @@
 use Rattle.word_rules.proofs.UseLaws.{words_buffer, words_sampler, words_texture, words_acceleration}
-use borrow.Author.Rules.{rules}
 use Rattle.word_rules.proofs.uses.words_use.Goals as goal
 
 pub returns-then-code-eq0 : goal.returns-then-code-eq0
