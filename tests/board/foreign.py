@@ -23,6 +23,8 @@ NO_FORM = 'has no known form'
 VARIABLE = r'(?m)^  (?P<v>%r\d+) = alloca i64, align 8\n'
 NUMBER = r'(?m)^  (?P<v>%r\d+) = load i64, ptr %r\d+, align 8.*\n'
 CELL = r'(?m)^  store ptr %\w+, ptr (?P<v>%r\d+), align 8\n'
+# a variable with such a cell, which is cleared behind that line
+BEGUN = r'(?m)^  (?P<v>%r\d+) = alloca \[16 x i8\], align 8\n(?=  call void @llvm.memset.*\n  store ptr )'
 
 # what is planted, behind which line, the planted lines, and what is to be said of them
 PLANTED = [
@@ -31,6 +33,8 @@ PLANTED = [
     ('pointers compared', VARIABLE, '  %x = icmp ult ptr {v}, {v}', NO_FORM),
     ('a pointer chosen', VARIABLE, '  %x = select i1 true, ptr {v}, ptr {v}', NO_FORM),
     ('a null pointer', VARIABLE, '  store ptr null, ptr {v}, align 8', NO_FORM),
+    ('a pointer of the code compared with null', VARIABLE, '  %x = icmp eq ptr {v}, null', 'a pointer of the code itself compared with null'),
+    ('a pointer with a number beside it', VARIABLE, '  %x = load {{ ptr, i64 }}, ptr {v}, align 8', NO_FORM),
     ('a record with a layout', VARIABLE, '  %x = alloca {{ ptr, i64 }}, align 8', NO_FORM),
     ('an offset by a type', VARIABLE, '  %x = getelementptr ptr, ptr {v}, i64 1', NO_FORM),
     ('a vector', NUMBER, '  %x = add <2 x i32> zeroinitializer, zeroinitializer', NO_FORM),
@@ -47,8 +51,11 @@ PLANTED = [
     ('a call of what is not there', VARIABLE, '  call void @"nowhere"()', 'is called and not defined'),
     ('a pointer read as a number', CELL, '  %x = load i64, ptr {v}, align 8', 'a number in the cell of a pointer'),
     ('half of a pointer read', CELL, '  %h = getelementptr i8, ptr {v}, i64 4\n  %x = load i32, ptr %h, align 4', 'a number in the cell of a pointer'),
+    ('a pointer read as two numbers', CELL, '  %x = load {{ i8, i64 }}, ptr {v}, align 8', 'a number in the cell of a pointer'),
     ('a pointer overwritten', CELL, '  store i8 0, ptr {v}, align 1', 'a number in the cell of a pointer'),
     ('a pointer cleared', CELL, '  call void @llvm.memset.p0.i64(ptr {v}, i8 0, i64 8, i1 false)', 'bytes filled in the cell of a pointer'),
+    ('a part of a variable cleared', BEGUN, '  call void @llvm.memset.p0.i64(ptr {v}, i8 0, i64 12, i1 false)', 'bytes filled in the cell of a pointer'),
+    ('a variable filled with ones', BEGUN, '  call void @llvm.memset.p0.i64(ptr {v}, i8 1, i64 16, i1 false)', 'bytes filled in the cell of a pointer'),
     ('a part of a pointer copied', CELL, '  %x = alloca [8 x i8], align 8\n  call void @llvm.memmove.p0.p0.i64(ptr %x, ptr {v}, i64 4, i1 false)',
      'a part of a pointer copied'),
     ('numbers copied over a pointer', CELL, '  %x = alloca [8 x i8], align 8\n  call void @llvm.memmove.p0.p0.i64(ptr {v}, ptr %x, i64 8, i1 false)',
@@ -85,6 +92,7 @@ def foreign_lines(module):
     for name, where, lines, wanted in PLANTED:
         yield name, refused(*run('retarget.py', retarget, planted(module, where, lines)), wanted)
     yield 'pointers of 64 bits', refused(*run('retarget.py', [HEADER, LAYOUT.replace('-p:32:32', ''), 'x'], module), 'pointers of 32 bits')
+    yield 'pairs laid out otherwise', refused(*run('retarget.py', [HEADER, LAYOUT.replace('-i64:64', '-i64:32'), 'x'], module), 'at multiples of 8')
 
 
 def recursions(module, folder):

@@ -1,9 +1,10 @@
 """The LLVM module that the toolchain makes of the library, read from its text.
 
 Every line must have one of the forms below. They are those whose meaning is the same whatever the width of a pointer: numbers
-of a stated width, memory reached by a pointer and an offset in bytes, branches, calls by name. A line of another form ends the
-reading: a pointer that becomes a number or is compared, a type with a layout of LLVM's own, a vector, an atomic access, a
-global, and any attribute or intrinsic that is not named here."""
+of a stated width and pairs of them, memory reached by a pointer and an offset in bytes, branches, calls by name, and whether a
+pointer is null. A line of another form ends the reading: a pointer that becomes a number or is compared with another, a type with
+a layout of LLVM's own that has a pointer, a vector, an atomic access, a global, and any attribute or intrinsic that is not named
+here."""
 import collections
 import re
 import sys
@@ -14,8 +15,11 @@ TYPE = rf'(?:{NUMBER}|ptr)'
 LITERAL = r'(?:-?\d+(?:\.\d+e[+-]\d+)?|0x[0-9A-F]+|true|false)'
 OPERAND = rf'(?:{VALUE}|{LITERAL})'
 TYPED = rf'(?:ptr {VALUE}|{NUMBER} {OPERAND})'
+# two numbers that a function returns: on both processors each lies at a multiple of its own width
+PAIR = r'\{ (?:i8|i16|i32|i64|float|double), (?:i8|i16|i32|i64|float|double) \}'
+RESULT = rf'(?:void|{NUMBER}|{PAIR})'
 NAME = r'(?:"[\w:.<>, &]+"|bokwingi_\w+)'
-PARAMETER = rf'{TYPE} noundef (?:zeroext |signext )?{VALUE}'
+PARAMETER = rf'{TYPE} (?:noundef )?(?:zeroext |signext )?{VALUE}'
 ARGUMENT = rf'(?:ptr|{NUMBER}) (?:noundef )?(?:zeroext |signext )?{OPERAND}'
 COMPARISON = r'(?:icmp (?:eq|ne|[us](?:lt|le|gt|ge))|fcmp (?:o|u)(?:eq|ne|lt|le|gt|ge))'
 ARITHMETIC = (r'(?:(?:add|sub|mul|shl)(?: nuw)?(?: nsw)?|(?:udiv|sdiv|lshr|ashr)(?: exact)?|urem|srem|and|or(?: disjoint)?|xor|'
@@ -25,7 +29,7 @@ CONVERSION = r'(?:zext(?: nneg)?|sext|trunc(?: nuw)?(?: nsw)?|bitcast|fpext|fptr
 # the attributes of functions: those that hold on any processor, and those of x86-64, which are left out for the board
 ANYWHERE = ['nounwind', 'nocallback', 'nofree', 'willreturn', 'noreturn', 'cold', 'memory(argmem: readwrite)', 'memory(argmem: write)',
             'memory(inaccessiblemem: write)']
-OF_X86_64 = ['"probe-stack"="inline-asm"', '"target-cpu"="x86-64"']
+OF_X86_64 = ['"probe-stack"="inline-asm"', '"stack-probe-size"="3072"', '"target-cpu"="x86-64"']
 ATTRIBUTE = '(?:%s)' % '|'.join(map(re.escape, ANYWHERE + OF_X86_64))
 
 FORMS = {
@@ -34,28 +38,31 @@ FORMS = {
     'source': r'source_filename = "\w+"',
     'layout': r'target datalayout = "(?P<layout>[\w:-]+)"',
     'triple': r'target triple = "(?P<triple>[\w-]+)"',
-    'head': rf'define (?P<internal>internal )?(?:noundef )?(?:zeroext |signext )?(?P<result>void|{NUMBER}) @(?P<name>{NAME})'
+    'head': rf'define (?P<internal>internal )?(?:noundef )?(?:zeroext |signext )?(?P<result>{RESULT}) @(?P<name>{NAME})'
             rf'\((?P<parameters>(?:{PARAMETER}(?:, {PARAMETER})*)?)\) #\d+ {{',
     'end': r'}',
     'label': r'(?P<label>[\w.]+):(?: +; preds = .*)?',
-    'alloca': rf'  (?P<to>{VALUE}) = alloca (?:{TYPE}|\[\d+ x i8\]), align [1248]',
+    'alloca': rf'  (?P<to>{VALUE}) = alloca (?:{TYPE}|\[(?P<bytes>\d+) x i8\]), align [1248]',
     'load': rf'  (?P<to>{VALUE}) = load (?P<type>{TYPE}), ptr (?P<at>{VALUE}), align [1248](?:, !range !\d+)?(?:, !noundef !\d+)?',
+    'load pair': rf'  {VALUE} = load (?P<type>{PAIR}), ptr (?P<at>{VALUE}), align [1248]',
+    'of pair': rf'  {VALUE} = extractvalue {PAIR} {VALUE}, [01]',
     'store': rf'  store (?P<value>{TYPED}), ptr (?P<at>{VALUE}), align [1248]',
     'offset': rf'  (?P<to>{VALUE}) = getelementptr (?:inbounds )?(?:nuw )?i8, ptr (?P<base>{VALUE}), i64 (?P<by>{OPERAND})',
     'compute': rf'  {VALUE} = {ARITHMETIC} {NUMBER} {OPERAND}, {OPERAND}',
     'negate': rf'  {VALUE} = fneg {NUMBER} {OPERAND}',
     'compare': rf'  {VALUE} = {COMPARISON} {NUMBER} {OPERAND}, {OPERAND}',
+    'null test': rf'  {VALUE} = icmp eq ptr (?P<at>{VALUE}), null',
     'convert': rf'  {VALUE} = {CONVERSION} {NUMBER} {OPERAND} to {NUMBER}',
     'jump': rf'  br label {VALUE}',
     'branch': rf'  br i1 {OPERAND}, label {VALUE}, label {VALUE}',
     'switch': rf'  switch i(?:8|16|32|64) {OPERAND}, label {VALUE} \[',
     'case': rf'    i(?:8|16|32|64) -?\d+, label {VALUE}',
     'cases end': r'  \]',
-    'return': rf'  ret (?:void|{NUMBER} {OPERAND})',
+    'return': rf'  ret (?:void|{NUMBER} {OPERAND}|{PAIR} {VALUE})',
     'unreachable': r'  unreachable',
-    'call': rf'  (?:{VALUE} = )?call (?:zeroext |signext )?(?:void|{NUMBER}) @(?P<name>{NAME})\((?P<arguments>(?:{ARGUMENT}(?:, {ARGUMENT})*)?)\)',
+    'call': rf'  (?:{VALUE} = )?call (?:zeroext |signext )?{RESULT} @(?P<name>{NAME})\((?P<arguments>(?:{ARGUMENT}(?:, {ARGUMENT})*)?)\)',
     'move': rf'  call void @llvm\.mem(?:move|cpy)\.p0\.p0\.i64\(ptr (?P<to>{VALUE}), ptr (?P<base>{VALUE}), i64 (?P<length>\d+), i1 false\)',
-    'fill': rf'  call void @llvm\.memset\.p0\.i64\(ptr (?P<at>{VALUE}), i8 \d+, i64 (?P<length>\d+), i1 false\)',
+    'fill': rf'  call void @llvm\.memset\.p0\.i64\(ptr (?P<at>{VALUE}), i8 (?P<byte>\d+), i64 (?P<length>\d+), i1 false\)',
     'trap': r'  call void @llvm\.trap\(\)',
     'intrinsic': r'declare void @llvm\.(?:mem(?:move|cpy)\.p0\.p0\.i64|memset\.p0\.i64|trap)\([^%@]*\) #\d+',
     'attributes': rf'attributes #\d+ = {{ (?P<attributes>{ATTRIBUTE}(?: {ATTRIBUTE})*) }}',
@@ -106,6 +113,23 @@ def functions(lines):
             found[name] = Function(name, not line.fields['internal'], parameters(line), body)
         elif body is not None:
             body.append(line)
+    return found
+
+
+def cleared(function):
+    """The lines that fill a whole variable with zeros before anything else names it: in the first block, which runs once a call."""
+    sizes, named, found = {}, set(), set()
+    for at, line in enumerate(function.body):
+        if line.form == 'label' and at > 0:
+            break
+        if line.form == 'alloca':
+            sizes[line.fields['to']] = line.fields['bytes']
+            continue
+        if line.form == 'fill' and line.fields['byte'] == '0':
+            to = line.fields['at']
+            if to not in named and sizes.get(to) == line.fields['length']:
+                found.add(line.number)
+        named.update(re.findall(VALUE, line.text))
     return found
 
 

@@ -1,7 +1,8 @@
 """Whether a module keeps pointers and numbers apart in memory.
 
 The code reserves 8 bytes for a pointer, a cell, of which the board fills 4. So no byte of a cell may be read, written or copied
-but as the whole pointer, and a pointer may be read only from a cell that holds one. What a pointer may point to is worked out for
+but as the whole pointer, and a pointer may be read only from a cell that holds one. A variable may be filled with zeros, whole, before
+anything else is done with it: a cell then holds the null pointer, whatever the width. What a pointer may point to is worked out for
 all functions together: objects are the variables of functions and the buffers that callers lend, and neither the order of
 instructions nor the callers of a function are told apart. So a finding need not be a fault; where there is
 none there is no fault."""
@@ -11,8 +12,15 @@ import module
 
 WIDTHS = {'i1': 1, 'i8': 1, 'i16': 2, 'i32': 4, 'i64': 8, 'float': 4, 'double': 8}
 CELL = 8
-REACHED_BY = {'load': ['at'], 'store': ['at'], 'fill': ['at'], 'move': ['to', 'base']}      # the operands by which a line reaches memory
+# the operands by which a line reaches memory
+REACHED_BY = {'load': ['at'], 'load pair': ['at'], 'store': ['at'], 'fill': ['at'], 'move': ['to', 'base']}
 UNKNOWN = None                                  # an offset that is worked out only when the code runs
+
+
+def pair_width(pair):
+    """The bytes from the start of a pair of numbers to its end: the second lies at a multiple of its own width."""
+    first, second = (WIDTHS[kind] for kind in pair.strip('{ }').split(', '))
+    return -(-first // second) * second + second
 
 
 def moved(offset, by):
@@ -27,6 +35,7 @@ class Pointers:
         self.points = collections.defaultdict(set)
         self.cells = collections.defaultdict(lambda: collections.defaultdict(set))
         self.findings = {}
+        self.cleared = set().union(*(module.cleared(function) for function in functions.values()))
         for function in functions.values():
             for kind, name in function.parameters:
                 if function.exported and kind == 'ptr':
@@ -95,10 +104,19 @@ class Pointers:
                 self.judge_pointer(name, line)
             elif any(self.held((name, fields['at']), WIDTHS[kind])):
                 self.find(name, line, 'a number in the cell of a pointer')
-        elif form == 'fill' and any(self.held((name, fields['at']), int(fields['length']))):
+        elif form == 'load pair' and any(self.held((name, fields['at']), pair_width(fields['type']))):
+            self.find(name, line, 'a number in the cell of a pointer')
+        elif form == 'fill' and line.number not in self.cleared and any(self.held((name, fields['at']), int(fields['length']))):
             self.find(name, line, 'bytes filled in the cell of a pointer')
+        elif form == 'null test' and not self.is_lent(name, fields['at']):
+            self.find(name, line, 'a pointer of the code itself compared with null')
         elif form == 'move':
             self.judge_move(name, line)
+
+    def is_lent(self, name, value):
+        """Whether a value is a pointer as a caller of the library hands it over."""
+        function = self.functions[name]
+        return function.exported and ('ptr', value) in function.parameters
 
     def judge_pointer(self, name, line):
         for thing, at in list(self.points[name, line.fields['at']]):

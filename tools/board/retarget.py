@@ -64,12 +64,15 @@ def retargeted(lines, layout, triple):
 
 
 def check_target(lines, layout):
-    """Whether both processors have the low byte first, and the one of the board pointers of 32 bits."""
+    """Whether both processors have the low byte first and numbers of 64 bits at multiples of 8, and the one of the board pointers of
+    32 bits."""
     given = [line.fields['layout'] for line in lines if line.form == 'layout']
     if len(given) != 1 or not given[0].startswith('e-') or '-p:' in given[0]:
         module.stop('it is not for a processor with pointers of 64 bits and the low byte first')
     if not layout.startswith('e-') or '-p:32:32' not in layout:
         module.stop('the board is to have pointers of 32 bits and the low byte first')
+    if '-i64:64-' not in given[0] or '-i64:64-' not in layout:
+        module.stop('numbers of 64 bits are to lie at multiples of 8, within a pair of numbers too')
 
 
 def main(path, layout, triple):
