@@ -3,17 +3,20 @@
 // Where standard input cannot be read it says so on standard error and prints nothing.
 #![tactic(auto)]
 
-ghost use Rattle.std.specs.Prelude.{OnOk};
+ghost use Rattle.std.specs.Prelude.{◌≡◌, ◌<◌, length, take, IfOk, IfSome, OnOk};
 ghost use Rattle.std.specs.Io.{ReadsAtMost};
-ghost use Rattle.std.specs.Io.KnownBytes.{IsAtEnd};
+ghost use Rattle.std.specs.Io.KnownBytes.{Appends, Consumes, IsAtEnd};
+ghost use Rattle.report.specs.Report.{report};
 
 use std::io;
-use std::io::Read;
+use std::io::{Read, Write};
 use std::process::ExitCode;
 
 // Reads until the room is full or the input ends, and answers how many bytes were read.
-fn read_bytes(input: &mut impl Read, room: &mut [u8]) -> io::Result<usize>
-    ensures { ReadsAtMost result room.new }
+fn read_bytes<R: Read>(input: &mut R, room: &mut [u8]) -> io::Result<usize>
+    ensures bound { ReadsAtMost result room.new }
+    ensures bytes { IfOk result (λ n. Consumes (R.remaining input.old) (R.remaining input.new) (take n room.new)) }
+    ensures end { IfOk result (λ n. n < length room.new → IsAtEnd (R.remaining input.new)) }
 {
     let mut at: usize = 0;
     while at < room.len() {
@@ -35,8 +38,10 @@ fn skip_rest<R: Read>(input: &mut R) -> io::Result<()>
 }
 
 // The bytes of the input; room that is full is more than a pack can hold, and what is behind it is read and dropped.
-fn read_input(input: &mut impl Read, room: &mut [u8]) -> io::Result<usize>
-    ensures { ReadsAtMost result room.new }
+fn read_input<R: Read>(input: &mut R, room: &mut [u8]) -> io::Result<usize>
+    ensures bound { ReadsAtMost result room.new }
+    ensures bytes { IfOk result (λ n. IfSome (R.remaining input.old) (λ xs. take n room.new ≡ take (length room.new) xs)) }
+    ensures end { OnOk result (IsAtEnd (R.remaining input.new)) }
 {
     let count = read_bytes(input, room)?;
     if count == room.len() {
@@ -46,10 +51,12 @@ fn read_input(input: &mut impl Read, room: &mut [u8]) -> io::Result<usize>
 }
 
 // Prints what the gate says of a pack's bytes.
-fn print_report(rt: &impl Print, bytes: &[u8]) -> io::Result<()> {
+fn print_report<W: Write>(output: &mut W, bytes: &[u8]) -> io::Result<()>
+    ensures { OnOk result (Appends (W.contents output.old) (W.contents output.new) (report bytes.now)) }
+{
     let mut text = [0u8; 12288];
     let n = report::report_text(bytes, &mut text);
-    rt.write_all(&text[..n])
+    output.write_all(&text[..n])
 }
 
 // Says on standard error what failed. Where that cannot be written either, nobody is told.
@@ -58,13 +65,23 @@ fn complain(rt: &impl Eprint, what: &str) -> ExitCode {
     ExitCode::FAILURE
 }
 
-fn main(rt: HostRuntime) -> ExitCode {
+// Reads a pack and prints what the gate says of it, or answers what failed.
+fn check<R: Read, W: Write>(input: &mut R, output: &mut W) -> Result<(), &'static str>
+    ensures { OnOk result (IfSome (R.remaining input.old) (λ xs. Appends (W.contents output.old) (W.contents output.new) (report xs))) }
+{
     let mut bytes = [0u8; 16385];
-    let Ok(n) = read_input(&mut rt.stdin(), &mut bytes) else {
-        return complain(&rt, "standard input cannot be read");
+    let Ok(n) = read_input(input, &mut bytes) else {
+        return Err("standard input cannot be read");
     };
-    if print_report(&rt, &bytes[..n]).is_err() {
-        return complain(&rt, "standard output cannot be written");
+    match print_report(output, &bytes[..n]) {
+        Ok(()) => Ok(()),
+        Err(_) => Err("standard output cannot be written"),
     }
-    ExitCode::SUCCESS
+}
+
+fn main(rt: HostRuntime) -> ExitCode {
+    match check(&mut rt.stdin(), &mut rt.stdout()) {
+        Ok(()) => ExitCode::SUCCESS,
+        Err(what) => complain(&rt, what),
+    }
 }
