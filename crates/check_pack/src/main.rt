@@ -3,93 +3,85 @@
 // Where standard input cannot be read it says so on standard error and prints nothing.
 #![tactic(auto)]
 
-ghost use Rattle.io.specs.Counts.{IsPrefixLen};
+ghost use Rattle.std.specs.Prelude.{◌≡◌, ◌<◌, length, take, IfOk, IfSome, OnOk};
+ghost use Rattle.std.specs.Io.{ReadsAtMost};
+ghost use Rattle.std.specs.Io.KnownBytes.{Appends, Consumes, IsAtEnd};
+ghost use Rattle.report.specs.Report.{report};
 
-use libc::{STDERR_FILENO, STDIN_FILENO, STDOUT_FILENO};
+use std::io;
+use std::io::{Read, Write};
+use std::process::ExitCode;
 
-// How many bytes were read, and whether a read failed.
-#[derive(Clone, Copy)]
-struct Input {
-    count: usize,
-    failed: bool,
-}
-
-// Reads until the room is full or the input ends.
-fn read_bytes(room: &mut [u8]) -> Input
-    ensures { IsPrefixLen result.count room.new }
+// Reads until the room is full or the input ends, and answers how many bytes were read.
+fn read_bytes<R: Read>(input: &mut R, room: &mut [u8]) -> io::Result<usize>
+    ensures bound { ReadsAtMost result room.new }
+    ensures bytes { IfOk result (λ n. Consumes (R.remaining input.old) (R.remaining input.new) (take n room.new)) }
+    ensures end { IfOk result (λ n. n < length room.new → IsAtEnd (R.remaining input.new)) }
 {
     let mut at: usize = 0;
     while at < room.len() {
-        let got = libc::read(STDIN_FILENO, &mut room[at..]);
-        let more = io::count(got, &room[at..]);
+        let more = input.read(&mut room[at..])?;
         if more == 0 {
-            return Input {
-                count: at,
-                failed: got < 0,
-            };
+            return Ok(at);
         }
         at += more;
     }
-    Input {
-        count: at,
-        failed: false,
-    }
+    Ok(at)
 }
 
-// One read of bytes that nobody looks at.
-fn skip_some() -> isize {
-    let mut room = io::large_buffer();
-    libc::read(STDIN_FILENO, &mut room)
-}
-
-// Reads to the end of the input, and answers whether a read failed. Nothing says that an input ends, so the turns are counted.
-fn skip_rest() -> bool {
-    let mut turns = u64::MAX;
-    while turns > 0 {
-        let got = skip_some();
-        if got <= 0 {
-            return got < 0;
-        }
-        turns -= 1;
-    }
-    false
+// Reads to the end of the input, and drops what it reads.
+fn skip_rest<R: Read>(input: &mut R) -> io::Result<()>
+    ensures { OnOk result (IsAtEnd (R.remaining input.new)) }
+{
+    io::copy(input, &mut io::sink())?;
+    Ok(())
 }
 
 // The bytes of the input; room that is full is more than a pack can hold, and what is behind it is read and dropped.
-fn read_input(room: &mut [u8]) -> Input
-    ensures { IsPrefixLen result.count room.new }
+fn read_input<R: Read>(input: &mut R, room: &mut [u8]) -> io::Result<usize>
+    ensures bound { ReadsAtMost result room.new }
+    ensures bytes { IfOk result (λ n. IfSome (R.remaining input.old) (λ xs. take n room.new ≡ take (length room.new) xs)) }
+    ensures end { OnOk result (IsAtEnd (R.remaining input.new)) }
 {
-    let input = read_bytes(room);
-    if input.count < room.len() {
-        return input;
+    let count = read_bytes(input, room)?;
+    if count == room.len() {
+        skip_rest(input)?;
     }
-    Input {
-        count: input.count,
-        failed: skip_rest(),
-    }
+    Ok(count)
 }
 
-fn complain(what: &[u8]) {
-    io::write_all(STDERR_FILENO, b"check_pack: ");
-    io::write_all(STDERR_FILENO, what);
-    io::write_all(STDERR_FILENO, b"\n");
-}
-
-fn print_report(bytes: &[u8]) {
+// Prints what the gate says of a pack's bytes.
+fn print_report<W: Write>(output: &mut W, bytes: &[u8]) -> io::Result<()>
+    ensures { OnOk result (Appends (W.contents output.old) (W.contents output.new) (report bytes.now)) }
+{
     let mut text = [0u8; 12288];
     let n = report::report_text(bytes, &mut text);
-    if !io::write_all(STDOUT_FILENO, &text[..n]) {
-        complain(b"standard output cannot be written");
+    output.write_all(&text[..n])
+}
+
+// Says on standard error what failed. Where that cannot be written either, nobody is told.
+fn complain(rt: &impl Eprint, what: &str) -> ExitCode {
+    let _ = eprintln!(rt; "check_pack: {what}");
+    ExitCode::FAILURE
+}
+
+// Reads a pack and prints what the gate says of it, or answers what failed.
+fn check<R: Read, W: Write>(input: &mut R, output: &mut W) -> Result<(), &'static str>
+    ensures { OnOk result (IfSome (R.remaining input.old) (λ xs. Appends (W.contents output.old) (W.contents output.new) (report xs))) }
+{
+    let mut bytes = [0u8; 16385];
+    let Ok(n) = read_input(input, &mut bytes) else {
+        return Err("standard input cannot be read");
+    };
+    match print_report(output, &bytes[..n]) {
+        Ok(()) => Ok(()),
+        Err(_) => Err("standard output cannot be written"),
     }
 }
 
-fn main() {
-    let mut bytes = [0u8; 16385];
-    let input = read_input(&mut bytes);
-    if input.failed {
-        complain(b"standard input cannot be read");
-        return;
+fn main(rt: HostRuntime) -> ExitCode {
+    match check(&mut rt.stdin(), &mut rt.stdout()) {
+        Ok(()) => ExitCode::SUCCESS,
+        Err(what) => complain(&rt, what),
     }
-    let n = input.count;
-    print_report(&bytes[..n]);
 }

@@ -3,7 +3,7 @@
 // The Rust has no answer 82 and panics at 80: there the oracle gives document 01's number.
 #![tactic(auto)]
 
-use libc::STDOUT_FILENO;
+use std::io;
 
 // Lone type words: scalars, vectors, matrices, and five that are no type (shape 13, width 3, bit 12, bit 26, kind 12).
 const TYPES: [u32; 24] = [
@@ -33,66 +33,72 @@ const TYPES: [u32; 24] = [
     0x6000_0120,
 ];
 
-fn put(n: u32, end: &[u8]) {
-    io::print_decimal(STDOUT_FILENO, n as u64);
-    io::write_all(STDOUT_FILENO, end);
+fn put(rt: &impl Print, n: u32, end: &[u8]) -> io::Result<()> {
+    print!(rt; "{n}")?;
+    rt.write_all(end)
 }
 
-fn line(a: u32, b: u32, c: u32) {
-    put(a, b" ");
-    put(b, b" ");
-    put(c, b"\n");
+fn line(rt: &impl Print, a: u32, b: u32, c: u32) -> io::Result<()> {
+    put(rt, a, b" ")?;
+    put(rt, b, b" ")?;
+    put(rt, c, b"\n")
 }
 
-fn vertex_formats() {
+fn vertex_formats(rt: &impl Print) -> io::Result<()> {
     for code in 0..50 {
         let answer = formats::formats::vertex_format(code);
-        line(code, answer.number, answer.first);
+        line(rt, code, answer.number, answer.first)?;
     }
+    Ok(())
 }
 
-fn texture_formats() {
+fn texture_formats(rt: &impl Print) -> io::Result<()> {
     for code in 0..81 {
         let answer = formats::formats::texture_format(code);
-        line(code, answer.number, answer.first);
+        line(rt, code, answer.number, answer.first)?;
     }
+    Ok(())
 }
 
 // A type below each type of the table.
-fn below_each(a: u32) {
+fn below_each(rt: &impl Print, a: u32) -> io::Result<()> {
     for i in 0..24 {
         let b = TYPES[i];
         let compared = numeric::type_words::is_subtype_of(a, b);
-        line(a, b, numeric::type_words::subtype_number(compared));
+        line(rt, a, b, numeric::type_words::subtype_number(compared))?;
     }
+    Ok(())
 }
 
-fn subtypes() {
+fn subtypes(rt: &impl Print) -> io::Result<()> {
     for i in 0..24 {
-        below_each(TYPES[i]);
+        below_each(rt, TYPES[i])?;
     }
+    Ok(())
 }
 
 // A texture format covered by each type of the table.
-fn covered_by_each(code: u32) {
+fn covered_by_each(rt: &impl Print, code: u32) -> io::Result<()> {
     for i in 0..24 {
         let output = TYPES[i];
         let answer = formats::formats::check_texture_format(code, output);
-        put(code, b" ");
-        line(output, answer.number, answer.first);
+        put(rt, code, b" ")?;
+        line(rt, output, answer.number, answer.first)?;
     }
+    Ok(())
 }
 
 // Every seventh code meets each kind of format: 49 has no colour type and 77 is unknown.
-fn covered_formats() {
+fn covered_formats(rt: &impl Print) -> io::Result<()> {
     for i in 0..12 {
-        covered_by_each(7 * i);
+        covered_by_each(rt, 7 * i)?;
     }
+    Ok(())
 }
 
-fn main() {
-    vertex_formats();
-    texture_formats();
-    subtypes();
-    covered_formats();
+fn main(rt: HostRuntime) -> io::Result<()> {
+    vertex_formats(&rt)?;
+    texture_formats(&rt)?;
+    subtypes(&rt)?;
+    covered_formats(&rt)
 }

@@ -7,6 +7,8 @@
 
 ghost use Rattle.std.specs.Prelude.{◌≡◌, length};
 
+use std::io;
+use std::io::Read;
 use test_text::read::{at_most, next};
 
 mod on_layouts;
@@ -15,71 +17,109 @@ mod on_stages;
 mod print;
 
 // Reads a list, and keeps it as it was read.
-fn read_list(list: &mut [u32], kept: &mut [u32])
+fn read_list(input: &mut impl Read, list: &mut [u32], kept: &mut [u32]) -> io::Result<()>
     requires { length kept.old ≡ length list.old }
 {
-    let mut i: usize = 0;
-    while i < list.len() {
-        let w = next();
+    for i in 0..list.len() {
+        let w = next(input)?;
         list[i] = w;
         kept[i] = w;
-        i += 1;
     }
+    Ok(())
 }
 
 // Which of the three lists the words are.
-fn tests(list: &[u32]) {
-    print::yes_no(layouts::layout::layout_well_formed(list));
-    print::yes_no(sizes::sizes::sizes_well_formed(list));
-    print::yes_no(stage_lists::stage_io::stage_well_formed(list));
+fn tests(rt: &impl Print, list: &[u32]) -> io::Result<()> {
+    print::yes_no(rt, layouts::layout::layout_well_formed(list))?;
+    print::yes_no(rt, sizes::sizes::sizes_well_formed(list))?;
+    print::yes_no(rt, stage_lists::stage_io::stage_well_formed(list))
 }
 
-fn answer(list: &mut [u32], asked: u32, a: u32, b: u32, c: u32, d: u32) {
+fn answer(
+    rt: &impl Print,
+    list: &mut [u32],
+    asked: u32,
+    a: u32,
+    b: u32,
+    c: u32,
+    d: u32,
+) -> io::Result<()> {
     match asked {
-        0 => tests(list),
-        1 => on_layouts::look(list, a, b),
-        2 => on_layouts::join(list, a, b),
-        3 => on_layouts::push(list, a, b, c, d),
-        4 => on_sizes::record(list, a, b, c),
-        5 => on_stages::look(list, a, b),
-        6 => on_stages::begin(list, a, b),
-        _ => on_stages::insert(list, a, b),
+        0 => tests(rt, list),
+        1 => on_layouts::look(rt, list, a, b),
+        2 => on_layouts::join(rt, list, a, b),
+        3 => on_layouts::push(rt, list, a, b, c, d),
+        4 => on_sizes::record(rt, list, a, b, c),
+        5 => on_stages::look(rt, list, a, b),
+        6 => on_stages::begin(rt, list, a, b),
+        _ => on_stages::insert(rt, list, a, b),
     }
 }
 
-fn run(list: &mut [u32], kept: &mut [u32], asked: u32, a: u32, b: u32, c: u32, d: u32)
+fn run(
+    rt: &impl Print,
+    input: &mut impl Read,
+    list: &mut [u32],
+    kept: &mut [u32],
+    asked: u32,
+    a: u32,
+    b: u32,
+    c: u32,
+    d: u32,
+) -> io::Result<()>
     requires { length kept.old ≡ length list.old }
 {
-    read_list(list, kept);
-    answer(list, asked, a, b, c, d);
-    test_text::print::changes(kept, list, b"", b" ");
-    test_text::print::end();
+    read_list(input, list, kept)?;
+    answer(rt, list, asked, a, b, c, d)?;
+    test_text::print::changes(rt, kept, list, b"", b" ")?;
+    test_text::print::end(rt)
 }
 
-fn case(space: &mut [u32], kept: &mut [u32])
+fn case(
+    rt: &impl Print,
+    input: &mut impl Read,
+    space: &mut [u32],
+    kept: &mut [u32],
+) -> io::Result<()>
     requires space_len { length space.old ≡ 1032 }
     requires kept_len { length kept.old ≡ 1032 }
 {
-    let asked = next();
-    let a = next();
-    let b = next();
-    let c = next();
-    let d = next();
-    let n = at_most(next(), 1032);
-    run(&mut space[..n], &mut kept[..n], asked, a, b, c, d);
+    let asked = next(input)?;
+    let a = next(input)?;
+    let b = next(input)?;
+    let c = next(input)?;
+    let d = next(input)?;
+    let n = at_most(next(input)?, 1032);
+    run(
+        rt,
+        input,
+        &mut space[..n],
+        &mut kept[..n],
+        asked,
+        a,
+        b,
+        c,
+        d,
+    )
 }
 
-fn cases(space: &mut [u32], kept: &mut [u32])
+fn cases(
+    rt: &impl Print,
+    input: &mut impl Read,
+    space: &mut [u32],
+    kept: &mut [u32],
+) -> io::Result<()>
     requires space_len { length space.old ≡ 1032 }
     requires kept_len { length kept.old ≡ 1032 }
 {
-    for _ in 0..next() {
-        case(space, kept);
+    for _ in 0..next(input)? {
+        case(rt, input, space, kept)?;
     }
+    Ok(())
 }
 
-fn main() {
+fn main(rt: HostRuntime) -> io::Result<()> {
     let mut space = [0u32; 1032];
     let mut kept = [0u32; 1032];
-    cases(&mut space, &mut kept);
+    cases(&rt, &mut rt.stdin(), &mut space, &mut kept)
 }

@@ -19,110 +19,143 @@ use layouts::layout::{
 use layouts::visibility::sees;
 use places::found::Found;
 use places::heads::counted;
+use std::io;
 
 // An entry: its place, type and least size, and whether each stage sees it.
-fn show(e: BindGroupLayoutEntry) {
+fn show(rt: &impl Print, e: BindGroupLayoutEntry) -> io::Result<()> {
     let bind = e.bind;
     let ty = e.ty;
-    print::number(bind.group as u64);
-    print::number(bind.binding as u64);
-    print::number(binding_code(ty));
-    print::number(least_size(ty));
+    print::number(rt, bind.group as u64)?;
+    print::number(rt, bind.binding as u64)?;
+    print::number(rt, binding_code(ty))?;
+    print::number(rt, least_size(ty))?;
     for stage in 0..5 {
-        print::yes_no(sees(e.visibility, stage));
+        print::yes_no(rt, sees(e.visibility, stage))?;
     }
+    Ok(())
 }
 
-fn position(found: Found) {
+fn position(rt: &impl Print, found: Found) -> io::Result<()> {
     match found {
-        Found::At { index } => print::number(index as u64),
-        Found::Nothing => print::nothing(),
+        Found::At { index } => print::number(rt, index as u64),
+        Found::Nothing => print::nothing(rt),
     }
 }
 
 // The entry at a position, part by part.
-fn show_at(l: &[u32], index: usize)
+fn show_at(rt: &impl Print, l: &[u32], index: usize) -> io::Result<()>
     requires { layout_well_formed l.now ≡ true }
 {
     if counted(l) <= index {
-        return print::nothing();
+        return print::nothing(rt);
     }
     let bind = place_of(entry_place(l, index));
     let ty = binding_type_of(entry_type(l, index), entry_least(l, index));
-    show(BindGroupLayoutEntry {
-        bind,
-        ty,
-        visibility: entry_visibility(l, index),
-    })
+    show(
+        rt,
+        BindGroupLayoutEntry {
+            bind,
+            ty,
+            visibility: entry_visibility(l, index),
+        },
+    )
 }
 
 // The groups, the position of a place, sought at another first, and the entry at that one.
-pub(crate) fn look(l: &[u32], place: u32, index: u32) {
+pub(crate) fn look(rt: &impl Print, l: &[u32], place: u32, index: u32) -> io::Result<()> {
     if !layout_well_formed(l) {
-        return print::nothing();
+        return print::nothing(rt);
     }
-    print::number(group_count(l) as u64);
-    position(find_entry_near(l, place, index as usize));
-    show_at(l, index as usize)
+    print::number(rt, group_count(l) as u64)?;
+    position(rt, find_entry_near(l, place, index as usize))?;
+    show_at(rt, l, index as usize)
 }
 
 // A stage joined to the entry at a place.
-pub(crate) fn join(l: &mut [u32], place: u32, stage: u32) {
+pub(crate) fn join(rt: &impl Print, l: &mut [u32], place: u32, stage: u32) -> io::Result<()> {
     if !layout_well_formed(l) {
-        return print::nothing();
+        return print::nothing(rt);
     }
     if 4 < stage {
-        return print::nothing();
+        return print::nothing(rt);
     }
     match find_entry_word(l, place) {
         Found::At { index } => {
             join_visibility(l, index, stage);
-            print::number(index as u64)
+            print::number(rt, index as u64)
         }
-        Found::Nothing => print::nothing(),
+        Found::Nothing => print::nothing(rt),
     }
 }
 
 // A new entry; then whether there was room.
-fn push_new(l: &mut [u32], place: u32, ty: u32, least: u32, visibility: u32)
+fn push_new(
+    rt: &impl Print,
+    l: &mut [u32],
+    place: u32,
+    ty: u32,
+    least: u32,
+    visibility: u32,
+) -> io::Result<()>
     requires l_value { layout_well_formed l.old ≡ true }
     requires visibility_value { entry_well_formed place ty least visibility ≡ true }
     requires place_bound { bits 26 23 place < (decode_layout l.old).groups }
     requires l_value_2 { find_entry (place_of place) (decode_layout l.old) ≡ Nothing }
 {
-    print::yes_no(push_entry(l, place, ty, word_size(least), visibility))
+    print::yes_no(rt, push_entry(l, place, ty, word_size(least), visibility))
 }
 
 // The same where no entry has its place.
-fn push_vacant(l: &mut [u32], place: u32, ty: u32, least: u32, visibility: u32)
+fn push_vacant(
+    rt: &impl Print,
+    l: &mut [u32],
+    place: u32,
+    ty: u32,
+    least: u32,
+    visibility: u32,
+) -> io::Result<()>
     requires l_value { layout_well_formed l.old ≡ true }
     requires visibility_value { entry_well_formed place ty least visibility ≡ true }
     requires place_bound { bits 26 23 place < (decode_layout l.old).groups }
 {
     match find_entry_word(l, place) {
-        Found::At { index: _ } => print::nothing(),
-        Found::Nothing => push_new(l, place, ty, least, visibility),
+        Found::At { index: _ } => print::nothing(rt),
+        Found::Nothing => push_new(rt, l, place, ty, least, visibility),
     }
 }
 
 // The same where its group is one of the list's.
-fn push_grouped(l: &mut [u32], place: u32, ty: u32, least: u32, visibility: u32)
+fn push_grouped(
+    rt: &impl Print,
+    l: &mut [u32],
+    place: u32,
+    ty: u32,
+    least: u32,
+    visibility: u32,
+) -> io::Result<()>
     requires l_value { layout_well_formed l.old ≡ true }
     requires visibility_value { entry_well_formed place ty least visibility ≡ true }
 {
     if group_count(l) <= place / 0x80_0000 % 16 {
-        return print::nothing();
+        return print::nothing(rt);
     }
-    push_vacant(l, place, ty, least, visibility)
+    push_vacant(rt, l, place, ty, least, visibility)
 }
 
 // The same where the words are an entry's.
-pub(crate) fn push(l: &mut [u32], place: u32, ty: u32, least: u32, visibility: u32) {
+pub(crate) fn push(
+    rt: &impl Print,
+    l: &mut [u32],
+    place: u32,
+    ty: u32,
+    least: u32,
+    visibility: u32,
+) -> io::Result<()> {
     if !layout_well_formed(l) {
-        return print::nothing();
+        return print::nothing(rt);
     }
     if !words_well_formed(place, ty, least, visibility) {
-        return print::nothing();
+        return print::nothing(rt);
     }
-    push_grouped(l, place, ty, least, visibility)
+    push_grouped(rt, l, place, ty, least, visibility)
 }

@@ -11,48 +11,49 @@ use stage_lists::stage_io::{
     find_location, out_well_formed, payload, primitive_index, stage_well_formed,
 };
 use stage_lists::types::PrimitiveIndex;
+use std::io;
 use varying::{InterfaceVar, Payload, payload_of, payload_well_formed, var_of, var_well_formed};
 use word::word;
 
-fn show_variable(v: InterfaceVar) {
+fn show_variable(rt: &impl Print, v: InterfaceVar) -> io::Result<()> {
     let ty = v.ty;
-    print::number(type_word(ty) as u64);
-    print::number(v.interpolation as u64);
-    print::number(v.sampling as u64);
-    print::yes_no(v.per_primitive);
+    print::number(rt, type_word(ty) as u64)?;
+    print::number(rt, v.interpolation as u64)?;
+    print::number(rt, v.sampling as u64)?;
+    print::yes_no(rt, v.per_primitive)
 }
 
 // The variable whose word was found at a position.
-fn show_found(l: &[u32], found: Found) {
+fn show_found(rt: &impl Print, l: &[u32], found: Found) -> io::Result<()> {
     match found {
-        Found::At { index } => show_variable(var_of(word(l, index))),
-        Found::Nothing => print::nothing(),
+        Found::At { index } => show_variable(rt, var_of(word(l, index))),
+        Found::Nothing => print::nothing(rt),
     }
 }
 
-fn show_primitive(p: PrimitiveIndex) {
+fn show_primitive(rt: &impl Print, p: PrimitiveIndex) -> io::Result<()> {
     match p {
-        PrimitiveIndex::None => print::nothing(),
-        PrimitiveIndex::False => print::yes_no(false),
-        PrimitiveIndex::True => print::yes_no(true),
+        PrimitiveIndex::None => print::nothing(rt),
+        PrimitiveIndex::False => print::yes_no(rt, false),
+        PrimitiveIndex::True => print::yes_no(rt, true),
     }
 }
 
-fn show_payload(p: Payload) {
+fn show_payload(rt: &impl Print, p: Payload) -> io::Result<()> {
     match p {
-        Payload::Absent => print::nothing(),
-        Payload::Size { bytes } => print::number(bytes as u64),
+        Payload::Absent => print::nothing(rt),
+        Payload::Size { bytes } => print::number(rt, bytes as u64),
     }
 }
 
 // The primitive index, the payload and the variable at a location, sought at a position first.
-pub(crate) fn look(l: &[u32], location: u32, near: u32) {
+pub(crate) fn look(rt: &impl Print, l: &[u32], location: u32, near: u32) -> io::Result<()> {
     if !stage_well_formed(l) {
-        return print::nothing();
+        return print::nothing(rt);
     }
-    show_primitive(primitive_index(l));
-    show_payload(payload(l));
-    show_found(l, find_location(l, location, near as usize));
+    show_primitive(rt, primitive_index(l))?;
+    show_payload(rt, payload(l))?;
+    show_found(rt, l, find_location(l, location, near as usize))
 }
 
 fn primitive_of(code: u32) -> PrimitiveIndex {
@@ -64,15 +65,15 @@ fn primitive_of(code: u32) -> PrimitiveIndex {
 }
 
 // A list out begun with a primitive index and a payload's word, where it has two words.
-pub(crate) fn begin(l: &mut [u32], code: u32, payload: u32) {
+pub(crate) fn begin(rt: &impl Print, l: &mut [u32], code: u32, payload: u32) -> io::Result<()> {
     if l.len() < 2 {
-        return print::nothing();
+        return print::nothing(rt);
     }
     if !payload_well_formed(payload) {
-        return print::nothing();
+        return print::nothing(rt);
     }
     begin_out(l, primitive_of(code), payload_of(payload));
-    print::yes_no(true)
+    print::yes_no(rt, true)
 }
 
 // Whether words are a list out that has less than 63 variables and room for another.
@@ -87,17 +88,17 @@ fn has_room(l: &[u32]) -> bool
 }
 
 // A variable's word put into a list out at a location.
-pub(crate) fn insert(l: &mut [u32], location: u32, var: u32) {
+pub(crate) fn insert(rt: &impl Print, l: &mut [u32], location: u32, var: u32) -> io::Result<()> {
     if !has_room(l) {
-        return print::nothing();
+        return print::nothing(rt);
     }
     if 0x800_0000 <= location {
-        return print::nothing();
+        return print::nothing(rt);
     }
     if !var_well_formed(var) {
-        return print::nothing();
+        return print::nothing(rt);
     }
     let head = l[0];
     l[0] = insert_words(l, head, 0x6000_0000 + location, var);
-    print::yes_no(true)
+    print::yes_no(rt, true)
 }

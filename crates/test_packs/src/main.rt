@@ -7,7 +7,7 @@
 
 ghost use Rattle.std.specs.Prelude.{◌≡◌, ◌<◌, ◌≤◌, length};
 
-use libc::STDOUT_FILENO;
+use std::io;
 
 // The pack has 83 words; zeros stand behind it.
 const PACK: [u32; 96] = [
@@ -109,9 +109,9 @@ const PACK: [u32; 96] = [
     0x0000_0000,
 ];
 
-fn put(n: u32, end: &[u8]) {
-    io::print_decimal(STDOUT_FILENO, n as u64);
-    io::write_all(STDOUT_FILENO, end);
+fn put(rt: &impl Print, n: u32, end: &[u8]) -> io::Result<()> {
+    print!(rt; "{n}")?;
+    rt.write_all(end)
 }
 
 fn one_if(same: bool) -> u32 {
@@ -161,15 +161,15 @@ fn flipped_and_closed(words: &mut [u32], i: usize, bits: u32) -> u32
     answer
 }
 
-fn counts(sort: u32, i: u32, a: u32, b: u32, c: u32) {
-    put(sort, b" ");
-    put(i, b" ");
-    put(a, b" ");
-    put(b, b" ");
-    put(c, b"\n");
+fn counts(rt: &impl Print, sort: u32, i: u32, a: u32, b: u32, c: u32) -> io::Result<()> {
+    put(rt, sort, b" ")?;
+    put(rt, i, b" ")?;
+    put(rt, a, b" ")?;
+    put(rt, b, b" ")?;
+    put(rt, c, b"\n")
 }
 
-fn plain_row(words: &mut [u32], i: usize)
+fn plain_row(rt: &impl Print, words: &mut [u32], i: usize) -> io::Result<()>
     requires words_len { length words.old ≡ 96 }
     requires i_bound { i < 83 }
 {
@@ -184,10 +184,10 @@ fn plain_row(words: &mut [u32], i: usize)
         c = more(c, answer == 2);
         bits = std::num::wrapping_add_u32(bits, bits);
     }
-    counts(0, i as u32, a, b, c);
+    counts(rt, 0, i as u32, a, b, c)
 }
 
-fn closed_row(words: &mut [u32], i: usize)
+fn closed_row(rt: &impl Print, words: &mut [u32], i: usize) -> io::Result<()>
     requires words_len { length words.old ≡ 96 }
     requires i_bound { i < 82 }
 {
@@ -202,13 +202,13 @@ fn closed_row(words: &mut [u32], i: usize)
         c = more(c, answer == 2);
         bits = std::num::wrapping_add_u32(bits, bits);
     }
-    counts(1, i as u32, a, b, c);
+    counts(rt, 1, i as u32, a, b, c)
 }
 
-fn answer_line(sort: u32, n: u32, answer: u32) {
-    put(sort, b" ");
-    put(n, b" ");
-    put(answer, b"\n");
+fn answer_line(rt: &impl Print, sort: u32, n: u32, answer: u32) -> io::Result<()> {
+    put(rt, sort, b" ")?;
+    put(rt, n, b" ")?;
+    put(rt, answer, b"\n")
 }
 
 // The first words alone.
@@ -234,42 +234,46 @@ fn refitted(words: &mut [u32], n: usize) -> u32
     answer
 }
 
-fn plain_rows(words: &mut [u32])
+fn plain_rows(rt: &impl Print, words: &mut [u32]) -> io::Result<()>
     requires { length words.old ≡ 96 }
 {
     for i in 0..83 {
-        plain_row(words, i);
+        plain_row(rt, words, i)?;
     }
+    Ok(())
 }
 
-fn closed_rows(words: &mut [u32])
+fn closed_rows(rt: &impl Print, words: &mut [u32]) -> io::Result<()>
     requires { length words.old ≡ 96 }
 {
     for i in 0..82 {
-        closed_row(words, i);
+        closed_row(rt, words, i)?;
     }
+    Ok(())
 }
 
-fn shortened_lines(words: &[u32])
+fn shortened_lines(rt: &impl Print, words: &[u32]) -> io::Result<()>
     requires { length words.now ≡ 96 }
 {
     for n in 0..84 {
-        answer_line(2, n as u32, shortened(words, n));
+        answer_line(rt, 2, n as u32, shortened(words, n))?;
     }
+    Ok(())
 }
 
-fn refitted_lines(words: &mut [u32])
+fn refitted_lines(rt: &impl Print, words: &mut [u32]) -> io::Result<()>
     requires { length words.old ≡ 96 }
 {
     for n in 1..90 {
-        answer_line(3, n as u32, refitted(words, n));
+        answer_line(rt, 3, n as u32, refitted(words, n))?;
     }
+    Ok(())
 }
 
-fn main() {
+fn main(rt: HostRuntime) -> io::Result<()> {
     let mut words = PACK;
-    plain_rows(&mut words);
-    closed_rows(&mut words);
-    shortened_lines(&words);
-    refitted_lines(&mut words);
+    plain_rows(&rt, &mut words)?;
+    closed_rows(&rt, &mut words)?;
+    shortened_lines(&rt, &words)?;
+    refitted_lines(&rt, &mut words)
 }

@@ -5,8 +5,9 @@
 
 use crate::fields::{behind, behind_text, list_at, number_at};
 use crate::lines::read_line;
-use libc::STDOUT_FILENO;
 use populate::call::populate_types;
+use std::io;
+use std::io::Read;
 use test_text::print;
 
 mod fields;
@@ -18,114 +19,140 @@ const MOST: usize = 1040;
 // Bytes for the longest line; three such lists fit.
 const LINE: usize = 0x8000;
 
-fn hex(w: u32) {
-    io::print_hex(STDOUT_FILENO, w as u64, 1);
+fn hex(rt: &impl Print, w: u32) -> io::Result<()> {
+    print!(rt; "{w:x}")
 }
 
 // A detail, and the blank behind it.
-fn detail(w: u32) {
-    hex(w);
-    print::text(b" ");
+fn detail(rt: &impl Print, w: u32) -> io::Result<()> {
+    hex(rt, w)?;
+    print::text(rt, b" ")
 }
 
 // The words of a list, joined by commas.
-fn words(list: &[u32]) {
+fn words(rt: &impl Print, list: &[u32]) -> io::Result<()> {
     if list.len() == 0 {
-        return print::text(b"-");
+        return print::text(rt, b"-");
     }
-    hex(list[0]);
+    hex(rt, list[0])?;
     for i in 1..list.len() {
-        print::text(b",");
-        hex(list[i]);
+        print::text(rt, b",")?;
+        hex(rt, list[i])?;
     }
+    Ok(())
 }
 
-fn bad() {
-    print::text(b"bad\n");
+fn bad(rt: &impl Print) -> io::Result<()> {
+    print::text(rt, b"bad\n")
 }
 
 // The answer, and the list out as the call left it.
-fn answer(types: &[u32], asked: u32, binding: &[u32], out: &mut [u32]) {
+fn answer(
+    rt: &impl Print,
+    types: &[u32],
+    asked: u32,
+    binding: &[u32],
+    out: &mut [u32],
+) -> io::Result<()> {
     let answer = populate_types(types, asked, binding, out);
-    print::number(answer.number as u64, b" ");
-    detail(answer.first);
-    detail(answer.second);
-    detail(answer.third);
-    words(out);
-    print::end();
+    print::number(rt, answer.number as u64, b" ")?;
+    detail(rt, answer.first)?;
+    detail(rt, answer.second)?;
+    detail(rt, answer.third)?;
+    words(rt, out)?;
+    print::end(rt)
 }
 
 // Reads the list out, the last on the line, then the answer.
-fn with_out(line: &[u8], at: usize, types: &[u32], asked: u32, binding: &[u32], out: &mut [u32]) {
+fn with_out(
+    rt: &impl Print,
+    line: &[u8],
+    at: usize,
+    types: &[u32],
+    asked: u32,
+    binding: &[u32],
+    out: &mut [u32],
+) -> io::Result<()> {
     let read = list_at(line, at, out);
     if read.end != line.len() {
-        return bad();
+        return bad(rt);
     }
     let n = read.count;
-    answer(types, asked, binding, &mut out[..n]);
+    answer(rt, types, asked, binding, &mut out[..n])
 }
 
 // Reads the binding, and goes on behind it.
-fn with_binding(line: &[u8], at: usize, types: &[u32], asked: u32, binding: &mut [u32]) {
+fn with_binding(
+    rt: &impl Print,
+    line: &[u8],
+    at: usize,
+    types: &[u32],
+    asked: u32,
+    binding: &mut [u32],
+) -> io::Result<()> {
     let mut out = [0u32; MOST];
     let read = list_at(line, at, binding);
     let n = read.count;
     with_out(
+        rt,
         line,
         behind(line, read.end, b' '),
         types,
         asked,
         &binding[..n],
         &mut out,
-    );
+    )
 }
 
 // Reads the number of the asked type, and goes on behind it.
-fn with_asked(line: &[u8], at: usize, types: &[u32]) {
+fn with_asked(rt: &impl Print, line: &[u8], at: usize, types: &[u32]) -> io::Result<()> {
     let mut binding = [0u32; MOST];
     let asked = number_at(line, at, 10);
     with_binding(
+        rt,
         line,
         behind(line, asked.end, b' '),
         types,
         asked.value,
         &mut binding,
-    );
+    )
 }
 
 // Reads the type list, and goes on behind it.
-fn with_types(line: &[u8], at: usize, types: &mut [u32]) {
+fn with_types(rt: &impl Print, line: &[u8], at: usize, types: &mut [u32]) -> io::Result<()> {
     let read = list_at(line, at, types);
     let n = read.count;
-    with_asked(line, behind(line, read.end, b' '), &types[..n]);
+    with_asked(rt, line, behind(line, read.end, b' '), &types[..n])
 }
 
-fn on_line(line: &[u8]) {
+fn on_line(rt: &impl Print, line: &[u8]) -> io::Result<()> {
     let mut types = [0u32; MOST];
-    with_types(line, behind_text(line, b"populate "), &mut types);
+    with_types(rt, line, behind_text(line, b"populate "), &mut types)
 }
 
 // Answers a line of the input; whether there was one. A line that fills the space may have more bytes.
-fn case(space: &mut [u8]) -> bool {
-    let line = read_line(space);
+fn case(rt: &impl Print, input: &mut impl Read, space: &mut [u8]) -> io::Result<bool> {
+    let line = read_line(input, space)?;
     let n = line.count;
     if n == space.len() {
-        bad();
-        return true;
+        bad(rt)?;
+        return Ok(true);
     }
     if n == 0 && line.last == 0 {
-        return false;
+        return Ok(false);
     }
-    on_line(&space[..n]);
-    true
+    on_line(rt, &space[..n])?;
+    Ok(true)
 }
 
 // Nothing says that an input ends, so the lines are counted.
-fn main() {
+fn main(rt: HostRuntime) -> io::Result<()> {
     let mut space = [0u8; LINE];
+    let mut input = rt.stdin();
     for _ in 0..u64::MAX {
-        if !case(&mut space) {
-            return;
+        if !case(&rt, &mut input, &mut space)? {
+            return Ok(());
         }
     }
+    Ok(())
 }

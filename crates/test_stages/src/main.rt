@@ -7,6 +7,8 @@
 use entry_points::choose::finalize_entry_point_name;
 use stage::check::check_stage;
 use stage::types::Codes;
+use std::io;
+use std::io::Read;
 use test_text::{print, read};
 use word::word;
 
@@ -17,13 +19,14 @@ const MOST: usize = 1040;
 const PACK: usize = 4200;
 
 // What changed in a list.
-fn changes(before: &[u32], after: &[u32]) {
-    print::text(b" ;");
-    print::changes(before, after, b" ", b"");
+fn changes(rt: &impl Print, before: &[u32], after: &[u32]) -> io::Result<()> {
+    print::text(rt, b" ;")?;
+    print::changes(rt, before, after, b" ", b"")
 }
 
 // The answer to a stage check, and what it changed of the lists as they were.
 fn answer_stage(
+    rt: &impl Print,
     pack: &[u32],
     layout: &mut [u32],
     sizes: &mut [u32],
@@ -34,7 +37,7 @@ fn answer_stage(
     old_layout: &[u32],
     old_sizes: &[u32],
     old_out: &[u32],
-) {
+) -> io::Result<()> {
     let codes = Codes {
         stage: word(head, 7),
         topology: word(head, 8),
@@ -43,14 +46,15 @@ fn answer_stage(
         depth: word(head, 11),
     };
     let answer = check_stage(pack, layout, sizes, inputs, out, name, codes);
-    print::answer(answer);
-    changes(old_layout, layout);
-    changes(old_sizes, sizes);
-    changes(old_out, out);
+    print::answer(rt, answer)?;
+    changes(rt, old_layout, layout)?;
+    changes(rt, old_sizes, sizes)?;
+    changes(rt, old_out, out)
 }
 
 // Keeps the lists as they are, then the check.
 fn keep_and_answer(
+    rt: &impl Print,
     pack: &[u32],
     layout: &mut [u32],
     sizes: &mut [u32],
@@ -58,7 +62,7 @@ fn keep_and_answer(
     out: &mut [u32],
     name: &[u8],
     head: &[u32],
-) {
+) -> io::Result<()> {
     let mut old_layout = [0u32; MOST];
     let mut old_sizes = [0u32; MOST];
     let mut old_out = [0u32; MOST];
@@ -66,6 +70,7 @@ fn keep_and_answer(
     read::copy(sizes, &mut old_sizes);
     read::copy(out, &mut old_out);
     answer_stage(
+        rt,
         pack,
         layout,
         sizes,
@@ -76,11 +81,13 @@ fn keep_and_answer(
         &old_layout,
         &old_sizes,
         &old_out,
-    );
+    )
 }
 
 // Reads the lists and the name, then the check.
 fn read_and_answer(
+    rt: &impl Print,
+    input: &mut impl Read,
     pack: &[u32],
     layout: &mut [u32],
     sizes: &mut [u32],
@@ -88,16 +95,21 @@ fn read_and_answer(
     out: &mut [u32],
     name: &mut [u8],
     head: &[u32],
-) {
-    read::words(layout);
-    read::words(sizes);
-    read::words(inputs);
-    read::words(out);
-    read::bytes(name);
-    keep_and_answer(pack, layout, sizes, inputs, out, name, head);
+) -> io::Result<()> {
+    read::words(input, layout)?;
+    read::words(input, sizes)?;
+    read::words(input, inputs)?;
+    read::words(input, out)?;
+    read::bytes(input, name)?;
+    keep_and_answer(rt, pack, layout, sizes, inputs, out, name, head)
 }
 
-fn stage_case(pack: &[u32], head: &[u32]) {
+fn stage_case(
+    rt: &impl Print,
+    input: &mut impl Read,
+    pack: &[u32],
+    head: &[u32],
+) -> io::Result<()> {
     let mut layout = [0u32; MOST];
     let mut sizes = [0u32; MOST];
     let mut inputs = [0u32; MOST];
@@ -109,6 +121,8 @@ fn stage_case(pack: &[u32], head: &[u32]) {
     let o = read::length(head, 5, MOST);
     let n = read::length(head, 6, 128);
     read_and_answer(
+        rt,
+        input,
         pack,
         &mut layout[..l],
         &mut sizes[..s],
@@ -116,29 +130,36 @@ fn stage_case(pack: &[u32], head: &[u32]) {
         &mut out[..o],
         &mut name[..n],
         head,
-    );
+    )
 }
 
-fn pack_case(pack: &mut [u32], head: &[u32]) {
-    read::words(pack);
+fn pack_case(
+    rt: &impl Print,
+    input: &mut impl Read,
+    pack: &mut [u32],
+    head: &[u32],
+) -> io::Result<()> {
+    read::words(input, pack)?;
     if word(head, 0) == 0 {
-        stage_case(pack, head);
+        stage_case(rt, input, pack, head)?;
     } else {
-        print::answer(finalize_entry_point_name(pack, word(head, 7)));
+        print::answer(rt, finalize_entry_point_name(pack, word(head, 7)))?;
     }
-    print::end();
+    print::end(rt)
 }
 
-fn case() {
+fn case(rt: &impl Print, input: &mut impl Read) -> io::Result<()> {
     let mut head = [0u32; 12];
     let mut pack = [0u32; PACK];
-    read::words(&mut head);
+    read::words(input, &mut head)?;
     let p = read::length(&head, 1, PACK);
-    pack_case(&mut pack[..p], &head);
+    pack_case(rt, input, &mut pack[..p], &head)
 }
 
-fn main() {
-    for _ in 0..read::next() {
-        case();
+fn main(rt: HostRuntime) -> io::Result<()> {
+    let mut input = rt.stdin();
+    for _ in 0..read::next(&mut input)? {
+        case(&rt, &mut input)?;
     }
+    Ok(())
 }

@@ -1,45 +1,50 @@
 // Answers on standard output.
-use libc::STDOUT_FILENO;
+use std::io;
 use word::answer::Answer;
 use word::word;
 
-pub fn text(bytes: &[u8]) {
-    io::write_all(STDOUT_FILENO, bytes);
+pub fn text(rt: &impl Print, bytes: &[u8]) -> io::Result<()> {
+    rt.write_all(bytes)
 }
 
 // A number, and what stands behind it.
-pub fn number(n: u64, behind: &[u8]) {
-    io::print_decimal(STDOUT_FILENO, n);
-    text(behind);
+pub fn number(rt: &impl Print, n: u64, behind: &[u8]) -> io::Result<()> {
+    print!(rt; "{n}")?;
+    text(rt, behind)
 }
 
 // The number and the three details.
-pub fn answer(a: Answer) {
-    number(a.number as u64, b" ");
-    number(a.first as u64, b" ");
-    number(a.second as u64, b" ");
-    number(a.third as u64, b"");
+pub fn answer(rt: &impl Print, a: Answer) -> io::Result<()> {
+    number(rt, a.number as u64, b" ")?;
+    number(rt, a.first as u64, b" ")?;
+    number(rt, a.second as u64, b" ")?;
+    number(rt, a.third as u64, b"")
 }
 
-pub fn end() {
-    text(b"\n");
+pub fn end(rt: &impl Print) -> io::Result<()> {
+    text(rt, b"\n")
 }
 
 // A word's position and its hex digits.
-fn change(at: usize, w: u32) {
-    number(at as u64, b":");
-    io::print_hex(STDOUT_FILENO, w as u64, 8);
+fn change(rt: &impl Print, at: usize, w: u32) -> io::Result<()> {
+    number(rt, at as u64, b":")?;
+    print!(rt; "{w:08x}")
 }
 
 // The words of a list that are not what they were, each between two texts.
-pub fn changes(before: &[u32], after: &[u32], ahead: &[u8], behind: &[u8]) {
-    let mut i: usize = 0;
-    while i < after.len() {
+pub fn changes(
+    rt: &impl Print,
+    before: &[u32],
+    after: &[u32],
+    ahead: &[u8],
+    behind: &[u8],
+) -> io::Result<()> {
+    for i in 0..after.len() {
         if word(before, i) != after[i] {
-            text(ahead);
-            change(i, after[i]);
-            text(behind);
+            text(rt, ahead)?;
+            change(rt, i, after[i])?;
+            text(rt, behind)?;
         }
-        i += 1;
     }
+    Ok(())
 }

@@ -1,7 +1,8 @@
 // Words and bytes from standard input.
 ghost use Rattle.std.specs.Prelude.{◌<◌, ◌≤◌};
 
-use libc::STDIN_FILENO;
+use std::io;
+use std::io::{ErrorKind, Read};
 use word::word;
 
 fn wide(b: u8) -> u32
@@ -11,23 +12,30 @@ fn wide(b: u8) -> u32
 }
 
 // The next bytes of the input; those behind its end stay as they are.
-pub fn bytes(space: &mut [u8]) {
-    io::read_full(STDIN_FILENO, space);
+pub fn bytes(input: &mut impl Read, space: &mut [u8]) -> io::Result<()> {
+    match input.read_exact(space) {
+        Err(e) if e.kind() == ErrorKind::UnexpectedEof => Ok(()),
+        read => read,
+    }
 }
 
 // The next word of the input, low byte first, 0 behind its end.
-pub fn next() -> u32 {
+pub fn next(input: &mut impl Read) -> io::Result<u32> {
     let mut four = [0u8; 4];
-    io::read_full(STDIN_FILENO, &mut four);
-    wide(four[0]) + 0x100 * wide(four[1]) + 0x1_0000 * wide(four[2]) + 0x100_0000 * wide(four[3])
+    bytes(input, &mut four)?;
+    Ok(
+        wide(four[0])
+            + 0x100 * wide(four[1])
+            + 0x1_0000 * wide(four[2])
+            + 0x100_0000 * wide(four[3]),
+    )
 }
 
-pub fn words(space: &mut [u32]) {
-    let mut i: usize = 0;
-    while i < space.len() {
-        space[i] = next();
-        i += 1;
+pub fn words(input: &mut impl Read, space: &mut [u32]) -> io::Result<()> {
+    for w in space.iter_mut() {
+        *w = next(input)?;
     }
+    Ok(())
 }
 
 // A length that the input gives, at most what there is space for.
@@ -46,9 +54,7 @@ pub fn length(head: &[u32], at: usize, space: usize) -> usize
 }
 
 pub fn copy(list: &[u32], space: &mut [u32]) {
-    let mut i: usize = 0;
-    while i < space.len() {
+    for i in 0..space.len() {
         space[i] = word(list, i);
-        i += 1;
     }
 }
