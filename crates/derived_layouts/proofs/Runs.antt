@@ -6,7 +6,6 @@ use mathlib.Core.List.{List, [], ◌∷◌, ◌++◌}
 use lib.Dec.{eqb}
 use Rattle.word.specs.Answers.{accepted}
 use Rattle.word.specs.Lists.{among}
-use Rattle.word.proofs.Truth.{first}
 use Rattle.layouts.specs.Meaning.{Layout}
 use Rattle.layouts.specs.Format.{layout_well_formed, layout_good, decode_layout, encode_layout}
 use Rattle.sizes.specs.Format.{decode_sizes}
