@@ -95,8 +95,9 @@ def made(path):
     return bool(re.search(r"\.proofs\..*\.(Tie|Statement|Goals|Given|Needs)(\.|$)", path))
 
 
-# files in which Rattle's own names stand
-MADE = ("Proof.antt", "Answers.antt", "Invariants.antt")
+# whether a file is one in which Rattle's own names stand: what is written of the proof of one function
+def of_function(path, text):
+    return os.path.basename(path) == "Proof.antt" or bool(re.search(r"^use \S+\.(Goals|Given) as goal$", text, re.M))
 
 
 def main():
@@ -113,7 +114,7 @@ def main():
             if not own(path, crates) or made(path):
                 outside.add(name)
 
-    free = [f for f in antt if os.path.basename(f) not in MADE]
+    free = [f for f in antt if not of_function(f, texts[f])]
     words = collections.defaultdict(set)
     for f in free:
         for p, is_name in pieces(texts[f], False):
@@ -188,7 +189,7 @@ def main():
     for f in glob.glob("crates/*/must-fail/*.edit") + glob.glob("README.md") + glob.glob("docs/**/*.md", recursive=True):
         texts[f] = open(f, encoding="utf8").read()
     for f, t in texts.items():
-        proof = os.path.basename(f) in MADE
+        proof = f.endswith(".antt") and of_function(f, t)
         rust = f.endswith(".rt") or (f.endswith(".edit") and "file: src/" in t)
         out, last = [], ""
         if f.endswith(".md"):
