@@ -14,8 +14,8 @@ refused_long : (xs : List ℕ) → 16384 < length xs → report xs ≡ refused_p
 unfolding report
 refused_long xs h = second_holds (not (eqb (length xs % 4) 0)) (ltb 16384 (length xs)) _ _ (lt-ltb 16384 (length xs) h)
 
-pub report-take : (xs : List ℕ) → report (take 16385 xs) ≡ report xs
-report-take xs =
+pub report_take : (xs : List ℕ) → report (take 16385 xs) ≡ report xs
+report_take xs =
     elim (cases_lt 16384 (length xs)) [
       | inl h ↦
           let long : length (take 16385 xs) ≡ 16385 = length-take-le 16385 xs (omega arith) in
