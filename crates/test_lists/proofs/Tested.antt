@@ -1,14 +1,16 @@
 -- What the program's tests say of the lists, entries and variables that it hands on.
-use Prim.Native.Nat.{ℕ, ◌+◌, ◌*◌, ◌^◌, ◌<◌, ◌≤◌}
+use Prim.Native.Nat.{ℕ, ◌+◌, ◌*◌, ◌%◌, ◌^◌, ◌<◌, ◌≤◌}
 use native.Mathlib.Omega.{arith}
-use mathlib.Core.Path.{◌≡◌, refl, sym}
+use mathlib.Core.Path.{◌≡◌, refl, sym, ◌∙◌}
 use mathlib.Core.Bool.{Bool, true, false, not, ◌&&◌}
 use mathlib.Core.List.{List, [], ◌∷◌}
 use lib.Dec.{leb, ltb}
-use lib.ListN.{length, drop, set, length-drop}
-use borrow.Author.Tests.{eqb-true, not-true, not-false, lt-ltb, le-ltb, ltb-true, leb-true}
+use lib.ListN.{length, take, drop, set, length-drop}
+use lib.Seq.{length-take-le}
+use borrow.Author.Tests.{eqb-true, not-true, not-false, eq-eqb, lt-ltb, le-ltb, ltb-true, leb-true}
 use Rattle.word.specs.Words.{word_at, kind_of, content_of, bits}
-use Rattle.bindings.specs.Format.{place_of, size_limit, size_word, entry_encodable, entry_well_formed, entry_of, parts_well_formed, entry_of_parts}
+use Rattle.bindings.specs.Format.{place_well_formed, place_of, size_limit, size_word, entry_encodable, entry_well_formed, entry_of, parts_well_formed, entry_of_parts}
+use Rattle.bindings.specs.declared.types.ResourceBinding.{ResourceBinding}
 use Rattle.bindings.proofs.EntryFormat.{entry_encodable_lem}
 use Rattle.varying.specs.Format.{var_well_formed, var_of, located_encodable, payload_of, payload_encodable}
 use Rattle.varying.specs.declared.Payload.{Payload}
@@ -17,7 +19,8 @@ use Rattle.varying.proofs.Joined.{var_encodable_lem, payload_encodable_lem}
 use Rattle.layouts.specs.Meaning.{Layout, entry_places, entry_has, find_entry}
 use Rattle.places.specs.Records.{count_of}
 use Rattle.layouts.specs.Format.{entry_fits, decode_layout}
-use Rattle.stage_lists.specs.Format.{read_located, out_well_formed, decode_stage}
+use Rattle.stage_lists.specs.Format.{read_located, out_well_formed, stage_well_formed, decode_stage}
+use Rattle.places.specs.declared.found.Found.{Found}
 use Rattle.places.specs.declared.found.Found.TheVariants.{Nothing}
 use Rattle.places.proofs.PlaceWays.{place_lacks}
 use Rattle.places.proofs.Records.{read_length, room_length}
@@ -25,10 +28,20 @@ use Rattle.layouts.proofs.LayoutWays.{entries_counted}
 use Rattle.stage_lists.proofs.StageWays.{first_there}
 use Rattle.test_lists.specs.Room.{has_room}
 
+-- the parts of a length of two lists of one length
+pub parts_alike : (n m : ℕ) (a b : List ℕ) → n ≤ m → length a ≡ m → length b ≡ m → length (take n a) ≡ length (take n b)
+parts_alike n m a b h p q = length-take-le n a (omega arith) ∙ sym (length-take-le n b (omega arith))
+
 -- ---- layouts
 
 pub entry_there_lem : (l : List ℕ) (n i : ℕ) → n ≡ count_of l → i < n → i < length (decode_layout l).entries
 entry_there_lem l n i e h = rw (entries_counted l, ← e) h
+
+pub group_fits : (p g m : ℕ) → g ≡ m → bits 26 23 p < g → bits 26 23 p < m
+group_fits p g m e h = omega arith
+
+pub found_none : (place : ResourceBinding) (L : Layout) (f : Found) → f ≡ find_entry place L → f ≡ Nothing → find_entry place L ≡ Nothing
+found_none place L f q e = sym q ∙ e
 
 -- well formed words are the parts of an entry, by the size that the third carries
 module _ (p t s v least : ℕ) (q : least ≡ content_of s) where
@@ -52,6 +65,11 @@ module _ (p t s v least : ℕ) (q : least ≡ content_of s) where
 pub place_new : (p t least v : ℕ) (L : Layout) → find_entry (place_of p) L ≡ Nothing → entry_has (entry_of_parts p t least v).bind L.entries ≡ false
 unfolding entry_of
 place_new p t least v L h = sym (place_lacks (place_of p) (entry_places L.entries) (find_entry (place_of p) L) refl h)
+
+-- ---- sizes
+
+pub place_passed : (place : ℕ) → place_well_formed (0x20000000 + place % 0x800_0000) ≡ true
+place_passed place = eq-eqb (kind_of (0x20000000 + place % 0x800_0000)) 4 (omega arith)
 
 -- ---- the list out
 
@@ -89,6 +107,9 @@ module _ (l : List ℕ) (h : has_room l ≡ true) where
   roomy : 2 ≤ length (decode_stage l).room
   unfolding decode_stage
   roomy = omega (arith, long, room_length 2 (count_of l) (drop 2 l), length-drop 2 l)
+
+pub stage_out_lem : (l : List ℕ) (b : Bool) → b ≡ stage_well_formed l → not b ≡ false → out_well_formed l ≡ true
+stage_out_lem l b e h = second (leb (length l) 1024) (out_well_formed l) (told_true b (stage_well_formed l) e h)
 
 pub out_there : (l : List ℕ) (b : Bool) → b ≡ out_well_formed l → not b ≡ false → 1 ≤ length l
 out_there l b e h = first_there l (told_true b (out_well_formed l) e h)
