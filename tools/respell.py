@@ -2,9 +2,10 @@
 """Brings the repository's own definitions, lemmas, variables and modules of specs/ and proofs/ to one spelling:
 snake case for words, upper camel case for types, facts and modules.
 
-usage: python3 tools/respell.py [--list]     at the repository's top, once, after the kit's port.py
+usage: python3 tools/respell.py [--list]     at the repository's top, after the kit's port.py
 
-It goes by whole names. A name that comes from a library, and a name that Rattle makes (in proofs/F/Proof.antt), stays.
+It was made for one run, over the commit that docs/PORT.md begins with. It goes by whole names. A name that comes from a library, and a name
+that Rattle makes (in the files of a function's proof), stays. In pages it turns only names like aName, between backticks.
 --list prints each name with its new spelling, and changes nothing.
 """
 import collections
@@ -26,8 +27,6 @@ OVER = {
     "name-words": "name_word_steps",
     "same-words": "same_words_lem",
 }
-SKIP = set()
-
 DELIM = set(" \t\n(){};,.[]|\"@")
 DASHED = re.compile(r"^[A-Za-z][A-Za-z0-9_'₀₁₂₃₄₅₆₇₈₉]*(-[A-Za-z0-9_'₀₁₂₃₄₅₆₇₈₉]+)+$")
 CAMEL = re.compile(r"^[a-z][a-z0-9_]*[A-Z]")
@@ -36,7 +35,7 @@ CAMEL = re.compile(r"^[a-z][a-z0-9_]*[A-Z]")
 def new_name(t):
     if t in OVER:
         return OVER[t]
-    if t in SKIP or not (DASHED.match(t) or CAMEL.match(t)):
+    if not (DASHED.match(t) or CAMEL.match(t)):
         return t
     if t[0].isupper():
         return t
@@ -126,7 +125,7 @@ def main():
         if os.path.basename(f) == "Proof.antt":
             own_names = set()
             for m in re.finditer(r"^ *(?:abbrev |unfoldable )?(?:pub )?([^\s:(){}]+) :", texts[f], re.M):
-                if m[1] not in ("invariant-loop",) and not re.match(r"(invariant|decreases)-loop", m[1]):
+                if not re.match(r"(invariant|decreases)-loop", m[1]):
                     own_names.add(m[1])
             local[f] = own_names
 
@@ -136,19 +135,19 @@ def main():
         if n != w:
             table[w] = n
 
-    # a lemma that would have its function's name gets _lem
-    functions, lemmas = set(), set()
+    # a lemma that would have a definition's name gets _lem
+    definitions, lemmas = set(), set()
     for f in free:
         for m in re.finditer(r"^ *(abbrev |unfoldable )?(?:pub )?([^\s:(){}]+) :", texts[f], re.M):
-            (functions if m[1] else lemmas).add(m[2])
+            (definitions if m[1] else lemmas).add(m[2])
     alike = collections.defaultdict(set)
     for w in words:
         alike[table.get(w, w)].add(w)
     for n, olds in alike.items():
         if len(olds) > 1:
-            first = [w for w in olds if w in functions] or [w for w in olds if w in table and "-" not in w]
+            first = [w for w in olds if w in definitions] or [w for w in olds if w in table and "-" not in w]
             for w in olds - set(first[:1]):
-                if w in lemmas and w not in functions:
+                if w in lemmas and w not in definitions:
                     table[w] = n + "_lem"
 
     if listing:
@@ -158,8 +157,6 @@ def main():
         for b in list(rev):
             olds = set(rev[b]) | ({b} if b in words and table.get(b, b) == b else set())
             if len(olds) > 1:
-                # do they meet in a file?
-                common = None
                 meet = [f for f in free if sum(f in words[o] for o in olds) > 1]
                 print("TOGETHER", b, sorted(olds), meet[:4])
             if b in outside:
@@ -188,6 +185,7 @@ def main():
     changed = 0
     for f in glob.glob("crates/*/must-fail/*.edit") + glob.glob("README.md") + glob.glob("docs/**/*.md", recursive=True):
         texts[f] = open(f, encoding="utf8").read()
+    texts.pop("docs/PORT.md", None)
     for f, t in texts.items():
         proof = f.endswith(".antt") and of_function(f, t)
         rust = f.endswith(".rt") or (f.endswith(".edit") and "file: src/" in t)
@@ -201,7 +199,7 @@ def main():
             continue
         if f.endswith(".edit"):
             t = t.replace("file: specs/inner/", "file: specs/Inner/")
-        for p, is_name in pieces(t, f.endswith(".rt")):
+        for p, is_name in pieces(t, rust):
             if is_name:
                 if proof:
                     if last != "." or re.search(r"Rattle\.[A-Za-z0-9_.+-]+\.$", "".join(out[-12:])):
@@ -227,4 +225,5 @@ def main():
     print(f"respell: {len(table)} names in {changed} files")
 
 
-main()
+if __name__ == "__main__":
+    main()

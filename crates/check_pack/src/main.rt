@@ -1,6 +1,7 @@
 // Reads a pack's bytes from standard input and prints what the gate says of it: a line for each entry point and the
 // layout words, or why the pack is refused.
-// Where standard input cannot be read it says so on standard error and prints nothing.
+// Where standard input cannot be read or standard output cannot be written it says so on standard error and ends with
+// status 1; in the first case it prints nothing.
 #![tactic(auto)]
 
 ghost use Rattle.std.specs.Prelude.{◌≡◌, ◌<◌, length, take, IfOk, IfSome, OnOk};
