@@ -1,5 +1,6 @@
 -- The resources of an entry point in derived mode: whatever the answer, the layout stays good and loses nothing; where they are accepted, every
 -- resource's place has an entry of the type that it derives, and the stage sees it.
+use Rattle.std.proofs.Common.{Option, Some, None}
 use Prim.Native.Nat.{ℕ, ◌^◌, ◌<◌}
 use native.Mathlib.Omega.{arith}
 use mathlib.Core.Path.{◌≡◌, refl, sym, ◌∙◌}
@@ -24,8 +25,6 @@ use Rattle.word.proofs.Truth.{first, second, by_test, never}
 use Rattle.layouts.specs.Meaning.{Layout, find_entry, entry_places, entry_has, entry_nth, pushed, sees_bit, joined, room_for_entry}
 use Rattle.places.specs.Places.{same_place}
 use Rattle.layouts.specs.Format.{entry_fits, layout_good}
-use Rattle.places.specs.declared.found.Found.{Found}
-use Rattle.places.specs.declared.found.Found.TheVariants.{At, Nothing}
 use Rattle.places.proofs.PlaceLaws.{same_place_refl}
 use Rattle.places.proofs.PlaceWays.{place_lacks}
 use Rattle.layouts.proofs.LayoutLaws.{nth_last, length_join, nth_joined, good_pushed, good_joined}
@@ -92,13 +91,13 @@ module _ (stage : ShaderStage) (named : Bool) (r : Resource) (L : Layout) (g : l
   refuses a f = record { good = g; grows = grows_refl L; placed = λ t. never (eqb a.number 0) t f }
 
   module _ (ty : BindingType) (e : derive_binding_type r.ty named ≡ Der.Binding ty) (h : resource_encodable r ≡ true) where
-    below : (i : ℕ) → find_entry r.bind L ≡ At i → i < length L.entries
+    below : (i : ℕ) → find_entry r.bind L ≡ Some i → i < length L.entries
     below i q = let f = find_sound r.bind L.entries 0 i q in omega (arith, f.sum, f.there)
 
-    lacks : find_entry r.bind L ≡ Nothing → entry_has r.bind L.entries ≡ false
+    lacks : find_entry r.bind L ≡ None → entry_has r.bind L.entries ≡ false
     lacks q = sym (place_lacks r.bind (entry_places L.entries) (find_entry r.bind L) refl q)
 
-    joins : (i : ℕ) → find_entry r.bind L ≡ At i → same_binding ty (entry_nth L.entries i).ty ≡ true → HasEntry stage named r (joined (stage_code stage) L i)
+    joins : (i : ℕ) → find_entry r.bind L ≡ Some i → same_binding ty (entry_nth L.entries i).ty ≡ true → HasEntry stage named r (joined (stage_code stage) L i)
     unfolding joined
     joins i q t =
         let f = find_sound r.bind L.entries 0 i q in
@@ -136,9 +135,9 @@ module _ (stage : ShaderStage) (named : Bool) (r : Resource) (L : Layout) (g : l
         let p : place_encodable r.bind ≡ true = search first in
         rw (p, derived_encodable r.ty named ty (second (place_encodable r.bind) (type_encodable r.ty) h) e, lt-ltb (2 ^ stage_code stage) 32 (bit_short stage), t)
 
-    place_step_lem : ltb r.bind.group L.groups ≡ true → (f : Found) → find_entry r.bind L ≡ f → Stepped stage named r L (place_step stage r.bind ty f L)
+    place_step_lem : ltb r.bind.group L.groups ≡ true → (f : Option ℕ) → find_entry r.bind L ≡ f → Stepped stage named r L (place_step stage r.bind ty f L)
     unfolding occupied vacant
-    place_step_lem l (At i) q =
+    place_step_lem l (Some i) q =
         by_test (same_binding ty (entry_nth L.entries i).ty)
         (λ t.
         rw t
@@ -148,7 +147,7 @@ module _ (stage : ShaderStage) (named : Bool) (r : Resource) (L : Layout) (g : l
           placed = λ z. joins i q t;
         }))
         (λ n. rw n (refuses (binding_answer 29 r.bind) refl))
-    place_step_lem l Nothing q =
+    place_step_lem l None q =
         by_test (room_for_entry L)
         (λ t.
         rw t

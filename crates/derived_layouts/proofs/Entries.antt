@@ -1,4 +1,5 @@
 -- The entries of a layout by position and by place.
+use Rattle.std.proofs.Common.{Some}
 use Prim.Native.Nat.{ℕ, zero, suc, ◌+◌, ◌<◌}
 use native.Mathlib.Omega.{arith}
 use mathlib.Core.Path.{◌≡◌}
@@ -10,7 +11,6 @@ use Rattle.bindings.specs.declared.types.BindGroupLayoutEntry.{BindGroupLayoutEn
 use Rattle.word.proofs.Truth.{by_test, never}
 use Rattle.places.specs.Places.{same_place, place_from, place_in, distinct_places}
 use Rattle.layouts.specs.Meaning.{entry_places, entry_has, distinct_entries, entry_nth}
-use Rattle.places.specs.declared.found.Found.TheVariants.{At}
 use Rattle.places.proofs.PlaceLaws.{same_place_eq, passed_not}
 
 -- an entry of a place at a position
@@ -21,7 +21,7 @@ pub record EntryFoundAt (place : ResourceBinding) (es : List BindGroupLayoutEntr
   pub same : same_place (entry_nth es at).bind place ≡ true
 
 module _ (place : ResourceBinding) where
-  pub find_sound : (es : List BindGroupLayoutEntry) (i j : ℕ) → place_from place (entry_places es) i ≡ At j → EntryFoundAt place es i j
+  pub find_sound : (es : List BindGroupLayoutEntry) (i j : ℕ) → place_from place (entry_places es) i ≡ Some j → EntryFoundAt place es i j
   unfolding place_from entry_nth
   find_sound [] i j h = let z : ◌≡◌ {A = ℕ} 0 1 = cc in absurd (omega arith)
   find_sound (e ∷ es) i j h =
@@ -39,7 +39,7 @@ module _ (place : ResourceBinding) where
 
   -- where places differ, the entry at a place is found at its position
   pub find_unique : (es : List BindGroupLayoutEntry) (i k : ℕ) → distinct_entries es ≡ true → k < length es
-      → same_place (entry_nth es k).bind place ≡ true → place_from place (entry_places es) i ≡ At (i + k)
+      → same_place (entry_nth es k).bind place ≡ true → place_from place (entry_places es) i ≡ Some (i + k)
   unfolding place_from distinct_places entry_nth
   find_unique [] i k d h s = absurd (omega arith)
   find_unique (e ∷ es) i zero d h s = let z : i + 0 ≡ i = omega arith in rw (s, z)

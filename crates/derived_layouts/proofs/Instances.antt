@@ -1,4 +1,5 @@
 -- Demand 3 at work: an instance that meets what the theorem asks for, and packs outside each of its five conditions, refused when put again.
+use Rattle.std.proofs.Common.{None}
 use Prim.Native.Nat.{ℕ, ◌*◌, ◌^◌}
 use mathlib.Core.Path.{◌≡◌, refl}
 use mathlib.Core.Bool.{Bool, true, false, ◌&&◌}
@@ -17,12 +18,10 @@ use Rattle.bindings.specs.declared.types.ImageClass.TheVariants as Class
 use Rattle.bindings.specs.declared.types.Resource.{Resource}
 use Rattle.bindings.specs.declared.types.ResourceType.{ResourceType}
 use Rattle.bindings.specs.declared.types.ResourceType.TheVariants as Res
-use Rattle.varying.specs.declared.Payload.TheVariants as Pay
 use Rattle.interface.specs.Meaning.{Interface, entry_point_nth}
 use Rattle.interface.specs.Format.{stage_code, read_varying, clips, bytes_of, no_zero, all_zero, read_name, read_workgroup, read_mesh, contents, of_type, pairs_of}
 use Rattle.interface.specs.declared.types.ShaderStage.{ShaderStage}
 use Rattle.interface.specs.declared.types.ShaderStage.TheVariants as Stage
-use Rattle.interface.specs.declared.types.MeshRecord.TheVariants as Mesh
 use Rattle.interface.specs.declared.types.Varying.{Varying}
 use Rattle.interface.specs.declared.types.Varying.TheVariants as Var
 use Rattle.interface.specs.declared.types.SamplingPair.{SamplingPair}
@@ -94,8 +93,8 @@ only stage resources indexes pairs outputs =
             name = name;
             dual = false;
             workgroup = record { x = 1; y = 1; z = 1 };
-            payload = Pay.Absent;
-            mesh = Mesh.Absent;
+            payload = None;
+            mesh = None;
             resources = indexes;
             pairs = pairs;
             inputs = [];

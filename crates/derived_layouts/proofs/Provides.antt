@@ -1,4 +1,5 @@
 -- The resources of an entry point in provided mode: accepted where a layout serves each and the size list has room.
+use Rattle.std.proofs.Common.{Some}
 use Prim.Native.Nat.{ℕ, suc, ◌+◌, ◌*◌, ◌≤◌}
 use native.Mathlib.Omega.{arith}
 use mathlib.Core.Path.{◌≡◌, refl, sym, ◌∙◌, ap}
@@ -23,7 +24,6 @@ use Rattle.layouts.specs.Meaning.{Layout, find_entry, distinct_entries}
 use Rattle.sizes.specs.Meaning.{Sizes, size_places, size_has, raise_at, size_record, recorded, size_record_width}
 use Rattle.places.specs.Records.{room_for}
 use Rattle.sizes.specs.declared.size_record.SizeRecord.{SizeRecord}
-use Rattle.places.specs.declared.found.Found.TheVariants.{At}
 use Rattle.sizes.proofs.SizeLaws.{places_raised}
 use Rattle.interface.specs.declared.types.ShaderStage.{ShaderStage}
 use Rattle.resource_steps.specs.Resources.{resource_nth, SizesAfter, sizes_after, record_size, provided_use, provide_step, provide_steps}
@@ -34,8 +34,8 @@ use Rattle.derived_layouts.proofs.Derives.{HasEntry}
 -- ---- one resource against the layout
 
 module _ (stage : ShaderStage) (named : Bool) (r : Resource) (M : Layout) (d : distinct_entries M.entries ≡ true) (p : HasEntry stage named r M) where
-  pub placed_found : find_entry r.bind M ≡ At p.at
-  placed_found = let z : 0 + p.at ≡ p.at = omega arith in find_unique r.bind M.entries 0 p.at d p.there p.place ∙ ap At z
+  pub placed_found : find_entry r.bind M ≡ Some p.at
+  placed_found = let z : 0 + p.at ≡ p.at = omega arith in find_unique r.bind M.entries 0 p.at d p.there p.place ∙ ap Some z
 
   pub placed_serves : type_encodable r.ty ≡ true → resource_reusable r.ty ≡ true → provided_use stage M r ≡ accepted
   unfolding provided_use

@@ -1,4 +1,5 @@
 -- The ways through the inputs of an entry point.
+use Rattle.std.proofs.Common.{Option, Some, None}
 use Prim.Native.Nat.{ℕ, ◌+◌, ◌-◌, ◌/◌, ◌%◌, ◌≤◌}
 use native.Mathlib.Omega.{arith}
 use mathlib.Core.Path.{◌≡◌, refl, sym, ◌∙◌}
@@ -23,10 +24,6 @@ use Rattle.varying.specs.declared.Located.{Located}
 use Rattle.numeric.proofs.Joined.{kind_back}
 use Rattle.stage_lists.specs.Meaning.{varying_at}
 use Rattle.stage_lists.specs.Format.{variable_found}
-use Rattle.places.specs.declared.found.Found.{Found}
-use Rattle.places.specs.declared.found.Found.TheVariants.{At, Nothing}
-use Rattle.stage_lists.specs.declared.types.Provided.{Provided}
-use Rattle.stage_lists.specs.declared.types.Provided.TheVariants as Pro
 use Rattle.interface.specs.Format.{built_in_of}
 use Rattle.interface.specs.Inner.Reads.{varying, varying_width, varyings}
 use Rattle.interface.specs.declared.types.ShaderStage.{ShaderStage}
@@ -84,16 +81,16 @@ fragment_same w p e = rw e (fragment_itself (var_of p))
 pub fragment_read : (w p r : ℕ) (x y : InterfaceVar) → x ≡ var_of w → y ≡ var_of p → r ≡ fragment_input x y → r ≡ fragment_input (var_of w) (var_of p)
 fragment_read w p r x y d e h = rw (← d, ← e) h
 
-pub number_at : (stage s : ShaderStage) (iv : InterfaceVar) (p : Provided) (r : ℕ) → stage ≡ s → r ≡ input_number s iv p → r ≡ input_number stage iv p
+pub number_at : (stage s : ShaderStage) (iv : InterfaceVar) (p : Option InterfaceVar) (r : ℕ) → stage ≡ s → r ≡ input_number s iv p → r ≡ input_number stage iv p
 number_at stage s iv p r d h = rw d h
 
-module _ (stage : ShaderStage) (iv : InterfaceVar) (l : List ℕ) (f : Found) (p : Provided) (e : variable_found l f ≡ p) where
-  pub number_found : (i y r : ℕ) → f ≡ At i → y ≡ word_at l i → r ≡ input_number stage iv (Pro.Var (var_of y)) → r ≡ input_number stage iv p
-  number_found i y r n g h = let q : Pro.Var (var_of (word_at l i)) ≡ p = rw n at e in h ∙ rw (g, q)
+module _ (stage : ShaderStage) (iv : InterfaceVar) (l : List ℕ) (f : Option ℕ) (p : Option InterfaceVar) (e : variable_found l f ≡ p) where
+  pub number_found : (i y r : ℕ) → f ≡ Some i → y ≡ word_at l i → r ≡ input_number stage iv (Some (var_of y)) → r ≡ input_number stage iv p
+  number_found i y r n g h = let q : Some (var_of (word_at l i)) ≡ p = rw n at e in h ∙ rw (g, q)
 
-  pub number_missing : f ≡ Nothing → 50 ≡ input_number stage iv p
+  pub number_missing : f ≡ None → 50 ≡ input_number stage iv p
   unfolding input_number
-  number_missing n = let q : Pro.Missing ≡ p = rw n at e in rw (← q)
+  number_missing n = let q : None ≡ p = rw n at e in rw (← q)
 
 -- ---- the walk
 

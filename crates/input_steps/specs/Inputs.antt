@@ -1,5 +1,5 @@
 -- The inputs of an entry point against what the stage before provides (document 01, 'Inputs, in order'; WebGPU, 'validating inter-stage interfaces').
-use Rattle.std.specs.Prelude.{ℕ, ◌+◌, true, false, ◌||◌, List, [], ◌∷◌, eqb}
+use Rattle.std.specs.Prelude.{ℕ, ◌+◌, true, false, ◌||◌, List, [], ◌∷◌, eqb, Option, Some, None}
 use Rattle.word.specs.Choice.{pick, yes}
 use Rattle.word.specs.Numbers as Number
 use Rattle.word.specs.Answers.{answer, accepted}
@@ -9,8 +9,6 @@ use Rattle.bindings.specs.Rules.{same_bool}
 use Rattle.varying.specs.declared.InterfaceVar.{InterfaceVar}
 use Rattle.varying.specs.declared.Located.{Located}
 use Rattle.stage_lists.specs.Meaning.{varying_at}
-use Rattle.stage_lists.specs.declared.types.Provided.{Provided}
-use Rattle.stage_lists.specs.declared.types.Provided.TheVariants as Pro
 use Rattle.interface.specs.declared.types.ShaderStage.{ShaderStage}
 use Rattle.interface.specs.declared.types.ShaderStage.TheVariants as Stage
 use Rattle.interface.specs.declared.types.BuiltIn.{BuiltIn}
@@ -40,13 +38,13 @@ fragment_input iv provided =
     Number.input_interpolation
 
 -- 'other stages: a local one is 50, or 51 if provided'
-unfoldable pub input_number : ShaderStage → InterfaceVar → Provided → ℕ
-input_number stage iv Pro.Missing = Number.input_missing
-input_number Stage.Vertex iv (Pro.Var provided) = vertex_input iv provided
-input_number Stage.Fragment iv (Pro.Var provided) = fragment_input iv provided
-input_number Stage.Compute iv (Pro.Var provided) = Number.input_type
-input_number Stage.Task iv (Pro.Var provided) = Number.input_type
-input_number Stage.Mesh iv (Pro.Var provided) = Number.input_type
+unfoldable pub input_number : ShaderStage → InterfaceVar → Option InterfaceVar → ℕ
+input_number stage iv None = Number.input_missing
+input_number Stage.Vertex iv (Some provided) = vertex_input iv provided
+input_number Stage.Fragment iv (Some provided) = fragment_input iv provided
+input_number Stage.Compute iv (Some provided) = Number.input_type
+input_number Stage.Task iv (Some provided) = Number.input_type
+input_number Stage.Mesh iv (Some provided) = Number.input_type
 
 abbrev pub start_walk : InputWalk
 start_walk = record { primitive_index = false; draw_index = false; per_vertex = false; locals = 0 }

@@ -7,7 +7,6 @@ ghost use Rattle.bindings.specs.Rules.{same_bool};
 ghost use Rattle.varying.specs.Format.{location_well_formed, var_of};
 ghost use Rattle.stage_lists.specs.Meaning.{varying_at};
 ghost use Rattle.stage_lists.specs.Format.{out_well_formed, decode_stage};
-ghost use Rattle.stage_lists.specs.declared.types.Provided.TheVariants.{Var};
 ghost use Rattle.interface.specs.Format.{built_in_of};
 ghost use Rattle.interface.specs.Inner.Reads.{varying, varying_width, varyings};
 ghost use Rattle.interface.specs.Inner.Parts.{varyings_end};
@@ -16,7 +15,6 @@ ghost use Rattle.input_steps.specs.Inputs.{vertex_input, fragment_input, input_n
 use crate::types::{InputWalk, Walked};
 use interface::reads::{built_in_of, varying_width};
 use interface::types::{BuiltIn, ShaderStage};
-use places::found::Found;
 use stage_lists::stage_io::find_location;
 use varying::{InterfaceVar, location_well_formed, var_of};
 use word::answer::Answer;
@@ -85,7 +83,7 @@ fn fragment_input(w: u32, provided: u32) -> u32
 
 // The refusal of a local input by its word and the provided one's, 0 for none. Compute, task and mesh stages have no local inputs.
 fn provided_number(stage: ShaderStage, w: u32, provided: u32) -> u32
-    ensures value { result ≡ input_number stage (var_of w) (Var (var_of provided)) }
+    ensures value { result ≡ input_number stage (var_of w) (Some (var_of provided)) }
     ensures upper_bound { result ≤ 54 }
 {
     match stage {
@@ -104,8 +102,8 @@ fn input_number(stage: ShaderStage, inputs: &[u32], location: u32, w: u32, near:
     ensures upper_bound { result ≤ 54 }
 {
     match find_location(inputs, location, near) {
-        Found::At { index } => provided_number(stage, w, inputs[index]),
-        Found::Nothing => numbers::INPUT_MISSING,
+        Some(index) => provided_number(stage, w, inputs[index]),
+        None => numbers::INPUT_MISSING,
     }
 }
 

@@ -2,7 +2,7 @@
 use word::answer::Answer;
 
 // What the walk over an entry point's inputs has met.
-#[derive(Clone, Copy)]
+#[derive(Clone, Copy, Debug, PartialEq, Eq)]
 pub struct InputWalk {
     pub primitive_index: bool,
     pub draw_index: bool,
@@ -11,7 +11,7 @@ pub struct InputWalk {
 }
 
 // A walk as far as it went, and its answer.
-#[derive(Clone, Copy)]
+#[derive(Clone, Copy, Debug, PartialEq, Eq)]
 pub struct Walked {
     pub walk: InputWalk,
     pub answer: Answer,

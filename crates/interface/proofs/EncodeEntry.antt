@@ -1,4 +1,5 @@
 -- An entry point that was written is read.
+use Rattle.std.proofs.Common.{Option, Some, None}
 use Prim.Native.Nat.{ℕ, zero, suc, ◌+◌, ◌*◌, ◌^◌, ◌<◌, ◌≤◌}
 use native.Mathlib.Omega.{arith}
 use mathlib.Core.Path.{◌≡◌, refl, ap}
@@ -28,13 +29,12 @@ use Rattle.interface.specs.declared.types.ShaderStage.{ShaderStage}
 use Rattle.interface.specs.declared.types.ShaderStage.TheVariants as Stage
 use Rattle.interface.specs.declared.types.PrimitiveTopology.{PrimitiveTopology}
 use Rattle.interface.specs.declared.types.PrimitiveTopology.TheVariants as Top
-use Rattle.interface.specs.declared.types.MeshRecord.{MeshRecord}
-use Rattle.interface.specs.declared.types.MeshRecord.TheVariants as Mesh
 use Rattle.interface.specs.declared.types.SamplingPair.{SamplingPair}
 use Rattle.interface.specs.declared.types.WorkgroupSize.{WorkgroupSize}
 use Rattle.interface.proofs.EncodeRecords.{words_got, records_got}
 use Rattle.interface.proofs.EncodeNames.{name_got}
 use Rattle.interface.proofs.EncodeVaryings.{varying_got}
+use Rattle.interface.specs.declared.types.EntryPointMeshInfo.{EntryPointMeshInfo}
 
 -- ---- codes, there and back
 
@@ -83,10 +83,10 @@ workgroup_got g rest h =
     let z : Of 8 g.z (of_kind 8 g.z) = search (of_kind_lem, first, second) in
     rw (x.is, y.is, z.is, x.holds, y.holds, z.holds)
 
-mesh_got : (m : MeshRecord) (rest : List ℕ) → mesh_encodable m ≡ true → read_mesh (eqb (mesh_flag m) 1) (mesh_words m ++ rest) ≡ got m rest
+mesh_got : (m : Option EntryPointMeshInfo) (rest : List ℕ) → mesh_encodable m ≡ true → read_mesh (eqb (mesh_flag m) 1) (mesh_words m ++ rest) ≡ got m rest
 unfolding read_mesh
-mesh_got Mesh.Absent rest h = refl
-mesh_got (Mesh.Info info) rest h =
+mesh_got None rest h = refl
+mesh_got (Some info) rest h =
     let k : ℕ = topology_code info.primitive_topology in
     let b : k < 5 = topology_below info.primitive_topology in
     let x : Of 10 info.max_vertices (of_kind 10 info.max_vertices) = search (of_kind_lem, first) in
@@ -145,9 +145,9 @@ module _ (rs : List Resource) (few : length rs ≤ 128) (listed : List ℕ) wher
 
 -- ---- the first word and the counts
 
-mesh_below : (m : MeshRecord) → mesh_flag m < 2
-mesh_below Mesh.Absent = omega arith
-mesh_below (Mesh.Info info) = omega arith
+mesh_below : (m : Option EntryPointMeshInfo) → mesh_flag m < 2
+mesh_below None = omega arith
+mesh_below (Some info) = omega arith
 
 pub record HeadWord (e : EntryPoint) (w : ℕ) : Type 0 where
   pub kind : kind_of w ≡ 7

@@ -1,4 +1,5 @@
 -- What the definitions say of the pack of document 01's listing: one vertex entry point 'main' with a uniform buffer of 64 bytes at group 0, binding 3.
+use Rattle.std.proofs.Common.{None}
 use Prim.Native.Nat.{ℕ, ◌%◌, ◌^◌}
 use mathlib.Core.Path.{◌≡◌, refl}
 use mathlib.Core.Bool.{true, false}
@@ -12,13 +13,11 @@ use Rattle.bindings.specs.Format.{read_resource, resource_type_well_formed, reso
 use Rattle.bindings.specs.declared.types.AddressSpace.TheVariants as Space
 use Rattle.bindings.specs.declared.types.ResourceType.TheVariants as Res
 use Rattle.varying.specs.Format.{payload_well_formed, payload_of, payload_word}
-use Rattle.varying.specs.declared.Payload.TheVariants as Pay
 use Rattle.interface.specs.Meaning.{Interface}
 use Rattle.interface.specs.Format.{Pack, read_name, bytes_of, no_zero, all_zero, read_workgroup, read_mesh, read_varying, contents, pairs_of, clips, of_type, read_entry_point}
 use Rattle.interface.specs.Format.{same_bytes, has_name, distinct_names, read_pack, damaged, decode, decoded_number, pack_name, entry_point_words, record_words, encode}
 use Rattle.interface.specs.Encodable.{entry_point_encodable, interface_encodable}
 use Rattle.interface.specs.declared.types.ShaderStage.TheVariants as Stage
-use Rattle.interface.specs.declared.types.MeshRecord.TheVariants as Mesh
 
 pub listing : List ℕ
 listing =
@@ -55,8 +54,8 @@ listed =
             name = 0x6d ∷ 0x61 ∷ 0x69 ∷ 0x6e ∷ [];
             dual = false;
             workgroup = record { x = 0; y = 0; z = 0 };
-            payload = Pay.Absent;
-            mesh = Mesh.Absent;
+            payload = None;
+            mesh = None;
             resources = 0 ∷ [];
             pairs = [];
             inputs = [];

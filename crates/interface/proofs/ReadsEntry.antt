@@ -1,4 +1,5 @@
 -- An entry point that was read is the one whose parts stand at the positions that its words give.
+use Rattle.std.proofs.Common.{Option, None}
 use Prim.Native.Nat.{ℕ, ◌+◌}
 use native.Mathlib.Omega.{arith}
 use native.Mathlib.Nat.{add-zero}
@@ -18,11 +19,10 @@ use Rattle.interface.specs.Format.{read_varying, read_name, read_workgroup, read
 use Rattle.interface.specs.Inner.Reads.{varying, varyings, standing}
 use Rattle.interface.specs.Inner.Parts.{varying_end, varyings_end, parts_at, entry_end, entry_point_at}
 use Rattle.interface.specs.declared.types.Varying.{Varying}
-use Rattle.interface.specs.declared.types.MeshRecord.{MeshRecord}
-use Rattle.interface.specs.declared.types.MeshRecord.TheVariants as Mesh
 use Rattle.interface.specs.declared.types.WorkgroupSize.{WorkgroupSize}
 use Rattle.interface.proofs.ReadsRecords.{ReadsAt, several_records}
 use Rattle.interface.proofs.ReadsVaryings.{varying_stands, varyings_from}
+use Rattle.interface.specs.declared.types.EntryPointMeshInfo.{EntryPointMeshInfo}
 
 abbrev workgroup_of : List ℕ → ℕ → WorkgroupSize
 workgroup_of P at = record { x = content_of (word_at P at); y = content_of (word_at P (at + 1)); z = content_of (word_at P (at + 2)) }
@@ -43,8 +43,8 @@ module _ (P t : List ℕ) (at : ℕ) (ws : List ℕ) (s : Stands P t at ws) wher
   workgroup_reads g rest e =
       three_words P t at (of_word 8) (of_word 8) (of_word 8) (λ x y z. record { x = content_of x; y = content_of y; z = content_of z }) ws s g rest e
 
-  mesh_reads : (marked : Bool) (mesh : MeshRecord) (rest : List ℕ) → read_mesh marked ws ≡ got mesh rest
-      → (mesh ≡ pick marked (mesh_info (word_at P at) (word_at P (at + 1)) (word_at P (at + 2))) Mesh.Absent) × Stands P t (at + pick marked 3 0) rest
+  mesh_reads : (marked : Bool) (mesh : Option EntryPointMeshInfo) (rest : List ℕ) → read_mesh marked ws ≡ got mesh rest
+      → (mesh ≡ pick marked (mesh_info (word_at P at) (word_at P (at + 1)) (word_at P (at + 2))) None) × Stands P t (at + pick marked 3 0) rest
   unfolding read_mesh
   mesh_reads false mesh rest e = let wr : ws ≡ rest = cc in (cc, rw (add-zero at, ← wr) s)
   mesh_reads true mesh rest e = three_words P t at (of_word 10) (of_word 10) topology_well_formed mesh_info ws s mesh rest e

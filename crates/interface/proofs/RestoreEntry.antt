@@ -1,4 +1,5 @@
 -- An entry point that was read, written again, is what stood there.
+use Rattle.std.proofs.Common.{Option, None}
 use Prim.Native.Nat.{ℕ, ◌+◌, ◌*◌, ◌^◌, ◌<◌}
 use native.Mathlib.Omega.{arith}
 use mathlib.Core.Path.{◌≡◌, refl, sym, ◌∙◌}
@@ -20,13 +21,12 @@ use Rattle.varying.specs.Format.{payload_well_formed}
 use Rattle.varying.proofs.Joined.{payload_written}
 use Rattle.interface.specs.Format.{stage_at, stage_code, topology_at, topology_code, topology_well_formed, of_word, read_workgroup, workgroup_words, read_mesh, mesh_words, mesh_flag, mesh_info, head_well_formed}
 use Rattle.interface.specs.Format.{counts_well_formed, index_well_formed, index_words, contents, pair_well_formed, pair_of, pair_words, pairs_of, read_name, read_varying, varying_words, clips, entry_point_words, read_entry_point}
-use Rattle.interface.specs.declared.types.MeshRecord.{MeshRecord}
-use Rattle.interface.specs.declared.types.MeshRecord.TheVariants as Mesh
 use Rattle.interface.specs.declared.types.WorkgroupSize.{WorkgroupSize}
 use Rattle.interface.proofs.EncodeEntry.{entry_on, laid}
 use Rattle.interface.proofs.RestoreRecords.{Restores, got_as, one_then, several_then, words_then}
 use Rattle.interface.proofs.RestoreNames.{name_back}
 use Rattle.interface.proofs.RestoreVaryings.{varying_back}
+use Rattle.interface.specs.declared.types.EntryPointMeshInfo.{EntryPointMeshInfo}
 
 -- ---- words
 
@@ -91,9 +91,9 @@ workgroup_back ws g rest e =
     got_as (λ g rest. ws ≡ workgroup_words g ++ rest) _ g r₃ rest e₃ (rw (q₁, q₂, q₃, kind_back 8 x f₁, kind_back 8 y f₂, kind_back 8 z f₃))
 
 -- a mesh record, which is there if marked
-mesh_back : (b : Bool) (ws : List ℕ) (m : MeshRecord) (rest : List ℕ) → read_mesh b ws ≡ got m rest → (mesh_flag m ≡ flag b) × (ws ≡ mesh_words m ++ rest)
+mesh_back : (b : Bool) (ws : List ℕ) (m : Option EntryPointMeshInfo) (rest : List ℕ) → read_mesh b ws ≡ got m rest → (mesh_flag m ≡ flag b) × (ws ≡ mesh_words m ++ rest)
 unfolding read_mesh yes
-mesh_back false ws m rest e = got_as (λ m rest. (mesh_flag m ≡ 0) × (ws ≡ mesh_words m ++ rest)) Mesh.Absent m ws rest e (refl, refl)
+mesh_back false ws m rest e = got_as (λ m rest. (mesh_flag m ≡ 0) × (ws ≡ mesh_words m ++ rest)) None m ws rest e (refl, refl)
 mesh_back true ws m rest e =
     one_then (of_word 10) ws _ m rest e λ x r₁ f₁ q₁ e₁.
     one_then (of_word 10) r₁ _ m rest e₁ λ y r₂ f₂ q₂ e₂.

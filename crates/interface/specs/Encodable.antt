@@ -1,5 +1,5 @@
 -- What a pack can hold: the ranges of an interface's numbers, and document 01's rules on what it lists.
-use Rattle.std.specs.Prelude.{ℕ, Bool, true, ◌&&◌, List, leb, ltb, length}
+use Rattle.std.specs.Prelude.{ℕ, Bool, true, ◌&&◌, List, leb, ltb, length, Option, Some, None}
 use Rattle.word.specs.Words.{content}
 use Rattle.word.specs.Lists.{every}
 use Rattle.bindings.specs.Format.{resource_encodable}
@@ -7,13 +7,12 @@ use Rattle.bindings.specs.declared.types.Resource.{Resource}
 use Rattle.varying.specs.Format.{var_encodable, payload_encodable}
 use Rattle.interface.specs.Meaning.{EntryPoint, Interface}
 use Rattle.interface.specs.Format.{most_words, most_resources, most_entries, most_bytes, no_zero, pair_good, clips, distinct_names, limit_numbers, encode}
-use Rattle.interface.specs.declared.types.MeshRecord.{MeshRecord}
-use Rattle.interface.specs.declared.types.MeshRecord.TheVariants as Mesh
 use Rattle.interface.specs.declared.types.BuiltIn.{BuiltIn}
 use Rattle.interface.specs.declared.types.BuiltIn.TheVariants as In
 use Rattle.interface.specs.declared.types.Varying.{Varying}
 use Rattle.interface.specs.declared.types.Varying.TheVariants as Var
 use Rattle.interface.specs.declared.types.WorkgroupSize.{WorkgroupSize}
+use Rattle.interface.specs.declared.types.EntryPointMeshInfo.{EntryPointMeshInfo}
 
 -- 'name bytes 22–16, 1–64', 'no zero byte inside'
 abbrev pub name_encodable : List ℕ → Bool
@@ -22,9 +21,9 @@ name_encodable name = leb 1 (length name) && (leb (length name) most_bytes && (n
 abbrev pub workgroup_encodable : WorkgroupSize → Bool
 workgroup_encodable size = content size.x && (content size.y && content size.z)
 
-abbrev pub mesh_encodable : MeshRecord → Bool
-mesh_encodable Mesh.Absent = true
-mesh_encodable (Mesh.Info info) = content info.max_vertices && content info.max_primitives
+abbrev pub mesh_encodable : Option EntryPointMeshInfo → Bool
+mesh_encodable None = true
+mesh_encodable (Some info) = content info.max_vertices && content info.max_primitives
 
 -- '7–0 array size for 4, else inter-stage slots'; 'code 4 stands only among outputs', where the codes are those below 5
 abbrev pub built_in_encodable : ℕ → BuiltIn → Bool

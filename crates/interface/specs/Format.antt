@@ -1,5 +1,5 @@
 -- How words carry a module pack: a grammar in document 01's order, and the words of a pack.
-use Rattle.std.specs.Prelude.{ℕ, zero, suc, ◌+◌, ◌-◌, ◌*◌, ◌/◌, ◌%◌, ◌^◌, Bool, true, false, not, ◌&&◌, ◌||◌, List, [], ◌∷◌, ◌++◌, eqb, leb, ltb, length, take, drop}
+use Rattle.std.specs.Prelude.{ℕ, zero, suc, ◌+◌, ◌-◌, ◌*◌, ◌/◌, ◌%◌, ◌^◌, Bool, true, false, not, ◌&&◌, ◌||◌, List, [], ◌∷◌, ◌++◌, eqb, leb, ltb, length, take, drop, Option, Some, None}
 use Rattle.word.specs.Choice.{pick}
 use Rattle.word.specs.Numbers as Number
 use Rattle.word.specs.Words.{word_at, kind_of, content_of, bits, bit, of_kind, closing_sum, sum_of}
@@ -17,8 +17,6 @@ use Rattle.interface.specs.declared.types.ShaderStage.{ShaderStage}
 use Rattle.interface.specs.declared.types.ShaderStage.TheVariants as Stage
 use Rattle.interface.specs.declared.types.PrimitiveTopology.{PrimitiveTopology}
 use Rattle.interface.specs.declared.types.PrimitiveTopology.TheVariants as Top
-use Rattle.interface.specs.declared.types.MeshRecord.{MeshRecord}
-use Rattle.interface.specs.declared.types.MeshRecord.TheVariants as Mesh
 use Rattle.interface.specs.declared.types.BuiltIn.{BuiltIn}
 use Rattle.interface.specs.declared.types.BuiltIn.TheVariants as In
 use Rattle.interface.specs.declared.types.Varying.{Varying}
@@ -26,6 +24,7 @@ use Rattle.interface.specs.declared.types.Varying.TheVariants as Var
 use Rattle.interface.specs.declared.types.SamplingPair.{SamplingPair}
 use Rattle.interface.specs.declared.types.WorkgroupSize.{WorkgroupSize}
 use Rattle.interface.specs.declared.types.Limits.{Limits}
+use Rattle.interface.specs.declared.types.EntryPointMeshInfo.{EntryPointMeshInfo}
 
 -- ---- the format's limits
 
@@ -159,13 +158,13 @@ read_workgroup ws =
 abbrev pub topology_well_formed : ℕ → Bool
 topology_well_formed w = of_word 10 w && ltb (content_of w) 5
 
-abbrev pub mesh_info : ℕ → ℕ → ℕ → MeshRecord
+abbrev pub mesh_info : ℕ → ℕ → ℕ → Option EntryPointMeshInfo
 mesh_info vertices primitives topology =
-    Mesh.Info (record { max_vertices = content_of vertices; max_primitives = content_of primitives; primitive_topology = topology_at (content_of topology) })
+    Some (record { max_vertices = content_of vertices; max_primitives = content_of primitives; primitive_topology = topology_at (content_of topology) })
 
 -- 'if marked, three words kind 10: most vertices, most primitives, topology'
-unfoldable pub read_mesh : Bool → List ℕ → Parsed MeshRecord
-read_mesh false ws = got Mesh.Absent ws
+unfoldable pub read_mesh : Bool → List ℕ → Parsed (Option EntryPointMeshInfo)
+read_mesh false ws = got None ws
 read_mesh true ws =
     next (one (of_word 10) ws) λ vertices rest.
     next (one (of_word 10) rest) λ primitives rest.
@@ -373,13 +372,13 @@ pack_name (a ∷ b ∷ []) = (a + 2 ^ 8 * b) ∷ []
 pack_name (a ∷ b ∷ c ∷ []) = (a + 2 ^ 8 * b + 2 ^ 16 * c) ∷ []
 pack_name (a ∷ b ∷ c ∷ d ∷ bytes) = (a + 2 ^ 8 * b + 2 ^ 16 * c + 2 ^ 24 * d) ∷ pack_name bytes
 
-abbrev pub mesh_flag : MeshRecord → ℕ
-mesh_flag Mesh.Absent = 0
-mesh_flag (Mesh.Info info) = 1
+abbrev pub mesh_flag : Option EntryPointMeshInfo → ℕ
+mesh_flag None = 0
+mesh_flag (Some info) = 1
 
-abbrev pub mesh_words : MeshRecord → List ℕ
-mesh_words Mesh.Absent = []
-mesh_words (Mesh.Info info) =
+abbrev pub mesh_words : Option EntryPointMeshInfo → List ℕ
+mesh_words None = []
+mesh_words (Some info) =
     of_kind 10 info.max_vertices ∷ of_kind 10 info.max_primitives ∷ of_kind 10 (topology_code info.primitive_topology) ∷ []
 
 abbrev pub workgroup_words : WorkgroupSize → List ℕ

@@ -1,16 +1,13 @@
 -- What a module pack holds (document 01, 'Module pack', 'Entry point', 'Varying').
-use Rattle.std.specs.Prelude.{ℕ, zero, suc, Bool, false, List, [], ◌∷◌}
+use Rattle.std.specs.Prelude.{ℕ, zero, suc, Bool, false, List, [], ◌∷◌, Option, None}
 use Rattle.bindings.specs.declared.types.Resource.{Resource}
-use Rattle.varying.specs.declared.Payload.{Payload}
 use Rattle.interface.specs.declared.types.ShaderStage.{ShaderStage}
-use Rattle.interface.specs.declared.types.MeshRecord.{MeshRecord}
 use Rattle.interface.specs.declared.types.Varying.{Varying}
 use Rattle.interface.specs.declared.types.SamplingPair.{SamplingPair}
 use Rattle.interface.specs.declared.types.WorkgroupSize.{WorkgroupSize}
 use Rattle.interface.specs.declared.types.Limits.{Limits}
-use Rattle.interface.specs.declared.types.MeshRecord.TheVariants as Mesh
 use Rattle.interface.specs.declared.types.ShaderStage.TheVariants as Stage
-use Rattle.varying.specs.declared.Payload.TheVariants as Pay
+use Rattle.interface.specs.declared.types.EntryPointMeshInfo.{EntryPointMeshInfo}
 
 -- an entry point; its resources and the members of its pairs are indexes of the pack's resources, and its name is bytes
 pub record EntryPoint : Type 0 where
@@ -18,8 +15,8 @@ pub record EntryPoint : Type 0 where
   pub name : List ℕ
   pub dual : Bool
   pub workgroup : WorkgroupSize
-  pub payload : Payload
-  pub mesh : MeshRecord
+  pub payload : Option ℕ
+  pub mesh : Option EntryPointMeshInfo
   pub resources : List ℕ
   pub pairs : List SamplingPair
   pub inputs : List Varying
@@ -38,8 +35,8 @@ empty_entry_point =
       name = [];
       dual = false;
       workgroup = record { x = 0; y = 0; z = 0 };
-      payload = Pay.Absent;
-      mesh = Mesh.Absent;
+      payload = None;
+      mesh = None;
       resources = [];
       pairs = [];
       inputs = [];

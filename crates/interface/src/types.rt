@@ -1,40 +1,34 @@
 // What an entry point is made of.
 use varying::InterfaceVar;
 
-#[derive(Clone, Copy)]
+#[derive(Clone, Copy, Debug, PartialEq, Eq)]
 pub enum ShaderStage {
-    Vertex,
-    Fragment,
-    Compute,
-    Task,
-    Mesh,
+    Vertex = 0,
+    Fragment = 1,
+    Compute = 2,
+    Task = 3,
+    Mesh = 4,
 }
 
-#[derive(Clone, Copy)]
+#[derive(Clone, Copy, Debug, PartialEq, Eq)]
 pub enum PrimitiveTopology {
-    PointList,
-    LineList,
-    LineStrip,
-    TriangleList,
-    TriangleStrip,
+    PointList = 0,
+    LineList = 1,
+    LineStrip = 2,
+    TriangleList = 3,
+    TriangleStrip = 4,
 }
 
 // What a mesh stage puts out at most.
-#[derive(Clone, Copy)]
+#[derive(Clone, Copy, Debug, PartialEq, Eq)]
 pub struct EntryPointMeshInfo {
     pub max_vertices: u32,
     pub max_primitives: u32,
     pub primitive_topology: PrimitiveTopology,
 }
 
-#[derive(Clone, Copy)]
-pub enum MeshRecord {
-    Absent,
-    Info { info: EntryPointMeshInfo },
-}
-
 // A built-in variable: how many inter-stage slots it takes, and of clip distances how many there are.
-#[derive(Clone, Copy)]
+#[derive(Clone, Copy, Debug, PartialEq, Eq)]
 pub enum BuiltIn {
     Other { places: u32 },
     PrimitiveIndex { places: u32 },
@@ -50,14 +44,14 @@ pub enum Varying {
 }
 
 // A texture that a shader samples with a sampler, both by their index among the pack's resources.
-#[derive(Clone, Copy)]
+#[derive(Clone, Copy, Debug, PartialEq, Eq)]
 pub struct SamplingPair {
     pub texture: u32,
     pub sampler: u32,
 }
 
 // A workgroup's dimensions.
-#[derive(Clone, Copy)]
+#[derive(Clone, Copy, Debug, PartialEq, Eq)]
 pub struct WorkgroupSize {
     pub x: u32,
     pub y: u32,
@@ -65,7 +59,7 @@ pub struct WorkgroupSize {
 }
 
 // The limits that a pack is checked against.
-#[derive(Clone, Copy)]
+#[derive(Clone, Copy, Debug, PartialEq, Eq)]
 pub struct Limits {
     pub max_inter_stage_shader_variables: u32,
     pub max_color_attachments: u32,
@@ -83,7 +77,7 @@ pub struct Limits {
 }
 
 // Where the parts of an entry point stand in the pack. The payload is the word behind the workgroup size, and a mesh record follows it.
-#[derive(Clone, Copy)]
+#[derive(Clone, Copy, Debug, PartialEq, Eq)]
 pub struct EntryParts {
     pub head: usize,
     pub workgroup: usize,

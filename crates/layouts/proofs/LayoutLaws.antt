@@ -1,4 +1,5 @@
 -- What is done to a layout, over its meaning: a new entry, a stage joined, and the rules that stay.
+use Rattle.std.proofs.Common.{Some}
 use Prim.Native.Nat.{ℕ, zero, suc, ◌+◌, ◌<◌, ◌≤◌}
 use native.Mathlib.Omega.{arith}
 use mathlib.Core.Path.{◌≡◌, refl, sym, ap, ◌∙◌}
@@ -16,7 +17,6 @@ use Rattle.word.proofs.Truth.{first, second, never, all_below, below_all}
 use Rattle.layouts.specs.Meaning.{Layout, entry_places, entry_has, find_entry, entry_nth, empty_entry, pushed, sees_bit, join_bit, seen_by, join_at, joined}
 use Rattle.places.specs.Places.{same_place}
 use Rattle.layouts.specs.Format.{entry_fits, layout_good}
-use Rattle.places.specs.declared.found.Found.TheVariants.{At}
 use Rattle.places.proofs.Records.{every_more, every_set, every_nth}
 use Rattle.places.proofs.PlaceLaws.{distinct_last, found_last, found_kept}
 use Rattle.layouts.proofs.LayoutLists.{Good, good, is_good}
@@ -140,7 +140,7 @@ module _ (L : Layout) (h : layout_good L ≡ true) where
 
 -- after a push the new place is found at the new last position, other places where they were
 pub find_pushed : (L : Layout) (e : BindGroupLayoutEntry) → entry_has e.bind L.entries ≡ false
-    → find_entry e.bind (pushed L e) ≡ At (length L.entries)
+    → find_entry e.bind (pushed L e) ≡ Some (length L.entries)
 unfolding pushed
 find_pushed L e h =
     let z : 0 + length (entry_places L.entries) ≡ length L.entries = omega (arith, length-map L.entries (λ e. e.bind)) in

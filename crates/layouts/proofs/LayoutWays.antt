@@ -1,4 +1,5 @@
 -- The code's ways through a layout list.
+use Rattle.std.proofs.Common.{Option}
 use Prim.Native.Nat.{ℕ, ◌+◌, ◌*◌, ◌%◌, ◌<◌, ◌≤◌}
 use native.Mathlib.Omega.{arith}
 use mathlib.Core.Path.{◌≡◌, sym, ◌∙◌}
@@ -18,7 +19,6 @@ use Rattle.places.specs.Places.{place_from, distinct_places, found_below, places
 use Rattle.layouts.specs.Meaning.{distinct_entries, entry_places, find_entry, entry_nth, empty_entry}
 use Rattle.places.specs.Records.{each, count_of}
 use Rattle.layouts.specs.Format.{groups_of, read_entry, entry_good, read_entries, layout_head, layout_well_formed, decode_layout, used_words}
-use Rattle.places.specs.declared.found.Found.{Found}
 use Rattle.places.proofs.Records.{each_weaker, read_length, read_mapped, nth_record}
 use Rattle.layouts.proofs.LayoutLists.{well_formed}
 use Rattle.layouts.proofs.LayoutLaws.{nth_get_or}
@@ -60,7 +60,7 @@ entry_places_lem n ws = read_mapped 4 read_entry (λ e. e.bind) n ws
 pub entries_distinct : (n : ℕ) (ws : List ℕ) (r : Bool) → r ≡ distinct_places (places 4 n ws) → r ≡ distinct_entries (read_entries n ws)
 entries_distinct n ws r h = rw (entry_places_lem n ws) h
 
-pub entry_found : (l : List ℕ) (n : ℕ) (place : ResourceBinding) (r : Found) → n ≡ count_of l → r ≡ place_from place (places 4 n (drop 1 l)) 0
+pub entry_found : (l : List ℕ) (n : ℕ) (place : ResourceBinding) (r : Option ℕ) → n ≡ count_of l → r ≡ place_from place (places 4 n (drop 1 l)) 0
     → r ≡ find_entry place (decode_layout l)
 unfolding decode_layout
 entry_found l n place r e h = rw (← e, entry_places_lem n (drop 1 l)) h
@@ -79,7 +79,7 @@ pub entries_counted : (l : List ℕ) → length (decode_layout l).entries ≡ co
 unfolding decode_layout
 entries_counted l = read_length 4 read_entry (count_of l) (drop 1 l)
 
-pub entry_below : (l : List ℕ) (n : ℕ) (r : Found) → n ≡ count_of l → found_below n r ≡ true → found_below (length (decode_layout l).entries) r ≡ true
+pub entry_below : (l : List ℕ) (n : ℕ) (r : Option ℕ) → n ≡ count_of l → found_below n r ≡ true → found_below (length (decode_layout l).entries) r ≡ true
 entry_below l n r e h = rw (entries_counted l, ← e) h
 
 pub groups_decoded : (l : List ℕ) (w : ℕ) → w ≡ word_at l 0 → bits 26 16 w ≡ (decode_layout l).groups

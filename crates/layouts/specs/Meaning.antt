@@ -1,5 +1,5 @@
 -- What a layout list is, and what is done to it.
-use Rattle.std.specs.Prelude.{ℕ, zero, suc, ◌+◌, ◌/◌, ◌%◌, ◌^◌, Bool, List, [], ◌∷◌, ◌++◌, map, eqb, drop}
+use Rattle.std.specs.Prelude.{ℕ, zero, suc, ◌+◌, ◌/◌, ◌%◌, ◌^◌, Bool, List, [], ◌∷◌, ◌++◌, map, eqb, drop, Option}
 use Rattle.word.specs.Choice.{pick}
 use Rattle.bindings.specs.declared.types.ResourceBinding.{ResourceBinding}
 use Rattle.bindings.specs.declared.types.BindingType.TheVariants as Bind
@@ -7,7 +7,6 @@ use Rattle.bindings.specs.declared.types.BindGroupLayoutEntry.{BindGroupLayoutEn
 use Rattle.bindings.specs.Format.{entry_width}
 use Rattle.places.specs.Records.{room_for}
 use Rattle.places.specs.Places.{place_from, place_in, distinct_places}
-use Rattle.places.specs.declared.found.Found.{Found}
 
 -- a layout: how many groups it has, its entries in order, and words of free room, which are the format's: rules ask only how many there are
 pub record Layout : Type 0 where
@@ -20,7 +19,7 @@ abbrev pub entry_places : List BindGroupLayoutEntry → List ResourceBinding
 entry_places es = map (λ e. e.bind) es
 
 -- the position of the entry at a place
-abbrev pub find_entry : ResourceBinding → Layout → Found
+abbrev pub find_entry : ResourceBinding → Layout → Option ℕ
 find_entry place L = place_from place (entry_places L.entries) 0
 
 -- an entry is at the place

@@ -11,7 +11,6 @@ ghost use Rattle.layouts.specs.Format.{groups_of, entry_good, entry_fits, layout
 use crate::visibility::join_bit;
 use bindings::entry_words::words_well_formed;
 use bindings::sizes::{size_at, size_word};
-use places::found::Found;
 use places::heads::counted;
 use places::places::{distinct_places, find_near, find_word};
 use places::stores::store_four;
@@ -102,7 +101,7 @@ pub fn used_words(l: &[u32]) -> usize
 }
 
 // The position of the entry at the place that a word tells.
-pub fn find_entry_word(l: &[u32], place: u32) -> Found
+pub fn find_entry_word(l: &[u32], place: u32) -> Option<usize>
     requires { layout_well_formed l.now ≡ true }
     ensures value { result ≡ find_entry (place_of place) (decode_layout l.now) }
     ensures result_value { found_below (length (decode_layout l.now).entries) result ≡ true }
@@ -111,7 +110,7 @@ pub fn find_entry_word(l: &[u32], place: u32) -> Found
 }
 
 // The same where a position is likely to have the entry: that one is tried first.
-pub fn find_entry_near(l: &[u32], place: u32, near: usize) -> Found
+pub fn find_entry_near(l: &[u32], place: u32, near: usize) -> Option<usize>
     requires { layout_well_formed l.now ≡ true }
     ensures value { result ≡ find_entry (place_of place) (decode_layout l.now) }
     ensures result_value { found_below (length (decode_layout l.now).entries) result ≡ true }

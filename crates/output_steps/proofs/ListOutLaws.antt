@@ -1,4 +1,5 @@
 -- What a stage hands on: one output after the other, and the words behind them.
+use Rattle.std.proofs.Common.{Option, Some, None}
 use Prim.Native.Nat.{ℕ, zero, suc, ◌+◌, ◌-◌, ◌*◌, ◌<◌, ◌≤◌}
 use native.Mathlib.Omega.{arith}
 use mathlib.Core.Path.{◌≡◌, refl, sym, ap, ◌∙◌}
@@ -15,11 +16,8 @@ use Rattle.word.specs.Lists.{every}
 use Rattle.varying.specs.Format.{var_of, located_encodable, payload_of, payload_encodable}
 use Rattle.varying.proofs.Joined.{payload_encodable_lem}
 use Rattle.varying.specs.declared.Located.{Located}
-use Rattle.varying.specs.declared.Payload.{Payload}
 use Rattle.stage_lists.specs.Meaning.{StageIo, rising, varying_at, is_provided, insert, inserted}
 use Rattle.stage_lists.specs.Format.{out_well_formed, decode_stage, encode_stage}
-use Rattle.stage_lists.specs.declared.types.PrimitiveIndex.{PrimitiveIndex}
-use Rattle.stage_lists.specs.declared.types.PrimitiveIndex.TheVariants as Index
 use Rattle.stage_lists.proofs.InsertLaws.{rising_insert, insert_length, longer}
 use Rattle.stage_lists.proofs.StageLists.{good, good_decode, encode_decode}
 use Rattle.interface.specs.Inner.Reads.{varying, varying_width, varyings, standing}
@@ -39,13 +37,13 @@ use Rattle.interface.proofs.ReadsWays.{width_there}
 use Rattle.input_steps.proofs.VaryingLaws.{varyings_left, varyings_none, varying_words_lem}
 
 module _ (stage : ShaderStage) (w : Bool) where
-  pub mesh_written : stage ≡ Stage.Mesh → w ≡ true → Index.True ≡ primitive_out stage w
+  pub mesh_written : stage ≡ Stage.Mesh → w ≡ true → (Some true) ≡ primitive_out stage w
   mesh_written d e = rw (d, yes_true w e)
 
-  pub mesh_unwritten : stage ≡ Stage.Mesh → w ≡ false → Index.False ≡ primitive_out stage w
+  pub mesh_unwritten : stage ≡ Stage.Mesh → w ≡ false → (Some false) ≡ primitive_out stage w
   mesh_unwritten d e = rw (d, yes_false w e)
 
-  pub no_mesh : (s : ShaderStage) → stage ≡ s → Index.None ≡ primitive_out s w → Index.None ≡ primitive_out stage w
+  pub no_mesh : (s : ShaderStage) → stage ≡ s → None ≡ primitive_out s w → None ≡ primitive_out stage w
   no_mesh s d h = rw d h
 
 -- ---- one output
@@ -78,7 +76,7 @@ unfoldable pub handed_all : List Varying → StageIo → StageIo
 handed_all [] S = S
 handed_all (v ∷ vs) S = handed_all vs (handed v S)
 
-abbrev pub out_of : PrimitiveIndex → Payload → List Located → List ℕ → StageIo
+abbrev pub out_of : Option Bool → Option ℕ → List Located → List ℕ → StageIo
 out_of p q vs out = record { primitive = p; payload = q; varyings = vs; room = drop (2 + 2 * length vs) out }
 
 room_kept : (b : Bool) (n k : ℕ) (out : List ℕ) → k ≡ longer b n → pick b (drop (2 + 2 * n) out) (drop 2 (drop (2 + 2 * n) out)) ≡ drop (2 + 2 * k) out
@@ -87,13 +85,13 @@ room_kept false n k out e =
     let m : 2 + 2 * n + 2 ≡ 2 + 2 * k = omega (arith, e) in
     drop-drop 2 (2 + 2 * n) out ∙ ap (λ (i : ℕ). drop i out) m
 
-handed_out_lem : (p : PrimitiveIndex) (q : Payload) (v : Located) (vs : List Located) (out : List ℕ) → rising vs ≡ true
+handed_out_lem : (p : Option Bool) (q : Option ℕ) (v : Located) (vs : List Located) (out : List ℕ) → rising vs ≡ true
     → inserted v (out_of p q vs out) ≡ out_of p q (insert v vs) out
 unfolding inserted
 handed_out_lem p q v vs out h =
     rw (room_kept (is_provided (varying_at v.location vs)) (length vs) (length (insert v vs)) out (insert_length v vs h))
 
-handed_all_lem : (p : PrimitiveIndex) (q : Payload) (all : List Varying) (vs : List Located) (out : List ℕ) → rising vs ≡ true
+handed_all_lem : (p : Option Bool) (q : Option ℕ) (all : List Varying) (vs : List Located) (out : List ℕ) → rising vs ≡ true
     → handed_all all (out_of p q vs out) ≡ out_of p q (locals_of all vs) out
 unfolding handed_all handed locals_of
 handed_all_lem p q [] vs out h = refl
@@ -118,7 +116,7 @@ locals_few (suc n) ws = omega (arith, locals_few n (drop (varying_width ws) ws),
     local_one (Var.Local location iv) = omega arith
     local_one (Var.BuiltIn b) = omega arith
 
-module _ (ws : List ℕ) (from n : ℕ) (p : PrimitiveIndex) (q : Payload) (out : List ℕ) (S : StageIo)
+module _ (ws : List ℕ) (from n : ℕ) (p : Option Bool) (q : Option ℕ) (out : List ℕ) (S : StageIo)
     (begun : S ≡ record { primitive = p; payload = q; varyings = []; room = drop 2 out }) where
   pub begun_roomy : n ≤ 63 → every output_encodable (varyings n (drop from ws)) ≡ true → 2 + 2 * local_count (varyings n (drop from ws)) ≤ length out
       → Roomy (varyings n (drop from ws)) S
@@ -199,7 +197,7 @@ module _ (ws : List ℕ) (k at x y width : ℕ) (out : List ℕ) (T : StageIo) (
 pub as_long : (lent begun out : List ℕ) (head : ℕ) → length begun ≡ length lent → length out ≡ length begun → length (set out 0 head) ≡ length lent
 as_long lent begun out head e f = length-set out 0 head ∙ (f ∙ e)
 
-pub all_ended : (ws : List ℕ) (from n k at : ℕ) (p : PrimitiveIndex) (q : Payload) (lent out : List ℕ) (S : StageIo)
+pub all_ended : (ws : List ℕ) (from n k at : ℕ) (p : Option Bool) (q : Option ℕ) (lent out : List ℕ) (S : StageIo)
     → S ≡ record { primitive = p; payload = q; varyings = []; room = drop 2 lent } → k ≡ 0 → out_well_formed out ≡ true
     → handed_all (varyings n (drop from ws)) S ≡ handed_all (varyings k (drop at ws)) (decode_stage out)
     → out ≡ encode_stage (out_of p q (locals_of (varyings n (drop from ws)) []) lent)
@@ -209,7 +207,7 @@ all_ended ws from n k at p q lent out S begun z f inv =
 
 -- ---- the list out of an entry point that stands at positions
 
-pub payload_read_encodable : (w : ℕ) (q : Payload) → q ≡ payload_of w → payload_encodable q ≡ true
+pub payload_read_encodable : (w : ℕ) (q : Option ℕ) → q ≡ payload_of w → payload_encodable q ≡ true
 payload_read_encodable w q e = rw e (payload_encodable_lem w)
 
 module _ (ws : List ℕ) (p : EntryParts) (k n : ℕ) (ek : k ≡ word_at ws p.counts) (en : n ≡ bits 5 0 k) where
@@ -223,7 +221,7 @@ module _ (ws : List ℕ) (p : EntryParts) (k n : ℕ) (ek : k ≡ word_at ws p.c
   pub outputs_room : (l : ℕ) → 2 + 2 * local_count (standing ws p).outputs ≤ l → 2 + 2 * local_count (varyings n (drop p.outputs ws)) ≤ l
   outputs_room l h = rw outputs_standing h
 
-  pub list_out : (stage : ShaderStage) (walk : InputWalk) (s : Summary) (b : Bool) (i : PrimitiveIndex) (w : ℕ) (q : Payload) (out o : List ℕ)
+  pub list_out : (stage : ShaderStage) (walk : InputWalk) (s : Summary) (b : Bool) (i : Option Bool) (w : ℕ) (q : Option ℕ) (out o : List ℕ)
       → Summed ws p s → b ≡ (walk.primitive_index || s.primitive) → i ≡ primitive_out stage b
       → w ≡ word_at ws (p.workgroup + 3) → q ≡ payload_of w
       → o ≡ encode_stage (out_of i q (locals_of (varyings n (drop p.outputs ws)) []) out)

@@ -1,10 +1,8 @@
 -- What a stage hands on (document 01, 'Stage list').
-use Rattle.std.specs.Prelude.{ℕ, ◌+◌, ◌*◌, Bool, ◌||◌, List, [], ◌∷◌, length, drop}
+use Rattle.std.specs.Prelude.{ℕ, ◌+◌, ◌*◌, Bool, ◌||◌, List, [], ◌∷◌, length, drop, Option, Some, None, true, false}
 use Rattle.word.specs.Choice.{pick, yes}
 use Rattle.varying.specs.declared.Located.{Located}
 use Rattle.stage_lists.specs.Meaning.{StageIo, insert}
-use Rattle.stage_lists.specs.declared.types.PrimitiveIndex.{PrimitiveIndex}
-use Rattle.stage_lists.specs.declared.types.PrimitiveIndex.TheVariants as Index
 use Rattle.interface.specs.Meaning.{EntryPoint}
 use Rattle.interface.specs.declared.types.ShaderStage.{ShaderStage}
 use Rattle.interface.specs.declared.types.ShaderStage.TheVariants as Stage
@@ -22,12 +20,12 @@ locals_of (Var.Local location iv ∷ others) vs = locals_of others (insert (reco
 locals_of (Var.BuiltIn b ∷ others) vs = locals_of others vs
 
 -- none but for a mesh stage: there whether a primitive index is among its outputs or its inputs
-abbrev pub primitive_out : ShaderStage → Bool → PrimitiveIndex
-primitive_out Stage.Mesh written = pick (yes written) Index.True Index.False
-primitive_out Stage.Vertex written = Index.None
-primitive_out Stage.Fragment written = Index.None
-primitive_out Stage.Compute written = Index.None
-primitive_out Stage.Task written = Index.None
+abbrev pub primitive_out : ShaderStage → Bool → Option Bool
+primitive_out Stage.Mesh written = pick (yes written) (Some true) (Some false)
+primitive_out Stage.Vertex written = None
+primitive_out Stage.Fragment written = None
+primitive_out Stage.Compute written = None
+primitive_out Stage.Task written = None
 
 -- the list out over the words lent for it: what is written at their start, and the free room behind that
 unfoldable pub stage_out : ShaderStage → EntryPoint → InputWalk → List ℕ → StageIo

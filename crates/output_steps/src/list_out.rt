@@ -17,25 +17,23 @@ use interface::parts::outputs_counted;
 use interface::reads::varying_width;
 use interface::types::{EntryParts, ShaderStage};
 use stage_lists::list_out::{begin_out, insert_words};
-use stage_lists::types::PrimitiveIndex;
-use varying::Payload;
 use word::kind;
 
 // Whether a mesh stage writes a primitive index; other stages have none.
-fn primitive_out(stage: ShaderStage, written: bool) -> PrimitiveIndex
+fn primitive_out(stage: ShaderStage, written: bool) -> Option<bool>
     ensures { result ≡ primitive_out stage written }
 {
     match stage {
         ShaderStage::Mesh => {
             if written {
-                return PrimitiveIndex::True;
+                return Some(true);
             }
-            PrimitiveIndex::False
+            Some(false)
         }
-        ShaderStage::Vertex => PrimitiveIndex::None,
-        ShaderStage::Fragment => PrimitiveIndex::None,
-        ShaderStage::Compute => PrimitiveIndex::None,
-        ShaderStage::Task => PrimitiveIndex::None,
+        ShaderStage::Vertex => None,
+        ShaderStage::Fragment => None,
+        ShaderStage::Compute => None,
+        ShaderStage::Task => None,
     }
 }
 
@@ -59,8 +57,8 @@ pub(crate) fn write_out(
     from: usize,
     n: usize,
     out: &mut [u32],
-    primitive: PrimitiveIndex,
-    payload: Payload,
+    primitive: Option<bool>,
+    payload: Option<u32>,
 )
     requires from_in_bounds { (varyings_end pack.now n from < length pack.now) × (length pack.now ≤ 4096) × (n ≤ 63) }
     requires payload_value { payload_encodable payload ≡ true }

@@ -1,4 +1,5 @@
 -- Places in a list: one more at the end, and the position of one.
+use Rattle.std.proofs.Common.{Some}
 use Prim.Native.Nat.{ℕ, zero, suc, ◌+◌, ◌-◌, ◌<◌, ◌≤◌}
 use native.Mathlib.Omega.{arith}
 use mathlib.Core.Path.{◌≡◌, refl}
@@ -10,7 +11,6 @@ use Rattle.word.specs.Choice.{pick}
 use Rattle.bindings.specs.declared.types.ResourceBinding.{ResourceBinding}
 use Rattle.word.proofs.Truth.{first, second, by_test, never}
 use Rattle.places.specs.Places.{same_place, place_from, place_in, distinct_places}
-use Rattle.places.specs.declared.found.Found.TheVariants.{At}
 
 pub same_place_eq : (a b : ResourceBinding) → same_place a b ≡ true → a ≡ b
 same_place_eq a b h =
@@ -64,7 +64,7 @@ in_last (q ∷ ps) p = by_test (same_place q p) (λ t. rw t) (λ f. rw f (in_las
 -- ---- the position of a place
 
 -- a new place is found at the new last position, others where they were
-pub found_last : (ps : List ResourceBinding) (p : ResourceBinding) (i : ℕ) → place_in p ps ≡ false → place_from p (ps ++ (p ∷ [])) i ≡ At (i + length ps)
+pub found_last : (ps : List ResourceBinding) (p : ResourceBinding) (i : ℕ) → place_in p ps ≡ false → place_from p (ps ++ (p ∷ [])) i ≡ Some (i + length ps)
 unfolding place_from place_in
 found_last [] p i h = let z : i + 0 ≡ i = omega arith in rw (same_place_refl p, z)
 found_last (q ∷ ps) p i h =
@@ -84,7 +84,7 @@ pub record FoundAt (place : ResourceBinding) (ps : List ResourceBinding) (i j : 
   pub there : j - i < length ps
   pub same : same_place (get_or ps (j - i) d) place ≡ true
 
-pub found_there : (place d : ResourceBinding) (ps : List ResourceBinding) (i j : ℕ) → place_from place ps i ≡ At j → FoundAt place ps i j d
+pub found_there : (place d : ResourceBinding) (ps : List ResourceBinding) (i j : ℕ) → place_from place ps i ≡ Some j → FoundAt place ps i j d
 unfolding place_from
 found_there place d [] i j h = let z : ◌≡◌ {A = ℕ} 0 1 = cc in absurd (omega arith)
 found_there place d (p ∷ ps) i j h =
@@ -108,7 +108,7 @@ in_nth (p ∷ ps) zero d h = rw (same_place_refl p)
 in_nth (p ∷ ps) (suc j) d h = by_test (same_place p (get_or ps j d)) (λ t. rw t) (λ f. rw f (in_nth ps j d (omega arith)))
 
 pub found_nth : (ps : List ResourceBinding) (i j : ℕ) (d : ResourceBinding) → distinct_places ps ≡ true → j < length ps
-    → place_from (get_or ps j d) ps i ≡ At (i + j)
+    → place_from (get_or ps j d) ps i ≡ Some (i + j)
 unfolding place_from distinct_places
 found_nth [] i j d t h = absurd (omega arith)
 found_nth (p ∷ ps) i zero d t h = let z : i + 0 ≡ i = omega arith in rw (same_place_refl p, z)

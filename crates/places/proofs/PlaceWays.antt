@@ -1,4 +1,5 @@
 -- The code's ways through places.
+use Rattle.std.proofs.Common.{Option, Some, None}
 use Prim.Native.Nat.{ℕ, ◌+◌, ◌-◌, ◌*◌, ◌%◌, ◌<◌, ◌≤◌, ◌^◌}
 use native.Mathlib.Omega.{arith}
 use native.Mathlib.Nat.{mul-suc, mul-le-mul_left, mul-le-mul_right}
@@ -14,8 +15,6 @@ use Rattle.word.proofs.Truth.{by_test}
 use Rattle.bindings.specs.Format.{place_of}
 use Rattle.bindings.specs.declared.types.ResourceBinding.{ResourceBinding}
 use Rattle.places.specs.Places.{same_place, place_from, place_in, distinct_places, found_below, read_place, places}
-use Rattle.places.specs.declared.found.Found.{Found}
-use Rattle.places.specs.declared.found.Found.TheVariants.{At, Nothing}
 use Rattle.word.proofs.Lists.{first_passes, rest_passes}
 use Rattle.places.specs.Records.{each}
 use Rattle.places.specs.Inner.Begins.{place_first}
@@ -53,9 +52,9 @@ module _ (w content : ℕ) (h : content < 2 ^ 27) where
       absurd (n (omega arith)))
       (λ f. f)
 
-module _ (width : ℕ) (l : List ℕ) (n left at content : ℕ) (goal : Found) (inv : goal ≡ place_from (place_of content) (places width left (drop at l)) (n - left)) where
+module _ (width : ℕ) (l : List ℕ) (n left at content : ℕ) (goal : Option ℕ) (inv : goal ≡ place_from (place_of content) (places width left (drop at l)) (n - left)) where
   module _ (h : left ≡ 0 → ⊥) (encodable : content < 2 ^ 27) where
-    pub content_found : word_at l at % 0x800_0000 ≡ content → At (n - left) ≡ goal
+    pub content_found : word_at l at % 0x800_0000 ≡ content → Some (n - left) ≡ goal
     unfolding place_from
     content_found e = sym (inv ∙ rw (left_cons width read_place l left at h, first_of l at, content_same (word_at l at) content encodable e))
 
@@ -66,7 +65,7 @@ module _ (width : ℕ) (l : List ℕ) (n left at content : ℕ) (goal : Found) (
         let k : n - left + 1 ≡ n - (left - 1) = omega arith in
         inv ∙ rw (left_cons width read_place l left at h, first_of l at, content_other (word_at l at) content encodable e, k)
 
-  pub content_nowhere : left ≡ 0 → Nothing ≡ goal
+  pub content_nowhere : left ≡ 0 → None ≡ goal
   unfolding place_from
   content_nowhere z = sym (inv ∙ rw (left_none width read_place left (drop at l) z))
 
@@ -87,9 +86,9 @@ module _ (w place : ℕ) (k : kind_of w ≡ 4) (m : kind_of place ≡ 4) where
 same_itself : (p : ResourceBinding) → same_place p p ≡ true
 same_itself p = rw (eq-eqb p.group p.group refl, eq-eqb p.binding p.binding refl)
 
-module _ (width : ℕ) (l : List ℕ) (n left at place : ℕ) (goal : Found) (inv : goal ≡ place_from (place_of place) (places width left (drop at l)) (n - left)) where
+module _ (width : ℕ) (l : List ℕ) (n left at place : ℕ) (goal : Option ℕ) (inv : goal ≡ place_from (place_of place) (places width left (drop at l)) (n - left)) where
   module _ (h : left ≡ 0 → ⊥) where
-    pub word_found : word_at l at ≡ place → At (n - left) ≡ goal
+    pub word_found : word_at l at ≡ place → Some (n - left) ≡ goal
     unfolding place_from
     word_found e = sym (inv ∙ rw (left_cons width read_place l left at h, first_of l at, e, same_itself (place_of place)))
 
@@ -100,7 +99,7 @@ module _ (width : ℕ) (l : List ℕ) (n left at place : ℕ) (goal : Found) (in
         let k : n - left + 1 ≡ n - (left - 1) = omega arith in
         inv ∙ rw (left_cons width read_place l left at h, first_of l at, word_other (word_at l at) place (first_is_place width l left at h t) m e, k)
 
-  pub word_nowhere : left ≡ 0 → Nothing ≡ goal
+  pub word_nowhere : left ≡ 0 → None ≡ goal
   unfolding place_from
   word_nowhere z = sym (inv ∙ rw (left_none width read_place left (drop at l) z))
 
@@ -109,7 +108,7 @@ module _ (content : ℕ) (h : content < 2 ^ 27) where
   pub content_kind : kind_of (0x20000000 + content) ≡ 4
   content_kind = omega arith
 
-  pub content_word : (ps : List ResourceBinding) (r : Found) → r ≡ place_from (place_of (0x20000000 + content)) ps 0 → r ≡ place_from (place_of content) ps 0
+  pub content_word : (ps : List ResourceBinding) (r : Option ℕ) → r ≡ place_from (place_of (0x20000000 + content)) ps 0 → r ≡ place_from (place_of content) ps 0
   content_word ps r f =
       let g : bits 26 23 (0x20000000 + content) ≡ bits 26 23 content = omega arith in
       let n : bits 22 0 (0x20000000 + content) ≡ bits 22 0 content = omega arith in
@@ -127,7 +126,7 @@ pub found_below_lem : (n left : ℕ) → left ≤ n → (left ≡ 0 → ⊥) →
 found_below_lem n left h k = omega arith
 
 -- a word tells the place that its content tells
-pub content_tells : (ps : List ResourceBinding) (r : Found) (w c : ℕ) → c ≡ content_of w → r ≡ place_from (place_of c) ps 0 → r ≡ place_from (place_of w) ps 0
+pub content_tells : (ps : List ResourceBinding) (r : Option ℕ) (w c : ℕ) → c ≡ content_of w → r ≡ place_from (place_of c) ps 0 → r ≡ place_from (place_of w) ps 0
 content_tells ps r w c e f =
     let g : bits 26 23 c ≡ bits 26 23 w = omega arith in
     let n : bits 22 0 c ≡ bits 22 0 w = omega arith in
@@ -156,7 +155,7 @@ module _ (width n i : ℕ) (h : i < n) where
     near_bytes = omega (arith, near_low)
 
   pub near_record : (l : List ℕ) (content : ℕ) → distinct_places (places width n (drop 1 l)) ≡ true → word_at l (1 + width * i) % 0x800_0000 ≡ content
-      → At i ≡ place_from (place_of content) (places width n (drop 1 l)) 0
+      → Some i ≡ place_from (place_of content) (places width n (drop 1 l)) 0
   near_record l content d q =
       let ps = places width n (drop 1 l) in
       let g : get_or ps i (place_of content) ≡ place_of content
@@ -167,7 +166,7 @@ module _ (width n i : ℕ) (h : i < n) where
 
 -- ---- a position that was found
 
-module _ (n i : ℕ) (f : Found) (h : found_below n f ≡ true) (e : f ≡ At i) where
+module _ (n i : ℕ) (f : Option ℕ) (h : found_below n f ≡ true) (e : f ≡ Some i) where
   pub found_inside : i < n
   found_inside = ltb-true i n (rw e at h)
 
@@ -177,9 +176,9 @@ module _ (n i : ℕ) (f : Found) (h : found_below n f ≡ true) (e : f ≡ At i)
 
 -- ---- a place among others
 
-abbrev is_at : Found → Bool
-is_at (At i) = true
-is_at Nothing = false
+abbrev is_at : Option ℕ → Bool
+is_at (Some i) = true
+is_at None = false
 
 sought_in : (place : ResourceBinding) (ps : List ResourceBinding) (i : ℕ) → place_in place ps ≡ is_at (place_from place ps i)
 unfolding place_in place_from
@@ -187,13 +186,13 @@ sought_in place [] i = refl
 sought_in place (p ∷ ps) i = go (same_place p place) (sought_in place ps (i + 1))
   where
     go : (b : Bool) → place_in place ps ≡ is_at (place_from place ps (i + 1))
-        → pick b true (place_in place ps) ≡ is_at (pick b (At i) (place_from place ps (i + 1)))
+        → pick b true (place_in place ps) ≡ is_at (pick b (Some i) (place_from place ps (i + 1)))
     go true e = refl
     go false e = e
 
-module _ (place : ResourceBinding) (ps : List ResourceBinding) (f : Found) (e : f ≡ place_from place ps 0) where
-  pub place_found : (i : ℕ) → f ≡ At i → true ≡ place_in place ps
+module _ (place : ResourceBinding) (ps : List ResourceBinding) (f : Option ℕ) (e : f ≡ place_from place ps 0) where
+  pub place_found : (i : ℕ) → f ≡ Some i → true ≡ place_in place ps
   place_found i h = rw (sought_in place ps 0, ← e, h)
 
-  pub place_lacks : f ≡ Nothing → false ≡ place_in place ps
+  pub place_lacks : f ≡ None → false ≡ place_in place ps
   place_lacks h = rw (sought_in place ps 0, ← e, h)

@@ -1,21 +1,19 @@
 -- Places: the position of one among others, and the place in the first word of a record.
-use Rattle.std.specs.Prelude.{ℕ, ◌+◌, Bool, true, false, ◌&&◌, List, [], ◌∷◌, eqb, ltb}
+use Rattle.std.specs.Prelude.{ℕ, ◌+◌, Bool, true, false, ◌&&◌, List, [], ◌∷◌, eqb, ltb, Option, Some, None}
 use Rattle.word.specs.Choice.{pick}
 use Rattle.bindings.specs.declared.types.ResourceBinding.{ResourceBinding}
 use Rattle.word.specs.Words.{word_at}
 use Rattle.bindings.specs.Format.{place_of}
 use Rattle.places.specs.Records.{records}
-use Rattle.places.specs.declared.found.Found.{Found}
-use Rattle.places.specs.declared.found.Found.TheVariants.{At, Nothing}
 
 -- a place is a group and a binding
 abbrev pub same_place : ResourceBinding → ResourceBinding → Bool
 same_place a b = eqb a.group b.group && eqb a.binding b.binding
 
 -- the position of a place, counted on from a number
-unfoldable pub place_from : ResourceBinding → List ResourceBinding → ℕ → Found
-place_from place [] i = Nothing
-place_from place (p ∷ ps) i = let rest = place_from place ps (i + 1) in pick (same_place p place) (At i) rest
+unfoldable pub place_from : ResourceBinding → List ResourceBinding → ℕ → Option ℕ
+place_from place [] i = None
+place_from place (p ∷ ps) i = let rest = place_from place ps (i + 1) in pick (same_place p place) (Some i) rest
 
 -- a place is among others
 unfoldable pub place_in : ResourceBinding → List ResourceBinding → Bool
@@ -28,9 +26,9 @@ distinct_places [] = true
 distinct_places (p ∷ ps) = let rest = distinct_places ps in pick (place_in p ps) false rest
 
 -- a position that was found is below a count
-abbrev pub found_below : ℕ → Found → Bool
-found_below n (At i) = ltb i n
-found_below n Nothing = true
+abbrev pub found_below : ℕ → Option ℕ → Bool
+found_below n (Some i) = ltb i n
+found_below n None = true
 
 -- a record's place stands in its first word
 abbrev pub read_place : List ℕ → ResourceBinding

@@ -8,11 +8,10 @@ ghost use Rattle.places.specs.Records.{count_of, each};
 ghost use Rattle.places.specs.Inner.Begins.{place_first};
 ghost use Rattle.places.specs.Inner.Marks.{slot, marked, bit_of};
 
-use crate::found::Found;
 use crate::heads::counted;
 
 // Which of the records has the place that a word's content tells, where all lie within the slice.
-fn find_within(l: &[u32], from: usize, n: usize, width: usize, content: u32) -> Found
+fn find_within(l: &[u32], from: usize, n: usize, width: usize, content: u32) -> Option<usize>
     requires from_bound { (from < 2 ^ 32) × (n < 2 ^ 32) × (width ≤ 4) }
     requires width_nonzero { (0 < width) × (from + width * n ≤ length l.now) × (content < 2 ^ 27) }
     ensures value { result ≡ place_from (place_of content) (places width n (drop from l.now)) 0 }
@@ -22,16 +21,16 @@ fn find_within(l: &[u32], from: usize, n: usize, width: usize, content: u32) -> 
     let mut left = n;
     while left != 0 {
         if l[at] % 0x800_0000 == content {
-            return Found::At { index: n - left };
+            return Some(n - left);
         }
         at += width;
         left -= 1;
     }
-    Found::Nothing
+    None
 }
 
 // The same from the second word on, where each record begins with a place's word: whole words are compared.
-pub fn find_word(l: &[u32], n: usize, width: usize, place: u32) -> Found
+pub fn find_word(l: &[u32], n: usize, width: usize, place: u32) -> Option<usize>
     requires n_bound { (n < 2 ^ 32) × (0 < width) × (width ≤ 4) × (1 + width * n ≤ length l.now) × (kind_of place ≡ 4) }
     requires l_value { each width place_first n (drop 1 l.now) ≡ true }
     ensures value { result ≡ place_from (place_of place) (places width n (drop 1 l.now)) 0 }
@@ -41,16 +40,16 @@ pub fn find_word(l: &[u32], n: usize, width: usize, place: u32) -> Found
     let mut left = n;
     while left != 0 {
         if l[at] == place {
-            return Found::At { index: n - left };
+            return Some(n - left);
         }
         at += width;
         left -= 1;
     }
-    Found::Nothing
+    None
 }
 
 // The same among distinct places. The record at a likely position is tried first.
-pub fn find_near(l: &[u32], n: usize, width: usize, content: u32, near: usize) -> Found
+pub fn find_near(l: &[u32], n: usize, width: usize, content: u32, near: usize) -> Option<usize>
     requires n_bound { (n < 2 ^ 32) × (0 < width) × (width ≤ 4) × (1 + width * n ≤ length l.now) × (content < 2 ^ 27) }
     requires l_value { (each width place_first n (drop 1 l.now) ≡ true) × (distinct_places (places width n (drop 1 l.now)) ≡ true) }
     ensures value { result ≡ place_from (place_of content) (places width n (drop 1 l.now)) 0 }
@@ -58,7 +57,7 @@ pub fn find_near(l: &[u32], n: usize, width: usize, content: u32, near: usize) -
 {
     if near < n {
         if l[1 + width * near] % 0x800_0000 == content {
-            return Found::At { index: near };
+            return Some(near);
         }
     }
     find_word(l, n, width, 0x2000_0000 + content)
@@ -71,8 +70,8 @@ fn has_place(l: &[u32], from: usize, n: usize, width: usize, content: u32) -> bo
     ensures { result ≡ place_in (place_of content) (places width n (drop from l.now)) }
 {
     match find_within(l, from, n, width, content) {
-        Found::At { index: _ } => true,
-        Found::Nothing => false,
+        Some(_) => true,
+        None => false,
     }
 }
 

@@ -1,4 +1,5 @@
 -- Which numbers the steps behind the resources answer.
+use Rattle.std.proofs.Common.{Option, Some, None, false}
 use Prim.Native.Nat.{ℕ, ◌+◌, ◌-◌, ◌*◌}
 use mathlib.Core.Path.{◌≡◌, refl}
 use mathlib.Core.Bool.{Bool, true, not, ◌||◌, ◌&&◌}
@@ -21,20 +22,12 @@ use Rattle.bindings.specs.declared.types.TextureSampleType.TheVariants as Sample
 use Rattle.varying.specs.Rules.{same_payload, payload_present}
 use Rattle.varying.specs.declared.InterfaceVar.{InterfaceVar}
 use Rattle.varying.specs.declared.Located.{Located}
-use Rattle.varying.specs.declared.Payload.{Payload}
-use Rattle.varying.specs.declared.Payload.TheVariants as Pay
 use Rattle.layouts.specs.Meaning.{Layout}
 use Rattle.stage_lists.specs.Meaning.{StageIo, varying_at}
-use Rattle.stage_lists.specs.declared.types.Provided.{Provided}
-use Rattle.stage_lists.specs.declared.types.Provided.TheVariants as Pro
-use Rattle.stage_lists.specs.declared.types.PrimitiveIndex.{PrimitiveIndex}
-use Rattle.stage_lists.specs.declared.types.PrimitiveIndex.TheVariants as Index
 use Rattle.interface.specs.Meaning.{EntryPoint, Interface}
 use Rattle.interface.specs.Format.{topology_code}
 use Rattle.interface.specs.declared.types.ShaderStage.{ShaderStage}
 use Rattle.interface.specs.declared.types.ShaderStage.TheVariants as Stage
-use Rattle.interface.specs.declared.types.MeshRecord.{MeshRecord}
-use Rattle.interface.specs.declared.types.MeshRecord.TheVariants as Mesh
 use Rattle.interface.specs.declared.types.SamplingPair.{SamplingPair}
 use Rattle.interface.specs.declared.types.Varying.{Varying}
 use Rattle.interface.specs.declared.types.Varying.TheVariants as Var
@@ -52,6 +45,7 @@ use Rattle.resource_steps.specs.Resources.{sample_number, filtering, pair_number
 use Rattle.stage.specs.Stage.{pair_step, input_walk, behind_inputs, judgement}
 use Rattle.refusals.specs.Table.{judgement_numbers}
 use Rattle.refusals.proofs.Known.{NumberOf, none, one, AnswerOf, passes, fails, either, numbered, not_none, step_both}
+use Rattle.interface.specs.declared.types.EntryPointMeshInfo.{EntryPointMeshInfo}
 
 abbrev Known : ℕ → Type 0
 Known n = NumberOf judgement_numbers n
@@ -109,17 +103,17 @@ workgroup_known Stage.Compute w l = size_known w _ _ _ _
 workgroup_known Stage.Task w l = size_known w _ _ _ _
 workgroup_known Stage.Mesh w l = size_known w _ _ _ _
 
-input_known : (stage : ShaderStage) (iv : InterfaceVar) (p : Provided) → Known (input_number stage iv p)
+input_known : (stage : ShaderStage) (iv : InterfaceVar) (p : Option InterfaceVar) → Known (input_number stage iv p)
 unfolding input_number vertex_input fragment_input among
-input_known Stage.Vertex iv Pro.Missing = one refl
-input_known Stage.Fragment iv Pro.Missing = one refl
-input_known Stage.Compute iv Pro.Missing = one refl
-input_known Stage.Task iv Pro.Missing = one refl
-input_known Stage.Mesh iv Pro.Missing = one refl
-input_known Stage.Vertex iv (Pro.Var p) =
+input_known Stage.Vertex iv None = one refl
+input_known Stage.Fragment iv None = one refl
+input_known Stage.Compute iv None = one refl
+input_known Stage.Task iv None = one refl
+input_known Stage.Mesh iv None = one refl
+input_known Stage.Vertex iv (Some p) =
     either Known (eqb (kind_code iv.ty.scalar.kind) (kind_code p.ty.scalar.kind)) (pick (yes iv.per_primitive) 54 0) 51
     (either Known (yes iv.per_primitive) 54 0 (one refl) (none refl)) (one refl)
-input_known Stage.Fragment iv (Pro.Var p) =
+input_known Stage.Fragment iv (Some p) =
     either Known (eqb iv.interpolation p.interpolation) _ 52
     (either Known (eqb iv.sampling p.sampling) _ 53
     (either Known (fits_type iv.ty p.ty) _ 51
@@ -127,9 +121,9 @@ input_known Stage.Fragment iv (Pro.Var p) =
     (one refl))
     (one refl))
     (one refl)
-input_known Stage.Compute iv (Pro.Var p) = one refl
-input_known Stage.Task iv (Pro.Var p) = one refl
-input_known Stage.Mesh iv (Pro.Var p) = one refl
+input_known Stage.Compute iv (Some p) = one refl
+input_known Stage.Task iv (Some p) = one refl
+input_known Stage.Mesh iv (Some p) = one refl
 
 abbrev Walks : Walked → Type 0
 Walks w = Step w.answer
@@ -190,20 +184,20 @@ slots_known Stage.Mesh q l e n = passes refl
 value_known : (n value limit : ℕ) → Refusal n → Step (value_use n value limit)
 value_known n value limit k = either Step (ltb limit value) (answer n value limit 0) accepted (fails k) (passes refl)
 
-mesh_known : (t : ℕ) (l : Limits) (m : MeshRecord) → Step (mesh_use t l m)
+mesh_known : (t : ℕ) (l : Limits) (m : Option EntryPointMeshInfo) → Step (mesh_use t l m)
 unfolding mesh_use among
-mesh_known t l Mesh.Absent = passes refl
-mesh_known t l (Mesh.Info info) =
+mesh_known t l None = passes refl
+mesh_known t l (Some info) =
     both_known (value_use 70 info.max_vertices l.max_mesh_output_vertices) _ (value_known 70 info.max_vertices l.max_mesh_output_vertices refl)
     (both_known (value_use 71 info.max_primitives l.max_mesh_output_primitives) _ (value_known 71 info.max_primitives l.max_mesh_output_primitives refl)
     (either Step (eqb t (topology_code info.primitive_topology)) accepted (refused 72) (passes refl) (fails refl)))
 
-payload_known : (limit : ℕ) (p : Payload) → Step (payload_use limit p)
+payload_known : (limit : ℕ) (p : Option ℕ) → Step (payload_use limit p)
 unfolding among
-payload_known limit Pay.Absent = passes refl
-payload_known limit (Pay.Size b) = value_known 73 b limit refl
+payload_known limit None = passes refl
+payload_known limit (Some b) = value_known 73 b limit refl
 
-match_known : (stage : ShaderStage) (a b : Payload) → Step (payload_match stage a b)
+match_known : (stage : ShaderStage) (a b : Option ℕ) → Step (payload_match stage a b)
 unfolding payload_match among
 match_known Stage.Mesh a b = either Step (same_payload a b) accepted (refused 74) (passes refl) (fails refl)
 match_known Stage.Vertex a b = passes refl
@@ -211,17 +205,17 @@ match_known Stage.Fragment a b = passes refl
 match_known Stage.Compute a b = passes refl
 match_known Stage.Task a b = passes refl
 
-primitive_known : (stage : ShaderStage) (r : Bool) (p : PrimitiveIndex) → Step (primitive_use stage r p)
+primitive_known : (stage : ShaderStage) (r : Bool) (p : Option Bool) → Step (primitive_use stage r p)
 unfolding primitive_use among
-primitive_known Stage.Fragment r Index.None = passes refl
-primitive_known Stage.Fragment r Index.False = either Step (yes r) (refused 75) accepted (fails refl) (passes refl)
-primitive_known Stage.Fragment r Index.True = either Step (yes r) accepted (refused 76) (passes refl) (fails refl)
+primitive_known Stage.Fragment r None = passes refl
+primitive_known Stage.Fragment r (Some false) = either Step (yes r) (refused 75) accepted (fails refl) (passes refl)
+primitive_known Stage.Fragment r (Some true) = either Step (yes r) accepted (refused 76) (passes refl) (fails refl)
 primitive_known Stage.Vertex r p = passes refl
 primitive_known Stage.Compute r p = passes refl
 primitive_known Stage.Task r p = passes refl
 primitive_known Stage.Mesh r p = passes refl
 
-draw_known : (stage : ShaderStage) (d : Bool) (p : Payload) → Step (draw_use stage d p)
+draw_known : (stage : ShaderStage) (d : Bool) (p : Option ℕ) → Step (draw_use stage d p)
 unfolding draw_use among
 draw_known Stage.Mesh d p = either Step (yes d && payload_present p) (refused 77) accepted (fails refl) (passes refl)
 draw_known Stage.Vertex d p = passes refl

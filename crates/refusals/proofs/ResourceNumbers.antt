@@ -1,4 +1,5 @@
 -- Which numbers a resource is refused with: 5 and 20 to 30, with its place.
+use Rattle.std.proofs.Common.{Option, Some, None}
 use Prim.Native.Nat.{ℕ}
 use mathlib.Core.Path.{◌≡◌, refl}
 use mathlib.Core.Bool.{Bool, true}
@@ -22,8 +23,6 @@ use Rattle.bindings.specs.declared.types.Derived.{Derived}
 use Rattle.bindings.specs.declared.types.Derived.TheVariants as Der
 use Rattle.layouts.specs.Meaning.{Layout, find_entry, entry_nth, sees_bit, room_for_entry}
 use Rattle.sizes.specs.Meaning.{Sizes, size_fits}
-use Rattle.places.specs.declared.found.Found.{Found}
-use Rattle.places.specs.declared.found.Found.TheVariants.{At, Nothing}
 use Rattle.interface.specs.Format.{stage_code}
 use Rattle.interface.specs.declared.types.ShaderStage.{ShaderStage}
 use Rattle.resource_steps.specs.Resources.{SizesAfter, sizes_after, record_size, found_use, provided_use, provide_step}
@@ -61,12 +60,12 @@ use_known Use.WrongTextureClass = one refl
 use_known Use.WrongSamplerComparison = one refl
 use_known Use.BadStorageFormat = one refl
 
-found_known : (stage : ShaderStage) (ty : ResourceType) (L : Layout) (f : Found) → Known (found_use stage ty L f)
+found_known : (stage : ShaderStage) (ty : ResourceType) (L : Layout) (f : Option ℕ) → Known (found_use stage ty L f)
 unfolding among
-found_known stage ty L (At i) =
+found_known stage ty L (Some i) =
     either Known (sees_bit (stage_code stage) (entry_nth L.entries i).visibility) (use_number (check_binding_use ty (entry_nth L.entries i).ty)) Number.invisible
     (use_known (check_binding_use ty (entry_nth L.entries i).ty)) (one refl)
-found_known stage ty L Nothing = one refl
+found_known stage ty L None = one refl
 
 recorded_known : (bind : ResourceBinding) (ty : ResourceType) (S : Sizes) → Placed bind (record_size bind ty S).answer
 unfolding record_size among
@@ -89,11 +88,11 @@ provide_known stage L r S =
 abbrev Derives : ResourceBinding → LayoutAfter → Type 0
 Derives bind x = Placed bind x.answer
 
-at_place_known : (stage : ShaderStage) (bind : ResourceBinding) (ty : BindingType) (f : Found) (L : Layout) → Derives bind (place_step stage bind ty f L)
+at_place_known : (stage : ShaderStage) (bind : ResourceBinding) (ty : BindingType) (f : Option ℕ) (L : Layout) → Derives bind (place_step stage bind ty f L)
 unfolding occupied vacant among
-at_place_known stage bind ty (At i) L =
+at_place_known stage bind ty (Some i) L =
     either (Derives bind) (same_binding ty (entry_nth L.entries i).ty) _ _ (passes refl) (place_known Number.inconsistently_derived_type bind (one refl))
-at_place_known stage bind ty Nothing L = either (Derives bind) (room_for_entry L) _ _ (passes refl) (place_known Number.full_list bind (one refl))
+at_place_known stage bind ty None L = either (Derives bind) (room_for_entry L) _ _ (passes refl) (place_known Number.full_list bind (one refl))
 
 derived_known : (stage : ShaderStage) (bind : ResourceBinding) (d : Derived) (L : Layout) → Derives bind (derived_step stage bind d L)
 unfolding among

@@ -1,13 +1,11 @@
 -- What the program prints (document 01, 'Deliveries': 'A program reads a pack's bytes …').
-use Rattle.std.specs.Prelude.{ℕ, ◌%◌, ◌||◌, not, List, [], ◌∷◌, ◌++◌, eqb, ltb, length, replicate}
+use Rattle.std.specs.Prelude.{ℕ, ◌%◌, ◌||◌, not, List, [], ◌∷◌, ◌++◌, eqb, ltb, length, replicate, None}
 use Rattle.word.specs.Choice.{pick}
 use Rattle.word.specs.Numbers as Number
 use Rattle.word.specs.Answers.{refused}
-use Rattle.varying.specs.declared.Payload.TheVariants as Pay
 use Rattle.layouts.specs.Format.{encode_layout, used_words}
 use Rattle.sizes.specs.Format.{encode_sizes}
 use Rattle.stage_lists.specs.Format.{encode_stage}
-use Rattle.stage_lists.specs.declared.types.PrimitiveIndex.TheVariants as Index
 use Rattle.interface.specs.Meaning.{EntryPoint}
 use Rattle.interface.specs.Format.{Decoded, Damaged, Malformed, Pack, decode, decoded_number, stage_code}
 use Rattle.stage.specs.Meaning.{codes, lent, Call, call, Outcome}
@@ -20,7 +18,7 @@ empty_layout = encode_layout (record { groups = 8; entries = []; room = replicat
 
 -- 'from an empty one': no primitive index, no payload, no varyings; with room for as many words as a stage can hand on
 abbrev pub empty_stage : List ℕ
-empty_stage = encode_stage (record { primitive = Index.None; payload = Pay.Absent; varyings = []; room = replicate 126 0 })
+empty_stage = encode_stage (record { primitive = None; payload = None; varyings = []; room = replicate 126 0 })
 
 -- no sizes are recorded, and there is no room for any: deriving records none
 abbrev pub empty_sizes : List ℕ

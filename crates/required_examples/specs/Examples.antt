@@ -1,5 +1,5 @@
 -- P1 to P11 of document 01, 'Deliveries', as one list; the numbers are written as document 01 has them.
-use Rattle.std.specs.Prelude.{ℕ, zero, suc, ◌+◌, ◌-◌, ◌*◌, true, false, List, [], ◌∷◌, map, length, replicate}
+use Rattle.std.specs.Prelude.{ℕ, zero, suc, ◌+◌, ◌-◌, ◌*◌, true, false, List, [], ◌∷◌, map, length, replicate, None}
 use Rattle.word.specs.Answers.{answer, accepted}
 use Rattle.word.specs.declared.answer.Answer.{Answer}
 use Rattle.numeric.specs.Types.{numeric}
@@ -24,11 +24,9 @@ use Rattle.bindings.specs.declared.types.TextureViewDimension.TheVariants as Vie
 use Rattle.bindings.specs.declared.types.BindGroupLayoutEntry.{BindGroupLayoutEntry}
 use Rattle.varying.specs.declared.InterfaceVar.{InterfaceVar}
 use Rattle.varying.specs.declared.Located.{Located}
-use Rattle.varying.specs.declared.Payload.TheVariants as Pay
 use Rattle.layouts.specs.Format.{encode_layout}
 use Rattle.sizes.specs.Format.{encode_sizes}
 use Rattle.stage_lists.specs.Format.{encode_stage}
-use Rattle.stage_lists.specs.declared.types.PrimitiveIndex.TheVariants as Index
 use Rattle.interface.specs.Meaning.{EntryPoint}
 use Rattle.interface.specs.Format.{encode, stage_code}
 use Rattle.interface.specs.declared.types.ShaderStage.{ShaderStage}
@@ -36,7 +34,6 @@ use Rattle.interface.specs.declared.types.ShaderStage.TheVariants as Stage
 use Rattle.interface.specs.declared.types.BuiltIn.TheVariants as In
 use Rattle.interface.specs.declared.types.Varying.{Varying}
 use Rattle.interface.specs.declared.types.Varying.TheVariants as Var
-use Rattle.interface.specs.declared.types.MeshRecord.TheVariants as Mesh
 use Rattle.interface.specs.declared.types.WorkgroupSize.{WorkgroupSize}
 use Rattle.interface.specs.declared.types.Limits.{Limits}
 use Rattle.stage.specs.Meaning.{Call, call, codes, lent, Outcome, outcome}
@@ -118,8 +115,8 @@ entry stage workgroup resources inputs outputs =
       name = main;
       dual = false;
       workgroup = workgroup;
-      payload = Pay.Absent;
-      mesh = Mesh.Absent;
+      payload = None;
+      mesh = None;
       resources = resources;
       pairs = [];
       inputs = inputs;
@@ -140,10 +137,10 @@ out = free 40
 
 -- the list out with what a stage hands on
 abbrev pub out_with : List Located → List ℕ
-out_with varyings = encode_stage (record { primitive = Index.None; payload = Pay.Absent; varyings = varyings; room = free (38 - 2 * length varyings) })
+out_with varyings = encode_stage (record { primitive = None; payload = None; varyings = varyings; room = free (38 - 2 * length varyings) })
 
 abbrev pub io : List Located → List ℕ
-io varyings = encode_stage (record { primitive = Index.None; payload = Pay.Absent; varyings = varyings; room = [] })
+io varyings = encode_stage (record { primitive = None; payload = None; varyings = varyings; room = [] })
 
 abbrev pub layout : List BindGroupLayoutEntry → List ℕ → List ℕ
 layout entries room = encode_layout (record { groups = 8; entries = entries; room = room })

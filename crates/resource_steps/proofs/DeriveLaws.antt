@@ -1,4 +1,5 @@
 -- The ways of resources through a layout that is being derived.
+use Rattle.std.proofs.Common.{Option, Some, None}
 use Prim.Native.Nat.{ℕ, ◌+◌, ◌-◌, ◌^◌, ◌<◌, ◌≤◌}
 use native.Mathlib.Omega.{arith}
 use mathlib.Core.Path.{◌≡◌, refl, sym, ap, ◌∙◌}
@@ -31,8 +32,6 @@ use Rattle.word_rules.proofs.DeriveLaws.{derived_least}
 use Rattle.layouts.specs.Meaning.{Layout, entry_places, find_entry, entry_has, entry_nth, pushed, joined, room_for_entry}
 use Rattle.layouts.specs.Format.{entry_fits}
 use Rattle.places.proofs.PlaceWays.{place_lacks}
-use Rattle.places.specs.declared.found.Found.{Found}
-use Rattle.places.specs.declared.found.Found.TheVariants.{At, Nothing}
 use Rattle.interface.specs.Format.{stage_code, contents, pairs_of}
 use Rattle.interface.specs.declared.types.ShaderStage.{ShaderStage}
 use Rattle.interface.specs.declared.types.SamplingPair.{SamplingPair}
@@ -66,7 +65,7 @@ module _ (stage : ShaderStage) (place i : ℕ) (b : BindingType) (L : Layout) (a
   occupied_other t h = rw (← q, t, h)
 
 -- a place at which no entry was found has none
-none_there : (place : ResourceBinding) (L : Layout) → find_entry place L ≡ Nothing → entry_has place L.entries ≡ false
+none_there : (place : ResourceBinding) (L : Layout) → find_entry place L ≡ None → entry_has place L.entries ≡ false
 none_there place L h = sym (place_lacks place (entry_places L.entries) (find_entry place L) refl h)
 
 -- the least size of a type that a layout list can hold
@@ -96,7 +95,7 @@ module _ (place ty least p v : ℕ) (b : BindingType) (t : TypeWords ty least b)
   pub new_fits : (L : Layout) → (place_of place).group < L.groups → entry_fits L.groups parts ≡ true
   new_fits L g = rw (new_mean, new_encodable, lt-ltb (place_of place).group L.groups g)
 
-  pub new_lacks : (L : Layout) → find_entry (place_of place) L ≡ Nothing → entry_has parts.bind L.entries ≡ false
+  pub new_lacks : (L : Layout) → find_entry (place_of place) L ≡ None → entry_has parts.bind L.entries ≡ false
   new_lacks L n = rw new_mean (none_there (place_of place) L n)
 
   module _ (stage : ShaderStage) (c : ℕ) (ec : c ≡ stage_code stage) (ev : v ≡ 2 ^ c) (L M : Layout) (a : Answer) (k : Bool) (q : k ≡ room_for_entry L)
@@ -109,16 +108,16 @@ module _ (place ty least p v : ℕ) (b : BindingType) (t : TypeWords ty least b)
     unfolding vacant
     vacant_full y h = rw (← q, m, y, h)
 
-module _ (stage : ShaderStage) (place : ℕ) (b : BindingType) (L M : Layout) (a : Answer) (f : Found) (q : f ≡ find_entry (place_of place) L) where
-  pub place_occupied : (i : ℕ) → f ≡ At i → layout_after a M ≡ occupied stage (place_of place) b i L
+module _ (stage : ShaderStage) (place : ℕ) (b : BindingType) (L M : Layout) (a : Answer) (f : Option ℕ) (q : f ≡ find_entry (place_of place) L) where
+  pub place_occupied : (i : ℕ) → f ≡ Some i → layout_after a M ≡ occupied stage (place_of place) b i L
       → layout_after a M ≡ place_step stage (place_of place) b (find_entry (place_of place) L) L
   place_occupied i e h = rw (← q, e) h
 
-  pub place_vacant : f ≡ Nothing → layout_after a M ≡ vacant stage (place_of place) b L
+  pub place_vacant : f ≡ None → layout_after a M ≡ vacant stage (place_of place) b L
       → layout_after a M ≡ place_step stage (place_of place) b (find_entry (place_of place) L) L
   place_vacant e h = rw (← q, e) h
 
-pub found_none : (place : ResourceBinding) (L : Layout) (f : Found) → f ≡ find_entry place L → f ≡ Nothing → find_entry place L ≡ Nothing
+pub found_none : (place : ResourceBinding) (L : Layout) (f : Option ℕ) → f ≡ find_entry place L → f ≡ None → find_entry place L ≡ None
 found_none place L f q e = sym q ∙ e
 
 -- ---- one resource

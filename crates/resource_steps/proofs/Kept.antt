@@ -1,4 +1,5 @@
 -- What the resources of an entry point leave: those that passed entered what they ask for, and one that was refused entered nothing but its size.
+use Rattle.std.proofs.Common.{Option, Some, None}
 use Prim.Native.Nat.{ℕ}
 use mathlib.Core.Path.{◌≡◌, refl, sym, ◌∙◌}
 use mathlib.Core.Bool.{Bool, false, false≢true}
@@ -23,8 +24,6 @@ use Rattle.bindings.specs.declared.types.Derived.TheVariants as Der
 use Rattle.layouts.specs.Meaning.{Layout, find_entry, entry_nth, pushed, joined, room_for_entry}
 use Rattle.sizes.specs.Meaning.{Sizes, size_has, size_fits, recorded, size_record_width}
 use Rattle.places.specs.Records.{room_for}
-use Rattle.places.specs.declared.found.Found.{Found}
-use Rattle.places.specs.declared.found.Found.TheVariants.{At, Nothing}
 use Rattle.interface.specs.Format.{stage_code}
 use Rattle.interface.specs.declared.types.ShaderStage.{ShaderStage}
 use Rattle.interface.specs.declared.types.SamplingPair.{SamplingPair}
@@ -44,11 +43,11 @@ place_refused : (n : ℕ) (bind : ResourceBinding) (M L : Layout) → (n ≡ 0 �
 place_refused n bind M L z = rw (ne_eqb n 0 z) (refused z refl)
 
 module _ (stage : ShaderStage) (bind : ResourceBinding) where
-  at_place : (ty : BindingType) (f : Found) (L : Layout) → DerivesOne (entered_at stage bind ty f L) L (place_step stage bind ty f L)
+  at_place : (ty : BindingType) (f : Option ℕ) (L : Layout) → DerivesOne (entered_at stage bind ty f L) L (place_step stage bind ty f L)
   unfolding occupied vacant
-  at_place ty (At i) L =
+  at_place ty (Some i) L =
       by_test (same_binding ty (entry_nth L.entries i).ty) (λ t. rw t (passes refl)) (λ n. rw n (place_refused Number.inconsistently_derived_type bind (joined (stage_code stage) L i) L (λ z. omega arith)))
-  at_place ty Nothing L =
+  at_place ty None L =
       by_test (room_for_entry L) (λ t. rw t (passes refl)) (λ n. rw n (place_refused Number.full_list bind (pushed L (new_entry stage bind ty)) L (λ z. omega arith)))
 
   derived_at : (d : Derived) (L : Layout) → DerivesOne (entered_as stage bind d L) L (derived_step stage bind d L)

@@ -1,4 +1,5 @@
 -- Laws of the positions of entries that resources note.
+use Rattle.std.proofs.Common.{Option, Some, None}
 use Prim.Native.Nat.{ℕ, ◌+◌, ◌-◌, ◌<◌, ◌≤◌}
 use native.Mathlib.Omega.{arith}
 use mathlib.Core.Path.{◌≡◌, sym, ◌∙◌}
@@ -11,8 +12,6 @@ use Rattle.bindings.specs.Format.{place_of, resource_type_of, size_standing}
 use Rattle.bindings.specs.declared.types.Resource.{Resource}
 use Rattle.layouts.specs.Meaning.{Layout, find_entry}
 use Rattle.sizes.specs.Meaning.{Sizes}
-use Rattle.places.specs.declared.found.Found.{Found}
-use Rattle.places.specs.declared.found.Found.TheVariants.{At, Nothing}
 use Rattle.interface.specs.Format.{contents}
 use Rattle.interface.specs.declared.types.ShaderStage.{ShaderStage}
 use Rattle.resource_steps.specs.Inner.Given.{resource_table}
@@ -23,20 +22,20 @@ use Rattle.resource_steps.proofs.ResourceWalk.{index_next, index_none}
 
 -- ---- one position
 
-module _ (table : List ℕ) (i : ℕ) (f : Found) where
+module _ (table : List ℕ) (i : ℕ) (f : Option ℕ) where
   -- one that was found is stored where the table has room for the index
-  module _ (index : ℕ) (e : f ≡ At index) where
+  module _ (index : ℕ) (e : f ≡ Some index) where
     pub note_stored : i < 128 → set table i index ≡ note_at i f table
     note_stored h = rw (e, lt-ltb i 128 h)
 
     pub note_past : 128 ≤ i → table ≡ note_at i f table
     note_past h = rw (e, le-ltb i 128 h)
 
-  pub note_none : f ≡ Nothing → table ≡ note_at i f table
+  pub note_none : f ≡ None → table ≡ note_at i f table
   note_none e = rw e
 
 -- the position of an entry that was sought
-pub note_found : (table m : List ℕ) (i : ℕ) (f g : Found) → f ≡ g → m ≡ note_at i f table → m ≡ note_at i g table
+pub note_found : (table m : List ℕ) (i : ℕ) (f g : Option ℕ) → f ≡ g → m ≡ note_at i f table → m ≡ note_at i g table
 note_found table m i f g e h = rw (← e) h
 
 -- ---- one resource, by its index

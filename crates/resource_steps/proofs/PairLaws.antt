@@ -1,4 +1,5 @@
 -- The ways through an entry point's pairs of textures and samplers.
+use Rattle.std.proofs.Common.{Option, Some, None}
 use Prim.Native.Nat.{ℕ, zero, suc, ◌+◌, ◌-◌, ◌%◌, ◌<◌, ◌≤◌}
 use native.Mathlib.Omega.{arith}
 use mathlib.Core.Path.{◌≡◌, refl, sym, ap, ◌∙◌}
@@ -20,8 +21,6 @@ use Rattle.word.proofs.Truth.{first, second, by_test}
 use Rattle.word.proofs.Lists.{first_passes, rest_passes}
 use Rattle.layouts.specs.Meaning.{Layout, find_entry, entry_nth}
 use Rattle.layouts.specs.Format.{decode_layout}
-use Rattle.places.specs.declared.found.Found.{Found}
-use Rattle.places.specs.declared.found.Found.TheVariants.{At, Nothing}
 use Rattle.interface.specs.Format.{pair_of, pairs_of}
 use Rattle.interface.specs.declared.types.SamplingPair.{SamplingPair}
 use Rattle.resource_steps.specs.Inner.Given.{resource_table, pair_below, pairs_below, WordMeans}
@@ -116,12 +115,12 @@ module _ (t s : ℕ) where
 
 -- ---- the type word at a place
 
-pub type_found_lem : (l : List ℕ) (place : ℕ) (f : Found) (i w : ℕ) → f ≡ At i → f ≡ find_entry (place_of place) (decode_layout l)
+pub type_found_lem : (l : List ℕ) (place : ℕ) (f : Option ℕ) (i w : ℕ) → f ≡ Some i → f ≡ find_entry (place_of place) (decode_layout l)
     → binding_type_of w (least_size_of (entry_nth (decode_layout l).entries i).ty) ≡ (entry_nth (decode_layout l).entries i).ty
     → WordMeans w (type_at (decode_layout l) (place_of place))
 type_found_lem l place f i w n q m = (least_size_of (entry_nth (decode_layout l).entries i).ty, rw (← q, n) (sym m))
 
-pub type_none : (l : List ℕ) (place : ℕ) (f : Found) → f ≡ find_entry (place_of place) (decode_layout l) → f ≡ Nothing
+pub type_none : (l : List ℕ) (place : ℕ) (f : Option ℕ) → f ≡ find_entry (place_of place) (decode_layout l) → f ≡ None
     → WordMeans 0x9300_0000 (type_at (decode_layout l) (place_of place))
 unfolding binding_type_of
 type_none l place f q n = (0, rw (← q, n))

@@ -1,4 +1,5 @@
 -- The ways of resources through a provided layout.
+use Rattle.std.proofs.Common.{Option, Some, None}
 use Prim.Native.Nat.{ℕ, ◌+◌, ◌-◌, ◌^◌, ◌<◌, ◌≤◌}
 use native.Mathlib.Omega.{arith}
 use mathlib.Core.Path.{◌≡◌, refl, sym, ap, ◌∙◌}
@@ -21,8 +22,6 @@ use Rattle.word.proofs.Truth.{second, by_test, first}
 use Rattle.layouts.specs.Meaning.{Layout, find_entry, entry_nth, sees_bit}
 use Rattle.sizes.specs.Meaning.{Sizes, size_has, size_fits, recorded, size_record_width}
 use Rattle.places.specs.Records.{room_for}
-use Rattle.places.specs.declared.found.Found.{Found}
-use Rattle.places.specs.declared.found.Found.TheVariants.{At, Nothing}
 use Rattle.interface.specs.Format.{stage_code, contents}
 use Rattle.interface.specs.declared.types.ShaderStage.{ShaderStage}
 use Rattle.resource_steps.specs.Inner.Given.{resource_table}
@@ -44,12 +43,12 @@ module _ (stage : ShaderStage) (ty : ResourceType) (e : BindGroupLayoutEntry) (c
       let z : binding_type_of t least ≡ e.ty = ap (binding_type_of t) g ∙ m in
       rw (← s, ← p, ← q, not-false b n, ← z) k
 
-module _ (stage : ShaderStage) (L : Layout) (r : Resource) (f : Found) (a : Answer) (q : f ≡ find_entry r.bind L) where
-  pub provided_none : f ≡ Nothing → a ≡ binding_answer 20 r.bind → a ≡ provided_use stage L r
+module _ (stage : ShaderStage) (L : Layout) (r : Resource) (f : Option ℕ) (a : Answer) (q : f ≡ find_entry r.bind L) where
+  pub provided_none : f ≡ None → a ≡ binding_answer 20 r.bind → a ≡ provided_use stage L r
   unfolding provided_use
   provided_none n h = rw (← q, n) h
 
-  pub provided_at : (i u : ℕ) → f ≡ At i → u ≡ entry_use stage r.ty (entry_nth L.entries i) → a ≡ binding_answer u r.bind → a ≡ provided_use stage L r
+  pub provided_at : (i u : ℕ) → f ≡ Some i → u ≡ entry_use stage r.ty (entry_nth L.entries i) → a ≡ binding_answer u r.bind → a ≡ provided_use stage L r
   unfolding provided_use
   provided_at i u n x h = rw (← q, n, ← x) h
 

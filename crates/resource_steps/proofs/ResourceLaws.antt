@@ -1,4 +1,5 @@
 -- The answer of a place, and positions that were found.
+use Rattle.std.proofs.Common.{Option, Some, None}
 use Prim.Native.Nat.{ℕ, ◌^◌, ◌<◌}
 use native.Mathlib.Omega.{arith}
 use mathlib.Core.Path.{◌≡◌, refl, ap, ◌∙◌}
@@ -13,8 +14,6 @@ use Rattle.bindings.specs.declared.types.ResourceBinding.{ResourceBinding}
 use Rattle.places.specs.Places.{found_below}
 use Rattle.layouts.specs.Format.{layout_well_formed, decode_layout}
 use Rattle.layouts.proofs.LayoutStores.{layout_few}
-use Rattle.places.specs.declared.found.Found.{Found}
-use Rattle.places.specs.declared.found.Found.TheVariants.{At, Nothing}
 
 pub answer_there : (number place : ℕ) (bind : ResourceBinding) (a : Answer) → bind ≡ place_of place → a ≡ binding_answer number bind
     → a ≡ binding_answer number (place_of place)
@@ -23,9 +22,9 @@ answer_there number place bind a e h = h ∙ ap (binding_answer number) e
 -- ---- positions that were found
 
 -- the position that was found fits into a byte
-pub found_few : (l : List ℕ) (f : Found) → layout_well_formed l ≡ true → found_below (length (decode_layout l).entries) f ≡ true → found_below 256 f ≡ true
-found_few l (At i) h b = lt-ltb i 256 (omega (arith, layout_few l h, ltb-true i (length (decode_layout l).entries) b))
-found_few l Nothing h b = refl
+pub found_few : (l : List ℕ) (f : Option ℕ) → layout_well_formed l ≡ true → found_below (length (decode_layout l).entries) f ≡ true → found_below 256 f ≡ true
+found_few l (Some i) h b = lt-ltb i 256 (omega (arith, layout_few l h, ltb-true i (length (decode_layout l).entries) b))
+found_few l None h b = refl
 
-pub found_byte : (f : Found) (i : ℕ) → found_below 256 f ≡ true → f ≡ At i → i < 2 ^ 8
+pub found_byte : (f : Option ℕ) (i : ℕ) → found_below 256 f ≡ true → f ≡ Some i → i < 2 ^ 8
 found_byte f i h e = ltb-true i 256 (rw e at h)

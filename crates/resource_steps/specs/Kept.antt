@@ -1,6 +1,6 @@
 -- What resources leave in the lists that a call lends, said apart from the steps that write it
 -- (document 01, demand 1: a refusal 'keeps exactly the layout and size records made by the steps before it').
-use Rattle.std.specs.Prelude.{ℕ, Bool, List, [], ◌∷◌}
+use Rattle.std.specs.Prelude.{ℕ, Bool, List, [], ◌∷◌, Option, Some, None}
 use Rattle.bindings.specs.Rules.{derive_binding_type}
 use Rattle.bindings.specs.declared.types.ResourceBinding.{ResourceBinding}
 use Rattle.bindings.specs.declared.types.Resource.{Resource}
@@ -11,8 +11,6 @@ use Rattle.bindings.specs.declared.types.Derived.{Derived}
 use Rattle.bindings.specs.declared.types.Derived.TheVariants as Der
 use Rattle.layouts.specs.Meaning.{Layout, find_entry, pushed, joined}
 use Rattle.sizes.specs.Meaning.{Sizes, recorded}
-use Rattle.places.specs.declared.found.Found.{Found}
-use Rattle.places.specs.declared.found.Found.TheVariants.{At, Nothing}
 use Rattle.interface.specs.Format.{stage_code}
 use Rattle.interface.specs.declared.types.ShaderStage.{ShaderStage}
 use Rattle.interface.specs.declared.types.SamplingPair.{SamplingPair}
@@ -21,9 +19,9 @@ use Rattle.resource_steps.specs.Resources.{resource_nth, new_entry, named_textur
 -- ---- the layout, where it is derived
 
 -- an entry at the place gains the stage's bit; where there is none, a new one goes last
-abbrev pub entered_at : ShaderStage → ResourceBinding → BindingType → Found → Layout → Layout
-entered_at stage bind ty (At i) L = joined (stage_code stage) L i
-entered_at stage bind ty Nothing L = pushed L (new_entry stage bind ty)
+abbrev pub entered_at : ShaderStage → ResourceBinding → BindingType → Option ℕ → Layout → Layout
+entered_at stage bind ty (Some i) L = joined (stage_code stage) L i
+entered_at stage bind ty None L = pushed L (new_entry stage bind ty)
 
 -- a resource that derives no type enters nothing
 abbrev pub entered_as : ShaderStage → ResourceBinding → Derived → Layout → Layout

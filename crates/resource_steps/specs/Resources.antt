@@ -1,6 +1,6 @@
 -- The resources of an entry point against a layout, provided or derived, and its pairs of textures and samplers
 -- (document 01, 'Each resource in list order' and 'Provided only: each pair in pack order'; WebGPU, 'validating GPUProgrammableStage').
-use Rattle.std.specs.Prelude.{ℕ, zero, suc, ◌^◌, Bool, true, false, List, [], ◌∷◌, eqb, ltb}
+use Rattle.std.specs.Prelude.{ℕ, zero, suc, ◌^◌, Bool, true, false, List, [], ◌∷◌, eqb, ltb, Option, Some, None}
 use Rattle.word.specs.Choice.{pick, yes}
 use Rattle.word.specs.Numbers as Number
 use Rattle.word.specs.Answers.{answer, accepted, both}
@@ -22,8 +22,6 @@ use Rattle.bindings.specs.declared.types.Derived.{Derived}
 use Rattle.bindings.specs.declared.types.Derived.TheVariants as Der
 use Rattle.layouts.specs.Meaning.{Layout, find_entry, entry_nth, sees_bit, pushed, joined, room_for_entry}
 use Rattle.sizes.specs.Meaning.{Sizes, size_fits, recorded}
-use Rattle.places.specs.declared.found.Found.{Found}
-use Rattle.places.specs.declared.found.Found.TheVariants.{At, Nothing}
 use Rattle.interface.specs.Format.{stage_code}
 use Rattle.interface.specs.declared.types.ShaderStage.{ShaderStage}
 use Rattle.interface.specs.declared.types.SamplingPair.{SamplingPair}
@@ -60,9 +58,9 @@ abbrev pub entry_use : ShaderStage → ResourceType → BindGroupLayoutEntry →
 entry_use stage ty e = pick (sees_bit (stage_code stage) e.visibility) (use_number (check_binding_use ty e.ty)) Number.invisible
 
 -- no entry at the place is 20
-abbrev pub found_use : ShaderStage → ResourceType → Layout → Found → ℕ
-found_use stage ty L (At i) = entry_use stage ty (entry_nth L.entries i)
-found_use stage ty L Nothing = Number.missing
+abbrev pub found_use : ShaderStage → ResourceType → Layout → Option ℕ → ℕ
+found_use stage ty L (Some i) = entry_use stage ty (entry_nth L.entries i)
+found_use stage ty L None = Number.missing
 
 -- 'then 20, 21, check_binding_use'
 unfoldable pub provided_use : ShaderStage → Layout → Resource → Answer
@@ -101,9 +99,9 @@ vacant stage bind ty L =
     pick (room_for_entry L) (layout_after accepted (pushed L (new_entry stage bind ty))) (layout_after (binding_answer Number.full_list bind) L)
 
 -- a derived type at its place
-abbrev pub place_step : ShaderStage → ResourceBinding → BindingType → Found → Layout → LayoutAfter
-place_step stage bind ty (At i) L = occupied stage bind ty i L
-place_step stage bind ty Nothing L = vacant stage bind ty L
+abbrev pub place_step : ShaderStage → ResourceBinding → BindingType → Option ℕ → Layout → LayoutAfter
+place_step stage bind ty (Some i) L = occupied stage bind ty i L
+place_step stage bind ty None L = vacant stage bind ty L
 
 -- what was derived, at its place
 abbrev pub derived_step : ShaderStage → ResourceBinding → Derived → Layout → LayoutAfter
@@ -205,9 +203,9 @@ pair_number (Bind.StorageTexture access format view) sampler = Number.pair_no_te
 pair_number (Bind.AccelerationStructure returns) sampler = Number.pair_no_texture
 
 -- the type of the entry at a place; where there is none, one that is no texture and no sampler
-abbrev pub type_found : Layout → Found → BindingType
-type_found L (At i) = (entry_nth L.entries i).ty
-type_found L Nothing = Bind.AccelerationStructure false
+abbrev pub type_found : Layout → Option ℕ → BindingType
+type_found L (Some i) = (entry_nth L.entries i).ty
+type_found L None = Bind.AccelerationStructure false
 
 abbrev pub type_at : Layout → ResourceBinding → BindingType
 type_at L bind = type_found L (find_entry bind L)

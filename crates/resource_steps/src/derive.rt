@@ -3,7 +3,6 @@ ghost use Rattle.std.specs.Prelude.{◌≡◌, true, ◌&&◌, eqb, ◌+◌, ◌
 ghost use Rattle.bindings.specs.Rules.{same_binding};
 ghost use Rattle.bindings.specs.Format.{place_of, type_code, resource_type_of, resource, binding_type_of, type_encodable};
 ghost use Rattle.layouts.specs.Meaning.{find_entry, entry_nth};
-ghost use Rattle.places.specs.declared.found.Found.TheVariants.{Nothing};
 ghost use Rattle.layouts.specs.Format.{layout_well_formed, decode_layout};
 ghost use Rattle.interface.specs.Format.{contents, pairs_of};
 ghost use Rattle.resource_steps.specs.Inner.Given.{resource_table, Inside, each_encodable, each_below, TypeWords};
@@ -18,7 +17,6 @@ use layouts::layout::{
     entry_least, entry_type, find_entry_word, group_count, join_visibility, push_entry,
 };
 use layouts::visibility::stage_bit;
-use places::found::Found;
 use word::answer::Answer;
 use word::{content, numbers};
 use word_rules::derives::{derived_least, derived_word};
@@ -64,7 +62,7 @@ fn vacant(stage: ShaderStage, place: u32, ty: u32, least: u64, layout: &mut [u32
     requires layout_value { layout_well_formed layout.old ≡ true }
     requires type_words { TypeWords ty least (binding_type_of ty least) }
     requires place_bound { (place_of place).group < (decode_layout layout.old).groups }
-    requires layout_value_2 { find_entry (place_of place) (decode_layout layout.old) ≡ Nothing }
+    requires layout_value_2 { find_entry (place_of place) (decode_layout layout.old) ≡ None }
     ensures layout_after { layout_after result (decode_layout layout.new)
         ≡ vacant stage (place_of place) (binding_type_of ty least) (decode_layout layout.old) }
     ensures layout_after_2 { layout_well_formed layout.new ≡ true }
@@ -87,8 +85,8 @@ fn place_step(stage: ShaderStage, place: u32, ty: u32, least: u64, layout: &mut 
     ensures layout_after_2 { layout_well_formed layout.new ≡ true }
 {
     match find_entry_word(layout, place) {
-        Found::At { index } => occupied(stage, place, ty, least, index, layout),
-        Found::Nothing => vacant(stage, place, ty, least, layout),
+        Some(index) => occupied(stage, place, ty, least, index, layout),
+        None => vacant(stage, place, ty, least, layout),
     }
 }
 

@@ -10,7 +10,6 @@ ghost use Rattle.resource_steps.specs.Resources.{resource_nth, filtering, sample
 use crate::resources::noted;
 use interface::reads::{pair_of, position_at};
 use layouts::layout::{entry_type, find_entry_near};
-use places::found::Found;
 use word::answer::Answer;
 use word::{content, numbers};
 
@@ -58,8 +57,8 @@ fn type_word_at(layout: &[u32], place: u32, near: usize) -> u32
     ensures { WordMeans result (type_at (decode_layout layout.now) (place_of place)) }
 {
     match find_entry_near(layout, place, near) {
-        Found::At { index } => entry_type(layout, index),
-        Found::Nothing => 0x9300_0000,
+        Some(index) => entry_type(layout, index),
+        None => 0x9300_0000,
     }
 }
 

@@ -16,7 +16,6 @@ use interface::reads::{position_at, stage_code};
 use interface::types::ShaderStage;
 use layouts::layout::{entry_least, entry_type, entry_visibility, find_entry_near};
 use layouts::visibility::sees;
-use places::found::Found;
 use sizes::sizes::record_size;
 use word::answer::Answer;
 use word::{content, numbers};
@@ -70,8 +69,8 @@ fn provided_use(
     let found = find_entry_near(layout, place, near);
     note(entries, i, found);
     match found {
-        Found::Nothing => place_answer(numbers::MISSING, place),
-        Found::At { index } => place_answer(entry_use(stage, w, size, layout, index), place),
+        None => place_answer(numbers::MISSING, place),
+        Some(index) => place_answer(entry_use(stage, w, size, layout, index), place),
     }
 }
 

@@ -7,7 +7,6 @@ ghost use Rattle.resource_steps.specs.Inner.Notes.{note_at};
 
 use bindings::answers::binding_answer;
 use bindings::resource_words::place_of;
-use places::found::Found;
 use word::answer::Answer;
 
 // The answer of a number that names the place of a word.
@@ -38,16 +37,16 @@ pub(crate) fn noted(entries: &[u8; 128], i: u32) -> usize
 }
 
 // Notes the position that was found for the resource of an index.
-pub(crate) fn note(entries: &mut [u8; 128], i: u32, found: Found)
+pub(crate) fn note(entries: &mut [u8; 128], i: u32, found: Option<usize>)
     requires { found_below 256 found ≡ true }
     ensures { entries.new ≡ note_at i found entries.old }
 {
     match found {
-        Found::At { index } => {
+        Some(index) => {
             if i < 128 {
                 entries[i as usize] = index as u8;
             }
         }
-        Found::Nothing => {}
+        None => {}
     }
 }

@@ -1,4 +1,5 @@
 -- What is done to a size list, over its meaning: each place keeps the largest size recorded.
+use Rattle.std.proofs.Common.{Some}
 use Prim.Native.Nat.{ℕ, suc, ◌+◌, ◌-◌, ◌^◌, ◌<◌, ◌≤◌, max}
 use native.Mathlib.Omega.{arith}
 use mathlib.Core.Path.{◌≡◌, refl}
@@ -16,7 +17,6 @@ use Rattle.places.specs.Records.{room_for}
 use Rattle.places.specs.Places.{same_place, place_from, place_in}
 use Rattle.sizes.specs.Format.{size_encodable, sizes_good}
 use Rattle.sizes.specs.declared.size_record.SizeRecord.{SizeRecord}
-use Rattle.places.specs.declared.found.Found.TheVariants.{At}
 use Rattle.word.proofs.Lists.{first_passes, rest_passes}
 use Rattle.places.proofs.Records.{every_more}
 use Rattle.places.proofs.PlaceLaws.{same_place_eq, same_place_refl, found_not, found_there, in_last, distinct_last}
@@ -30,7 +30,7 @@ abbrev pub no_record : SizeRecord
 no_record = record { bind = record { group = 0; binding = 0 }; size = 0 }
 
 -- the record raised is the one that is found
-pub raised_set : (place : ResourceBinding) (size : ℕ) (ss : List SizeRecord) (i j : ℕ) → place_from place (size_places ss) i ≡ At j
+pub raised_set : (place : ResourceBinding) (size : ℕ) (ss : List SizeRecord) (i j : ℕ) → place_from place (size_places ss) i ≡ Some j
     → raise_at place size ss ≡ set ss (j - i) (raised size (get_or ss (j - i) no_record))
 unfolding raise_at place_from
 raised_set place size [] i j h = refl

@@ -1,4 +1,5 @@
 -- What the code's stores into a size list make of it.
+use Rattle.std.proofs.Common.{Option, Some, None}
 use Prim.Native.Nat.{ℕ, suc, ◌+◌, ◌-◌, ◌*◌, ◌^◌, ◌<◌, ◌≤◌, max}
 use native.Mathlib.Omega.{arith}
 use mathlib.Core.Path.{◌≡◌, sym, ap, ◌∙◌}
@@ -19,8 +20,6 @@ use Rattle.places.specs.Records.{room_for, put, past, each, count_of}
 use Rattle.sizes.specs.Format.{read_size, read_sizes, size_good, size_record_words, sizes_well_formed, decode_sizes, encode_sizes, sizes_good}
 use Rattle.sizes.specs.declared.size_record.SizeRecord.{SizeRecord}
 use Rattle.sizes.specs.Inner.Near.{find_size, note_next}
-use Rattle.places.specs.declared.found.Found.{Found}
-use Rattle.places.specs.declared.found.Found.TheVariants.{At, Nothing}
 use Rattle.places.proofs.Words.{there}
 use Rattle.places.specs.Inner.Begins.{place_first}
 use Rattle.places.proofs.Records.{each_weaker, read_length, room_lacks, room_fits, nth_record, each_nth, put_more, count_more, set_read}
@@ -39,16 +38,16 @@ sizes_differ s n f e = rw e (rw (size_places_lem (count_of s) (drop 1 s)) at (we
 
 -- ---- where the place is
 
-module _ (s : List ℕ) (place : ResourceBinding) (n : ℕ) (r : Found) (en : n ≡ count_of s) (er : r ≡ place_from place (places 2 n (drop 1 s)) 0) where
+module _ (s : List ℕ) (place : ResourceBinding) (n : ℕ) (r : Option ℕ) (en : n ≡ count_of s) (er : r ≡ place_from place (places 2 n (drop 1 s)) 0) where
   sought : r ≡ place_from place (size_places (decode_sizes s).records) 0
   unfolding decode_sizes
   sought = rw (size_places_lem (count_of s) (drop 1 s), ← en) er
 
-  pub size_lacks : r ≡ Nothing → size_has place (decode_sizes s).records ≡ false
+  pub size_lacks : r ≡ None → size_has place (decode_sizes s).records ≡ false
   size_lacks h = sym (place_lacks place (size_places (decode_sizes s).records) r sought h)
 
-  module _ (i : ℕ) (h : r ≡ At i) where
-    size_there_lem : place_from place (size_places (decode_sizes s).records) 0 ≡ At i
+  module _ (i : ℕ) (h : r ≡ Some i) where
+    size_there_lem : place_from place (size_places (decode_sizes s).records) 0 ≡ Some i
     size_there_lem = sym sought ∙ h
 
     size_has_lem : size_has place (decode_sizes s).records ≡ true
@@ -59,17 +58,17 @@ module _ (s : List ℕ) (place : ResourceBinding) (n : ℕ) (r : Found) (en : n 
 
 -- ---- the position that is noted
 
-module _ (s next : List ℕ) (place : ResourceBinding) (n : ℕ) (r : Found) (en : n ≡ count_of s) (er : r ≡ place_from place (places 2 n (drop 1 s)) 0) where
+module _ (s next : List ℕ) (place : ResourceBinding) (n : ℕ) (r : Option ℕ) (en : n ≡ count_of s) (er : r ≡ place_from place (places 2 n (drop 1 s)) 0) where
   -- the position behind a record that was found is noted
-  pub next_noted : (i : ℕ) → r ≡ At i → set next 0 (i + 1) ≡ note_next (find_size place (decode_sizes s)) next
+  pub next_noted : (i : ℕ) → r ≡ Some i → set next 0 (i + 1) ≡ note_next (find_size place (decode_sizes s)) next
   next_noted i h = rw (size_there_lem s place n r en er i h)
 
   -- where there is none, the note stays
-  pub next_kept : r ≡ Nothing → next ≡ note_next (find_size place (decode_sizes s)) next
-  next_kept h = let e : find_size place (decode_sizes s) ≡ Nothing = sym (sought s place n r en er) ∙ h in rw e
+  pub next_kept : r ≡ None → next ≡ note_next (find_size place (decode_sizes s)) next
+  next_kept h = let e : find_size place (decode_sizes s) ≡ None = sym (sought s place n r en er) ∙ h in rw e
 
 -- the words of a record that was found
-module _ (s : List ℕ) (n i : ℕ) (r : Found) (f : sizes_well_formed s ≡ true) (en : n ≡ count_of s) (b : found_below n r ≡ true) (h : r ≡ At i) where
+module _ (s : List ℕ) (n i : ℕ) (r : Option ℕ) (f : sizes_well_formed s ≡ true) (en : n ≡ count_of s) (b : found_below n r ≡ true) (h : r ≡ Some i) where
   pub index_inside : 2 * i + 2 < length s
   index_inside = omega (arith, (well_formed s f).holds, found_inside n i r b h)
 
@@ -95,7 +94,7 @@ raised_tail n i size ws h t k =
     let c : size_record_words (raised size (get_or ss i no_record)) ≡ set (size_record_words (get_or ss i no_record)) 1 v = rw z in
     set_read size_form n i 1 v ws (raised size (get_or ss i no_record)) no_record h t k (omega arith) c
 
-raised_words : (s : List ℕ) (place : ResourceBinding) (i size : ℕ) → sizes_well_formed s ≡ true → place_from place (size_places (decode_sizes s).records) 0 ≡ At i
+raised_words : (s : List ℕ) (place : ResourceBinding) (i size : ℕ) → sizes_well_formed s ≡ true → place_from place (size_places (decode_sizes s).records) 0 ≡ Some i
     → i < count_of s → size_has place (decode_sizes s).records ≡ true
     → set s (2 * i + 2) (of_kind 6 (max (content_of (word_at s (2 * i + 2))) size)) ≡ encode_sizes (recorded place size (decode_sizes s))
 unfolding encode_sizes decode_sizes recorded count_of
@@ -127,8 +126,8 @@ size_kind s i f k =
     let z : 1 + (2 * i + 1) ≡ 2 * i + 2 = omega arith in
     rw (there (drop 1 s) (2 * i) 1, there s 1 (2 * i + 1), z) at q
 
-pub size_raised : (s s' : List ℕ) (p size z n i : ℕ) (r : Found) → sizes_well_formed s ≡ true → size < size_limit → z ≡ size_word size → n ≡ count_of s
-    → r ≡ place_from (place_of p) (places 2 n (drop 1 s)) 0 → found_below n r ≡ true → r ≡ At i → s' ≡ set s (2 * i + 2) (max (word_at s (2 * i + 2)) z)
+pub size_raised : (s s' : List ℕ) (p size z n i : ℕ) (r : Option ℕ) → sizes_well_formed s ≡ true → size < size_limit → z ≡ size_word size → n ≡ count_of s
+    → r ≡ place_from (place_of p) (places 2 n (drop 1 s)) 0 → found_below n r ≡ true → r ≡ Some i → s' ≡ set s (2 * i + 2) (max (word_at s (2 * i + 2)) z)
     → s' ≡ encode_sizes (recorded (place_of p) size (decode_sizes s))
 size_raised s s' p size z n i r f l ez en er below h e =
     let b : i < count_of s = rw (← en) (found_inside n i r below h) in
@@ -202,6 +201,6 @@ module _ (s s' : List ℕ) (p size : ℕ) (f : sizes_well_formed s ≡ true) (o 
   pub record_well_formed : sizes_well_formed s' ≡ true
   record_well_formed = rw e (well_formed_encode (recorded (place_of p) size (decode_sizes s)) record_good)
 
-pub raised_well_formed : (s s' : List ℕ) (p size z n i : ℕ) (r : Found) → sizes_well_formed s ≡ true → 1 ≤ size → size < size_limit → z ≡ size_word size → n ≡ count_of s
-    → r ≡ place_from (place_of p) (places 2 n (drop 1 s)) 0 → found_below n r ≡ true → r ≡ At i → s' ≡ set s (2 * i + 2) (max (word_at s (2 * i + 2)) z) → sizes_well_formed s' ≡ true
+pub raised_well_formed : (s s' : List ℕ) (p size z n i : ℕ) (r : Option ℕ) → sizes_well_formed s ≡ true → 1 ≤ size → size < size_limit → z ≡ size_word size → n ≡ count_of s
+    → r ≡ place_from (place_of p) (places 2 n (drop 1 s)) 0 → found_below n r ≡ true → r ≡ Some i → s' ≡ set s (2 * i + 2) (max (word_at s (2 * i + 2)) z) → sizes_well_formed s' ≡ true
 raised_well_formed s s' p size z n i r f o l ez en er below h e = record_well_formed s s' p size f o l (size_raised s s' p size z n i r f l ez en er below h e)

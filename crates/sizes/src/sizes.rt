@@ -8,7 +8,6 @@ ghost use Rattle.sizes.specs.Format.{size_good, sizes_head, sizes_well_formed, d
 ghost use Rattle.sizes.specs.Inner.Near.{find_size, note_next};
 
 use bindings::sizes::size_word;
-use places::found::Found;
 use places::heads::counted;
 use places::places::{distinct_places, find_near};
 use places::stores::store_two;
@@ -130,11 +129,11 @@ pub fn record_size(s: &mut [u32], place: u32, size: u64, next: &mut [u16; 1]) ->
         content(place),
         noted(next) as usize,
     ) {
-        Found::At { index } => {
+        Some(index) => {
             next[0] = (index + 1) as u16;
             raise_word(s, SIZE_RECORD_WIDTH * index + 2, size_word(size));
             true
         }
-        Found::Nothing => push_size(s, place, size),
+        None => push_size(s, place, size),
     }
 }

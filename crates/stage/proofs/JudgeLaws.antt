@@ -1,4 +1,5 @@
 -- The ways on through the steps behind the resources.
+use Rattle.std.proofs.Common.{Option, Some, None}
 use Prim.Native.Nat.{ℕ, ◌+◌, ◌/◌, ◌%◌, ◌<◌}
 use mathlib.Core.Path.{◌≡◌, refl, ap, ◌∙◌}
 use mathlib.Core.Bool.{Bool, true, false}
@@ -13,18 +14,14 @@ use Rattle.word.specs.Answers.{accepted, both}
 use Rattle.word.specs.declared.answer.Answer.{Answer}
 use Rattle.bindings.specs.declared.types.Resource.{Resource}
 use Rattle.varying.specs.Format.{payload_of}
-use Rattle.varying.specs.declared.Payload.{Payload}
 use Rattle.layouts.specs.Meaning.{Layout}
 use Rattle.stage_lists.specs.Meaning.{StageIo}
-use Rattle.stage_lists.specs.declared.types.PrimitiveIndex.{PrimitiveIndex}
 use Rattle.stage_lists.specs.Format.{encode_stage}
 use Rattle.interface.specs.Meaning.{EntryPoint, Interface}
 use Rattle.interface.specs.Format.{topology_at, pairs_of}
 use Rattle.interface.specs.Inner.Reads.{standing, varyings}
 use Rattle.interface.specs.Inner.Parts.{Placed, varyings_end}
 use Rattle.interface.specs.declared.types.ShaderStage.{ShaderStage}
-use Rattle.interface.specs.declared.types.MeshRecord.{MeshRecord}
-use Rattle.interface.specs.declared.types.MeshRecord.TheVariants as Mesh
 use Rattle.interface.specs.declared.types.PrimitiveTopology.{PrimitiveTopology}
 use Rattle.interface.specs.declared.types.WorkgroupSize.{WorkgroupSize}
 use Rattle.interface.specs.declared.types.EntryParts.{EntryParts}
@@ -42,13 +39,14 @@ use Rattle.resource_steps.specs.Inner.Given.{resource_table, pairs_below}
 use Rattle.stage.specs.Inner.Given.{Given}
 use Rattle.stage.specs.Inner.Judging.{judged_inputs, stop_at, judged}
 use Rattle.stage.specs.Stage.{pair_step, input_walk, behind_inputs, behind_pairs, handed_out}
+use Rattle.interface.specs.declared.types.EntryPointMeshInfo.{EntryPointMeshInfo}
 
 module _ (q : Request) (l : Limits) (e : EntryPoint) (inputs : StageIo) (w : InputWalk) (a : Answer) (k : Limits) (ek : k ≡ l) (ea : a ≡ slots_step q.stage q k e w.locals) where
   pub behind_refused : (a.number ≡ 0 → ⊥) → a ≡ behind_inputs q l e inputs w
   unfolding behind_inputs
   behind_refused n = rw (← ek, ← ea, ne_eqb a.number 0 n)
 
-  pub behind_went : (mesh : MeshRecord) (payload input : Payload) (written : PrimitiveIndex) (m : Limits) (r : Answer) → a.number ≡ 0 → m ≡ l
+  pub behind_went : (mesh : Option EntryPointMeshInfo) (payload input : Option ℕ) (written : Option Bool) (m : Limits) (r : Answer) → a.number ≡ 0 → m ≡ l
       → mesh ≡ e.mesh → payload ≡ e.payload → input ≡ inputs.payload → written ≡ inputs.primitive
       → r ≡ last_uses q m mesh payload input written w → r ≡ behind_inputs q l e inputs w
   unfolding behind_inputs last_step
@@ -158,18 +156,18 @@ judged_none a s e w out n = rw (ne_eqb a.number 0 n)
 -- ---- parts of an entry point that stands at positions
 
 module _ (ws : List ℕ) (p : EntryParts) where
-  pub mesh_absent : (word_at ws p.head / 2 % 2 ≡ 1 → ⊥) → Mesh.Absent ≡ (standing ws p).mesh
+  pub mesh_absent : (word_at ws p.head / 2 % 2 ≡ 1 → ⊥) → None ≡ (standing ws p).mesh
   unfolding standing
   mesh_absent n = rw (ne_eqb (word_at ws p.head / 2 % 2) 1 n)
 
   pub mesh_there : (a b c x y z : ℕ) (t : PrimitiveTopology) → word_at ws p.head / 2 % 2 ≡ 1
       → a ≡ word_at ws (p.workgroup + 4) → x ≡ content_of a → b ≡ word_at ws (p.workgroup + 4 + 1) → y ≡ content_of b
       → c ≡ word_at ws (p.workgroup + 4 + 2) → z ≡ content_of c → t ≡ topology_at z
-      → Mesh.Info (record { max_vertices = x; max_primitives = y; primitive_topology = t }) ≡ (standing ws p).mesh
+      → Some (record { max_vertices = x; max_primitives = y; primitive_topology = t }) ≡ (standing ws p).mesh
   unfolding standing
   mesh_there a b c x y z t one ea ex eb ey ec ez et = rw (eq-eqb (word_at ws p.head / 2 % 2) 1 one, ← ea, ← eb, ← ec, ← ex, ← ey, ← ez, ← et)
 
-  pub payload_there : (a : ℕ) (r : Payload) → a ≡ word_at ws (p.workgroup + 3) → r ≡ payload_of a → r ≡ (standing ws p).payload
+  pub payload_there : (a : ℕ) (r : Option ℕ) → a ≡ word_at ws (p.workgroup + 3) → r ≡ payload_of a → r ≡ (standing ws p).payload
   unfolding standing
   payload_there a r ea er = rw (← ea) er
 

@@ -17,23 +17,22 @@ use input_steps::types::{InputWalk, Walked};
 use input_steps::workgroup::workgroup_step;
 use interface::parts::{inputs_counted, pairs_counted};
 use interface::reads::{limits, topology_at};
-use interface::types::{EntryParts, EntryPointMeshInfo, MeshRecord, ShaderStage, WorkgroupSize};
+use interface::types::{EntryParts, EntryPointMeshInfo, ShaderStage, WorkgroupSize};
 use last_steps::last::last_step;
 use output_steps::outputs::slots_step;
 use output_steps::types::{Request, Summary};
 use resource_steps::pairs::pair_uses;
-use varying::Payload;
 use word::answer::Answer;
 use word::{content, word};
 
 // The mesh record of an entry point.
-fn mesh_of(pack: &[u32], parts: EntryParts) -> MeshRecord
+fn mesh_of(pack: &[u32], parts: EntryParts) -> Option<EntryPointMeshInfo>
     requires { Placed pack.now parts }
     ensures { result ≡ (standing pack.now parts).mesh }
 {
     let head = parts.head;
     if pack[head] / 2 % 2 != 1 {
-        return MeshRecord::Absent;
+        return None;
     }
     let at = parts.workgroup + 4;
     let info = EntryPointMeshInfo {
@@ -41,7 +40,7 @@ fn mesh_of(pack: &[u32], parts: EntryParts) -> MeshRecord
         max_primitives: content(word(pack, at + 1)),
         primitive_topology: topology_at(content(word(pack, at + 2))),
     };
-    MeshRecord::Info { info }
+    Some(info)
 }
 
 // The workgroup size of an entry point.
@@ -58,7 +57,7 @@ fn workgroup_of(pack: &[u32], parts: EntryParts) -> WorkgroupSize
 }
 
 // The task payload of an entry point.
-fn payload_of(pack: &[u32], parts: EntryParts) -> Payload
+fn payload_of(pack: &[u32], parts: EntryParts) -> Option<u32>
     requires { Placed pack.now parts }
     ensures { result ≡ (standing pack.now parts).payload }
 {

@@ -1,4 +1,5 @@
 -- A variable put into a stage list by its location, over its meaning.
+use Rattle.std.proofs.Common.{Some, None}
 use Prim.Native.Nat.{ℕ, zero, suc, ◌+◌, ◌*◌, ◌<◌, ◌≤◌}
 use native.Mathlib.Omega.{arith}
 use mathlib.Core.Path.{◌≡◌, refl, sym, ap, ◌∙◌}
@@ -15,8 +16,6 @@ use Rattle.word.proofs.Truth.{by_test}
 use Rattle.stage_lists.specs.Meaning.{StageIo, rising, varying_at, is_provided, insert, inserted}
 use Rattle.stage_lists.specs.Format.{out_good}
 use Rattle.stage_lists.specs.Inner.Found.{location_from}
-use Rattle.places.specs.declared.found.Found.TheVariants.{At}
-use Rattle.stage_lists.specs.declared.types.Provided.TheVariants as Pro
 use Rattle.word.proofs.Lists.{first_passes, rest_passes}
 use Rattle.stage_lists.proofs.StageLists.{Good, good, is_good}
 
@@ -102,7 +101,7 @@ insert_last v (w ∷ vs) n h k =
 
 -- ---- a new location makes the list longer
 
-missing_below : (n : ℕ) (w : Located) (vs : List Located) → rising (w ∷ vs) ≡ true → n < w.location → varying_at n vs ≡ Pro.Missing
+missing_below : (n : ℕ) (w : Located) (vs : List Located) → rising (w ∷ vs) ≡ true → n < w.location → varying_at n vs ≡ None
 unfolding varying_at
 missing_below n w [] h k = refl
 missing_below n w (x ∷ vs) h k =
@@ -134,12 +133,12 @@ longer_most false n = omega arith
 
 -- ---- a look at the location finds the variable; other locations are as before
 
-pub insert_found : (v : Located) (vs : List Located) → varying_at v.location (insert v vs) ≡ Pro.Var v.var
+pub insert_found : (v : Located) (vs : List Located) → varying_at v.location (insert v vs) ≡ Some v.var
 unfolding insert varying_at
 insert_found v [] = rw (eq-eqb v.location v.location refl)
 insert_found v (w ∷ vs) =
     let same = eq-eqb v.location v.location refl in
-    insert_cases v w vs (λ l. varying_at v.location l ≡ Pro.Var v.var)
+    insert_cases v w vs (λ l. varying_at v.location l ≡ Some v.var)
     (λ b. rw same)
     (λ e. rw same)
     (λ a. rw (ne_eqb w.location v.location (λ e. omega arith)) (insert_found v vs))
@@ -164,7 +163,7 @@ nth_above v (w ∷ vs) (suc i) d h k =
     omega (arith, ltb-true v.location w.location (rising_first v (w ∷ vs) h), nth_above w vs i d (rising_rest v (w ∷ vs) h) (omega arith))
 
 pub location_nth : (vs : List Located) (i at : ℕ) (d : Located) → rising vs ≡ true → i < length vs
-    → location_from (get_or vs i d).location vs at ≡ At (at + 2 * i)
+    → location_from (get_or vs i d).location vs at ≡ Some (at + 2 * i)
 unfolding location_from
 location_nth [] i at d h k = absurd (omega arith)
 location_nth (v ∷ vs) zero at d h k = let z : at + 2 * 0 ≡ at = omega arith in rw (eq-eqb v.location v.location refl, z)

@@ -1,4 +1,5 @@
 -- What the code's stores into the list out make of it.
+use Rattle.std.proofs.Common.{Option}
 use Prim.Native.Nat.{ℕ, zero, suc, ◌+◌, ◌-◌, ◌*◌, ◌%◌, ◌^◌, ◌<◌, ◌≤◌}
 use native.Mathlib.Omega.{arith}
 use mathlib.Core.Path.{◌≡◌, refl, sym, ap, ◌∙◌}
@@ -12,14 +13,12 @@ use Rattle.word.specs.Words.{word_at, kind_of, content_of, bits, of_kind}
 use Rattle.word.specs.Lists.{every, flat}
 use Rattle.varying.specs.Format.{located_words, located_encodable, var_well_formed, var_of, var_word, payload_encodable, payload_word}
 use Rattle.varying.specs.declared.Located.{Located}
-use Rattle.varying.specs.declared.Payload.{Payload}
 use Rattle.word.proofs.Truth.{first, second}
 use Rattle.word.proofs.Lists.{first_passes, rest_passes}
 use Rattle.varying.proofs.Joined.{payload_written, location_written, var_written, var_well_formed_lem, var_read}
 use Rattle.stage_lists.specs.Meaning.{StageIo, rising, insert, inserted, varying_at, is_provided}
 use Rattle.places.specs.Records.{put, past, each, count_of, records}
 use Rattle.stage_lists.specs.Format.{primitive_code, read_located, located_good, read_varyings, out_well_formed, decode_stage, encode_stage, out_good}
-use Rattle.stage_lists.specs.declared.types.PrimitiveIndex.{PrimitiveIndex}
 use Rattle.places.proofs.Words.{there, two_at, drop_put, put_put, put_after, put_own, put_kept}
 use Rattle.word.proofs.Parse.{first_of}
 use Rattle.places.proofs.Records.{read_length, room_left, left_cons, left_none, each_cons, each_nth, past_drop, flat_append, flat_length, take_read}
@@ -309,14 +308,14 @@ module _ (s m : List ℕ) (v : Located) (f : out_well_formed s ≡ true) (t : lo
 
 -- ---- a list without variables
 
-abbrev bare : PrimitiveIndex → Payload → List ℕ → StageIo
+abbrev bare : Option Bool → Option ℕ → List ℕ → StageIo
 bare primitive payload ws = record { primitive = primitive; payload = payload; varyings = []; room = drop 2 ws }
 
-good_bare : (primitive : PrimitiveIndex) (payload : Payload) (ws : List ℕ) → payload_encodable payload ≡ true → out_good (bare primitive payload ws) ≡ true
+good_bare : (primitive : Option Bool) (payload : Option ℕ) (ws : List ℕ) → payload_encodable payload ≡ true → out_good (bare primitive payload ws) ≡ true
 unfolding every rising
 good_bare primitive payload ws h = is_good (bare primitive payload ws) (record { few = omega arith; payload = h; encodable = refl; rises = refl })
 
-module _ (l m : List ℕ) (primitive : PrimitiveIndex) (payload : Payload) (a b : ℕ) (ea : a ≡ of_kind 11 (2 ^ 25 * primitive_code primitive))
+module _ (l m : List ℕ) (primitive : Option Bool) (payload : Option ℕ) (a b : ℕ) (ea : a ≡ of_kind 11 (2 ^ 25 * primitive_code primitive))
     (eb : b ≡ payload_word payload) (em : m ≡ put l 0 (a ∷ b ∷ [])) where
   pub begun_words : m ≡ encode_stage (bare primitive payload l)
   unfolding encode_stage put flat

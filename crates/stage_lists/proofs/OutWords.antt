@@ -1,4 +1,5 @@
 -- The words that a stage list is written in.
+use Rattle.std.proofs.Common.{Option, Some, None, Bool}
 use Prim.Native.Nat.{ℕ, ◌+◌, ◌-◌, ◌*◌, ◌/◌, ◌%◌, ◌^◌, ◌<◌, ◌≤◌}
 use native.Mathlib.Omega.{arith}
 use mathlib.Core.Path.{◌≡◌, refl, ◌∙◌}
@@ -9,24 +10,18 @@ use Rattle.word.specs.Choice.{pick}
 use Rattle.word.specs.Words.{bits, bit, of_kind}
 use Rattle.numeric.specs.TypeWords.{shape_at, type_of, shape_code, type_word}
 use Rattle.varying.specs.Format.{var_of, var_word, payload_encodable, payload_word}
-use Rattle.varying.specs.declared.Payload.{Payload}
-use Rattle.varying.specs.declared.Payload.TheVariants as Pay
 use Rattle.word.proofs.Truth.{below_all}
 use Rattle.numeric.proofs.Joined.{kind_back}
 use Rattle.varying.proofs.Joined.{flag_back}
 use Rattle.stage_lists.specs.Format.{primitive_code}
-use Rattle.stage_lists.specs.declared.types.PrimitiveIndex.{PrimitiveIndex}
-
-pub primitive_told : (p q : PrimitiveIndex) (x : ℕ) → p ≡ q → x ≡ of_kind 11 (2 ^ 25 * primitive_code q) → x ≡ of_kind 11 (2 ^ 25 * primitive_code p)
-primitive_told p q x e h = rw e h
 
 -- ---- the payload
 
-pub payload_none : (p : Payload) → p ≡ Pay.Absent → 0x48000000 ≡ payload_word p
+pub payload_none : (p : Option ℕ) → p ≡ None → 0x48000000 ≡ payload_word p
 unfolding payload_word
 payload_none p e = rw e
 
-module _ (p : Payload) (bytes : ℕ) (e : p ≡ Pay.Size bytes) where
+module _ (p : Option ℕ) (bytes : ℕ) (e : p ≡ Some bytes) where
   pub payload_some : 0x4C000000 + bytes ≡ payload_word p
   unfolding payload_word
   payload_some = rw e (omega arith)

@@ -1,4 +1,5 @@
 -- A stage list and its words: what is well formed is exactly what the writer makes.
+use Rattle.std.proofs.Common.{Option, Some, None, Bool, false}
 use Prim.Native.Nat.{ℕ, ◌+◌, ◌*◌, ◌^◌, ◌<◌, ◌≤◌}
 use native.Mathlib.Omega.{arith}
 use mathlib.Core.Path.{◌≡◌, refl, ap, sym}
@@ -16,8 +17,6 @@ use Rattle.word.specs.Lists.{every}
 use Rattle.places.specs.Records.{each, count_of}
 use Rattle.stage_lists.specs.Format.{primitive_at, primitive_code, read_located, located_good, read_varyings, stage_head, out_well_formed, stage_well_formed, decode_stage}
 use Rattle.stage_lists.specs.Format.{encode_stage, out_good, stage_good}
-use Rattle.stage_lists.specs.declared.types.PrimitiveIndex.{PrimitiveIndex}
-use Rattle.stage_lists.specs.declared.types.PrimitiveIndex.TheVariants as Index
 use Rattle.places.proofs.Records.{Joined, Carried, read_length, flat_read, every_read, carried}
 use Rattle.places.proofs.Words.{two}
 use Rattle.varying.proofs.Joined.{var_written, var_encodable_lem, var_well_formed_lem, var_read, location_written, location_well_formed_lem, location_read}
@@ -81,15 +80,15 @@ is_good S g = rw (le-leb (length S.varyings) 63 g.few, g.payload, g.encodable, g
 pub code_back : (code : ℕ) → code < 3 → primitive_code (primitive_at code) ≡ code
 code_back code h = eqb-true (primitive_code (primitive_at code)) code (below_all 3 (λ c. eqb (primitive_code (primitive_at c)) c) refl code h)
 
-code_again : (p : PrimitiveIndex) → primitive_at (primitive_code p) ≡ p
-code_again Index.None = refl
-code_again Index.False = refl
-code_again Index.True = refl
+code_again : (p : Option Bool) → primitive_at (primitive_code p) ≡ p
+code_again None = refl
+code_again (Some false) = refl
+code_again (Some true) = refl
 
-pub code_below : (p : PrimitiveIndex) → primitive_code p < 3
-code_below Index.None = omega arith
-code_below Index.False = omega arith
-code_below Index.True = omega arith
+pub code_below : (p : Option Bool) → primitive_code p < 3
+code_below None = omega arith
+code_below (Some false) = omega arith
+code_below (Some true) = omega arith
 
 -- ---- there and back
 

@@ -1,4 +1,5 @@
 -- The code's ways through a stage list.
+use Rattle.std.proofs.Common.{Option, Some, None}
 use Prim.Native.Nat.{ℕ, zero, suc, ◌+◌, ◌-◌, ◌*◌, ◌%◌, ◌<◌, ◌≤◌}
 use native.Mathlib.Omega.{arith}
 use mathlib.Core.Path.{◌≡◌, refl, sym, ◌∙◌}
@@ -12,16 +13,12 @@ use borrow.Author.Tests.{eq-eqb, ne_eqb, lt-ltb, le-ltb, leb-true, not-false}
 use Rattle.word.specs.Choice.{pick}
 use Rattle.word.specs.Words.{word_at, kind_of, content_of, bits}
 use Rattle.varying.specs.Format.{location_well_formed, var_well_formed, payload_well_formed, payload_of}
-use Rattle.varying.specs.declared.Payload.{Payload}
 use Rattle.word.proofs.Truth.{first, second, by_test}
 use Rattle.places.specs.Places.{found_below}
 use Rattle.stage_lists.specs.Meaning.{rising, varying_at}
 use Rattle.places.specs.Records.{records, count_of}
 use Rattle.stage_lists.specs.Format.{primitive_at, read_located, located_good, read_varyings, variable_found, stage_head, out_well_formed, decode_stage}
 use Rattle.stage_lists.specs.Inner.Found.{location_from}
-use Rattle.places.specs.declared.found.Found.{Found}
-use Rattle.places.specs.declared.found.Found.TheVariants.{At, Nothing}
-use Rattle.stage_lists.specs.declared.types.PrimitiveIndex.{PrimitiveIndex}
 use Rattle.places.proofs.Records.{read_length, nth_record, left_cons, left_none}
 use Rattle.places.proofs.Words.{there}
 use Rattle.word.proofs.Parse.{first_of}
@@ -49,11 +46,11 @@ head_there ws b e h = omega (arith, head_holds ws b (count_of ws) e h refl)
 pub payload_word_lem : (ws : List ℕ) (p : ℕ) (r : Bool) → p ≡ word_at ws 1 → r ≡ payload_well_formed p → r ≡ payload_well_formed (word_at ws 1)
 payload_word_lem ws p r e h = rw (← e) h
 
-pub primitive_word : (ws : List ℕ) (w : ℕ) (r : PrimitiveIndex) → w ≡ word_at ws 0 → r ≡ primitive_at (bits 26 25 w) → r ≡ (decode_stage ws).primitive
+pub primitive_word : (ws : List ℕ) (w : ℕ) (r : Option Bool) → w ≡ word_at ws 0 → r ≡ primitive_at (bits 26 25 w) → r ≡ (decode_stage ws).primitive
 unfolding decode_stage
 primitive_word ws w r e h = rw (← e) h
 
-pub payload_decoded : (ws : List ℕ) (w : ℕ) (r : Payload) → w ≡ word_at ws 1 → r ≡ payload_of w → r ≡ (decode_stage ws).payload
+pub payload_decoded : (ws : List ℕ) (w : ℕ) (r : Option ℕ) → w ≡ word_at ws 1 → r ≡ payload_of w → r ≡ (decode_stage ws).payload
 unfolding decode_stage
 payload_decoded ws w r e h = rw (← e) h
 
@@ -108,8 +105,8 @@ module _ (l : List ℕ) (k at : ℕ) (goal : Bool) (inv : goal ≡ rising (read_
 
 -- ---- where the variable at a location stands
 
-module _ (l : List ℕ) (k at location : ℕ) (goal : Found) (inv : goal ≡ location_from location (read_varyings k (drop at l)) (at + 1)) where
-  pub location_hit : (k ≡ 0 → ⊥) → word_at l at % 0x800_0000 ≡ location → At (at + 1) ≡ goal
+module _ (l : List ℕ) (k at location : ℕ) (goal : Option ℕ) (inv : goal ≡ location_from location (read_varyings k (drop at l)) (at + 1)) where
+  pub location_hit : (k ≡ 0 → ⊥) → word_at l at % 0x800_0000 ≡ location → Some (at + 1) ≡ goal
   unfolding location_from
   location_hit h q = sym (inv ∙ rw (left_cons 2 read_located l k at h, first_of l at, eq-eqb (content_of (word_at l at)) location q))
 
@@ -120,7 +117,7 @@ module _ (l : List ℕ) (k at location : ℕ) (goal : Found) (inv : goal ≡ loc
       let z : at + 1 + 2 ≡ at + 2 + 1 = omega arith in
       inv ∙ rw (left_cons 2 read_located l k at h, first_of l at, ne_eqb (content_of (word_at l at)) location q, z)
 
-  pub location_ended : k ≡ 0 → Nothing ≡ goal
+  pub location_ended : k ≡ 0 → None ≡ goal
   unfolding location_from
   location_ended h = sym (inv ∙ rw (left_none 2 read_located k (drop at l) h))
 
@@ -134,22 +131,22 @@ found_from l location (suc k) at =
     by_test (eqb (content_of (word_at (drop at l) 0)) location) (λ t. rw (t, there l at 1))
     (λ f. rw (f, z, drop-drop 2 at l) (found_from l location k (at + 2)))
 
-pub location_found : (l : List ℕ) (n location : ℕ) (r : Found) → r ≡ location_from location (read_varyings n (drop 2 l)) 3
+pub location_found : (l : List ℕ) (n location : ℕ) (r : Option ℕ) → r ≡ location_from location (read_varyings n (drop 2 l)) 3
     → variable_found l r ≡ varying_at location (read_varyings n (drop 2 l))
 location_found l n location r e = rw e (found_from l location n 2)
 
-pub location_decoded : (l : List ℕ) (n location : ℕ) (r : Found) → n ≡ count_of l → r ≡ location_from location (read_varyings n (drop 2 l)) 3
+pub location_decoded : (l : List ℕ) (n location : ℕ) (r : Option ℕ) → n ≡ count_of l → r ≡ location_from location (read_varyings n (drop 2 l)) 3
     → r ≡ location_from location (decode_stage l).varyings 3
 unfolding decode_stage
 location_decoded l n location r e h = rw (← e) h
 
-pub location_provided : (l : List ℕ) (location : ℕ) (r : Found) → r ≡ location_from location (decode_stage l).varyings 3
+pub location_provided : (l : List ℕ) (location : ℕ) (r : Option ℕ) → r ≡ location_from location (decode_stage l).varyings 3
     → variable_found l r ≡ varying_at location (decode_stage l).varyings
 unfolding decode_stage
 location_provided l location r e = location_found l (count_of l) location r e
 
 -- a position found lies in the list
-pub within_below : (l : List ℕ) (k at : ℕ) → (k ≡ 0 → ⊥) → at + 2 * k ≤ length l → found_below (length l) (At (at + 1)) ≡ true
+pub within_below : (l : List ℕ) (k at : ℕ) → (k ≡ 0 → ⊥) → at + 2 * k ≤ length l → found_below (length l) (Some (at + 1)) ≡ true
 within_below l k at h f = lt-ltb (at + 1) (length l) (omega arith)
 
 pub first_there : (l : List ℕ) → out_well_formed l ≡ true → 1 ≤ length l
@@ -164,10 +161,10 @@ module _ (l : List ℕ) (n : ℕ) (f : out_well_formed l ≡ true) (e : n ≡ co
     pub near_inside : 2 + 2 * i < length l
     near_inside = omega (arith, varyings_within)
 
-    pub near_below : found_below (length l) (At (3 + 2 * i)) ≡ true
+    pub near_below : found_below (length l) (Some (3 + 2 * i)) ≡ true
     near_below = lt-ltb (3 + 2 * i) (length l) (omega (arith, varyings_within))
 
-    pub near_found : (location : ℕ) → word_at l (2 + 2 * i) % 0x800_0000 ≡ location → At (3 + 2 * i) ≡ location_from location (decode_stage l).varyings 3
+    pub near_found : (location : ℕ) → word_at l (2 + 2 * i) % 0x800_0000 ≡ location → Some (3 + 2 * i) ≡ location_from location (decode_stage l).varyings 3
     unfolding decode_stage
     near_found location q =
         let k : i < count_of l = omega arith in

@@ -1,6 +1,6 @@
 -- How words carry what passes between stages (document 01, 'Stage list': 'kind 11 (primitive index 26–25: none, false, true; varyings 15–0,
 -- at most 63), kind 9, then local varyings by rising location, once each').
-use Rattle.std.specs.Prelude.{ℕ, ◌+◌, ◌^◌, ◌*◌, Bool, ◌&&◌, List, ◌∷◌, ◌++◌, eqb, leb, ltb, length, drop}
+use Rattle.std.specs.Prelude.{ℕ, ◌+◌, ◌^◌, ◌*◌, Bool, ◌&&◌, List, ◌∷◌, ◌++◌, eqb, leb, ltb, length, drop, Option, Some, None, true, false}
 use Rattle.word.specs.Choice.{pick}
 use Rattle.varying.specs.declared.Located.{Located}
 use Rattle.word.specs.Words.{word_at, kind_of, bits, of_kind}
@@ -8,22 +8,17 @@ use Rattle.varying.specs.Format.{location_well_formed, var_well_formed, var_of, 
 use Rattle.places.specs.Records.{short_enough, count_of, past, records, each, most_list_words}
 use Rattle.word.specs.Lists.{every, flat}
 use Rattle.stage_lists.specs.Meaning.{StageIo, rising}
-use Rattle.places.specs.declared.found.Found.{Found}
-use Rattle.places.specs.declared.found.Found.TheVariants.{At, Nothing}
-use Rattle.stage_lists.specs.declared.types.PrimitiveIndex.{PrimitiveIndex}
-use Rattle.stage_lists.specs.declared.types.Provided.{Provided}
-use Rattle.stage_lists.specs.declared.types.Provided.TheVariants as Pro
-use Rattle.stage_lists.specs.declared.types.PrimitiveIndex.TheVariants as Index
+use Rattle.varying.specs.declared.InterfaceVar.{InterfaceVar}
 
 -- 'primitive index 26–25: none, false, true'
-abbrev pub primitive_at : ℕ → PrimitiveIndex
-primitive_at code = pick (eqb code 0) Index.None (pick (eqb code 1) Index.False Index.True)
+abbrev pub primitive_at : ℕ → Option Bool
+primitive_at code = pick (eqb code 0) None (pick (eqb code 1) (Some false) (Some true))
 
 -- and the code of each
-abbrev pub primitive_code : PrimitiveIndex → ℕ
-primitive_code Index.None = 0
-primitive_code Index.False = 1
-primitive_code Index.True = 2
+abbrev pub primitive_code : Option Bool → ℕ
+primitive_code None = 0
+primitive_code (Some false) = 1
+primitive_code (Some true) = 2
 
 -- a variable: a word for its location, and its own
 abbrev pub read_located : List ℕ → Located
@@ -38,9 +33,9 @@ abbrev pub read_varyings : ℕ → List ℕ → List Located
 read_varyings n ws = records 2 read_located n ws
 
 -- the variable whose word was found at a position
-abbrev pub variable_found : List ℕ → Found → Provided
-variable_found ws (At i) = Pro.Var (var_of (word_at ws i))
-variable_found ws Nothing = Pro.Missing
+abbrev pub variable_found : List ℕ → Option ℕ → Option InterfaceVar
+variable_found ws (Some i) = Some (var_of (word_at ws i))
+variable_found ws None = None
 
 -- the head: its kind, a code of the primitive index, its unnamed bits, 'at most 63', the payload, and as many variables within the words
 unfoldable pub stage_head : List ℕ → Bool

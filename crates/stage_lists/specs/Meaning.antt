@@ -1,23 +1,20 @@
 -- What passes between stages, and what is done to it.
-use Rattle.std.specs.Prelude.{ℕ, Bool, true, false, List, [], ◌∷◌, eqb, ltb, drop}
+use Rattle.std.specs.Prelude.{ℕ, Bool, true, false, List, [], ◌∷◌, eqb, ltb, drop, Option, Some, None}
 use Rattle.word.specs.Choice.{pick}
 use Rattle.varying.specs.declared.Located.{Located}
-use Rattle.varying.specs.declared.Payload.{Payload}
-use Rattle.stage_lists.specs.declared.types.PrimitiveIndex.{PrimitiveIndex}
-use Rattle.stage_lists.specs.declared.types.Provided.{Provided}
-use Rattle.stage_lists.specs.declared.types.Provided.TheVariants as Pro
+use Rattle.varying.specs.declared.InterfaceVar.{InterfaceVar}
 
 -- what a stage hands to the next: its local variables by rising location, and words of free room, which are the format's
 pub record StageIo : Type 0 where
-  pub primitive : PrimitiveIndex
-  pub payload : Payload
+  pub primitive : Option Bool
+  pub payload : Option ℕ
   pub varyings : List Located
   pub room : List ℕ
 
 -- the variable that the stage before provides at a location
-unfoldable pub varying_at : ℕ → List Located → Provided
-varying_at location [] = Pro.Missing
-varying_at location (v ∷ vs) = let rest = varying_at location vs in pick (eqb v.location location) (Pro.Var v.var) rest
+unfoldable pub varying_at : ℕ → List Located → Option InterfaceVar
+varying_at location [] = None
+varying_at location (v ∷ vs) = let rest = varying_at location vs in pick (eqb v.location location) (Some v.var) rest
 
 -- 'by rising location, once each'
 unfoldable pub rising : List Located → Bool
@@ -33,9 +30,9 @@ insert v (w ∷ vs) =
     pick (ltb v.location w.location) (v ∷ w ∷ vs) (pick (eqb v.location w.location) (v ∷ vs) (w ∷ rest))
 
 -- a variable is provided
-abbrev pub is_provided : Provided → Bool
-is_provided (Pro.Var v) = true
-is_provided Pro.Missing = false
+abbrev pub is_provided : Option InterfaceVar → Bool
+is_provided (Some v) = true
+is_provided None = false
 
 -- the list with a variable put in: a new location takes two words of the free room
 unfoldable pub inserted : Located → StageIo → StageIo

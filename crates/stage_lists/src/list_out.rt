@@ -9,13 +9,11 @@ ghost use Rattle.stage_lists.specs.Format.{located_good, read_varyings, out_well
 
 use crate::out_words::{payload_word, primitive_word, var_word};
 use crate::stage_io::location_at;
-use crate::types::PrimitiveIndex;
 use places::stores::store_two;
-use varying::Payload;
 use word::word;
 
 // The head and the payload of a list without variables. The answer is the head.
-pub fn begin_out(out: &mut [u32], primitive: PrimitiveIndex, payload: Payload) -> u32
+pub fn begin_out(out: &mut [u32], primitive: Option<bool>, payload: Option<u32>) -> u32
     requires in_bounds { 2 ≤ length out.old }
     requires payload_value { payload_encodable payload ≡ true }
     ensures out_after { out.new ≡ encode_stage (record { primitive = primitive; payload = payload; varyings = []; room = drop 2 out.old }) }

@@ -4,27 +4,25 @@ ghost use Rattle.word.specs.Words.{of_kind};
 ghost use Rattle.varying.specs.Format.{var_of, var_word, payload_encodable, payload_word};
 ghost use Rattle.stage_lists.specs.Format.{primitive_code};
 
-use crate::types::PrimitiveIndex;
-use varying::Payload;
 
 // The first word of a list that counts no variable yet.
-pub(crate) fn primitive_word(primitive: PrimitiveIndex) -> u32
+pub(crate) fn primitive_word(primitive: Option<bool>) -> u32
     ensures { result ≡ of_kind 11 (2 ^ 25 * primitive_code primitive) }
 {
     match primitive {
-        PrimitiveIndex::None => 0x5800_0000,
-        PrimitiveIndex::False => 0x5A00_0000,
-        PrimitiveIndex::True => 0x5C00_0000,
+        None => 0x5800_0000,
+        Some(false) => 0x5A00_0000,
+        Some(true) => 0x5C00_0000,
     }
 }
 
-pub(crate) fn payload_word(payload: Payload) -> u32
+pub(crate) fn payload_word(payload: Option<u32>) -> u32
     requires { payload_encodable payload ≡ true }
     ensures { result ≡ payload_word payload }
 {
     match payload {
-        Payload::Absent => 0x4800_0000,
-        Payload::Size { bytes } => 0x4C00_0000 + bytes,
+        None => 0x4800_0000,
+        Some(bytes) => 0x4C00_0000 + bytes,
     }
 }
 

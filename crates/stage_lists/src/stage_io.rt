@@ -8,10 +8,7 @@ ghost use Rattle.places.specs.Records.{count_of, each};
 ghost use Rattle.stage_lists.specs.Format.{located_good, read_varyings, variable_found, stage_head, out_well_formed, stage_well_formed, decode_stage};
 ghost use Rattle.stage_lists.specs.Inner.Found.{location_from};
 
-use crate::types::PrimitiveIndex;
-use places::found::Found;
 use places::heads::counted;
-use varying::Payload;
 use word::word;
 
 // The head, the payload, and as many variables as are counted.
@@ -117,7 +114,7 @@ pub fn stage_well_formed(l: &[u32]) -> bool
 }
 
 // Where the word of the variable at a location stands, where all variables lie within the slice.
-fn find_within(l: &[u32], n: usize, location: u32) -> Found
+fn find_within(l: &[u32], n: usize, location: u32) -> Option<usize>
     requires n_bound { n < 0x1_0000 }
     requires n_in_bounds { 2 + 2 * n ≤ length l.now }
     ensures result_value { variable_found l.now result ≡ varying_at location (read_varyings n (drop 2 l.now)) }
@@ -128,16 +125,16 @@ fn find_within(l: &[u32], n: usize, location: u32) -> Found
     let mut left = n;
     while left != 0 {
         if l[at] % 0x800_0000 == location {
-            return Found::At { index: at + 1 };
+            return Some(at + 1);
         }
         at += 2;
         left -= 1;
     }
-    Found::Nothing
+    None
 }
 
 // Where the word of the variable at a location stands in a stage list. The variable at a likely position is tried first.
-pub fn find_location(l: &[u32], location: u32, near: usize) -> Found
+pub fn find_location(l: &[u32], location: u32, near: usize) -> Option<usize>
     requires { out_well_formed l.now ≡ true }
     ensures result_value { variable_found l.now result ≡ varying_at location (decode_stage l.now).varyings }
     ensures result_value_2 { found_below (length l.now) result ≡ true }
@@ -146,28 +143,26 @@ pub fn find_location(l: &[u32], location: u32, near: usize) -> Found
     let n = counted(l);
     if near < n {
         if l[2 + 2 * near] % 0x800_0000 == location {
-            return Found::At {
-                index: 3 + 2 * near,
-            };
+            return Some(3 + 2 * near);
         }
     }
     find_within(l, n, location)
 }
 
-pub fn primitive_index(l: &[u32]) -> PrimitiveIndex
+pub fn primitive_index(l: &[u32]) -> Option<bool>
     ensures { result ≡ (decode_stage l.now).primitive }
 {
     let code = word(l, 0) / 0x200_0000 % 4;
     if code == 0 {
-        return PrimitiveIndex::None;
+        return None;
     }
     if code == 1 {
-        return PrimitiveIndex::False;
+        return Some(false);
     }
-    PrimitiveIndex::True
+    Some(true)
 }
 
-pub fn payload(l: &[u32]) -> Payload
+pub fn payload(l: &[u32]) -> Option<u32>
     ensures { result ≡ (decode_stage l.now).payload }
 {
     varying::payload_of(word(l, 1))

@@ -1,4 +1,5 @@
 -- What the program's tests say of the lists, entries and variables that it hands on.
+use Rattle.std.proofs.Common.{Option, None}
 use Prim.Native.Nat.{ℕ, ◌+◌, ◌*◌, ◌%◌, ◌^◌, ◌<◌, ◌≤◌}
 use native.Mathlib.Omega.{arith}
 use mathlib.Core.Path.{◌≡◌, refl, sym, ◌∙◌}
@@ -13,15 +14,12 @@ use Rattle.bindings.specs.Format.{place_well_formed, place_of, size_limit, size_
 use Rattle.bindings.specs.declared.types.ResourceBinding.{ResourceBinding}
 use Rattle.bindings.proofs.EntryFormat.{entry_encodable_lem}
 use Rattle.varying.specs.Format.{var_well_formed, var_of, located_encodable, payload_of, payload_encodable}
-use Rattle.varying.specs.declared.Payload.{Payload}
 use Rattle.word.proofs.Truth.{first, second, both, told_true}
 use Rattle.varying.proofs.Joined.{var_encodable_lem, payload_encodable_lem}
 use Rattle.layouts.specs.Meaning.{Layout, entry_places, entry_has, find_entry}
 use Rattle.places.specs.Records.{count_of}
 use Rattle.layouts.specs.Format.{entry_fits, decode_layout}
 use Rattle.stage_lists.specs.Format.{read_located, out_well_formed, stage_well_formed, decode_stage}
-use Rattle.places.specs.declared.found.Found.{Found}
-use Rattle.places.specs.declared.found.Found.TheVariants.{Nothing}
 use Rattle.places.proofs.PlaceWays.{place_lacks}
 use Rattle.places.proofs.Records.{read_length, room_length}
 use Rattle.layouts.proofs.LayoutWays.{entries_counted}
@@ -40,7 +38,7 @@ entry_there_lem l n i e h = rw (entries_counted l, ← e) h
 pub group_fits : (p g m : ℕ) → g ≡ m → bits 26 23 p < g → bits 26 23 p < m
 group_fits p g m e h = omega arith
 
-pub found_none : (place : ResourceBinding) (L : Layout) (f : Found) → f ≡ find_entry place L → f ≡ Nothing → find_entry place L ≡ Nothing
+pub found_none : (place : ResourceBinding) (L : Layout) (f : Option ℕ) → f ≡ find_entry place L → f ≡ None → find_entry place L ≡ None
 found_none place L f q e = sym q ∙ e
 
 -- well formed words are the parts of an entry, by the size that the third carries
@@ -62,7 +60,7 @@ module _ (p t s v least : ℕ) (q : least ≡ content_of s) where
         rw size_again
         (both (entry_encodable (entry_of p t s v)) (ltb (bits 26 23 p) L.groups) (entry_encodable_lem p t s v h) (lt-ltb (bits 26 23 p) L.groups n))
 
-pub place_new : (p t least v : ℕ) (L : Layout) → find_entry (place_of p) L ≡ Nothing → entry_has (entry_of_parts p t least v).bind L.entries ≡ false
+pub place_new : (p t least v : ℕ) (L : Layout) → find_entry (place_of p) L ≡ None → entry_has (entry_of_parts p t least v).bind L.entries ≡ false
 unfolding entry_of
 place_new p t least v L h = sym (place_lacks (place_of p) (entry_places L.entries) (find_entry (place_of p) L) refl h)
 
@@ -73,7 +71,7 @@ place_passed place = eq-eqb (kind_of (0x20000000 + place % 0x800_0000)) 4 (omega
 
 -- ---- the list out
 
-pub payload_fits : (p : Payload) (w : ℕ) → p ≡ payload_of w → payload_encodable p ≡ true
+pub payload_fits : (p : Option ℕ) (w : ℕ) → p ≡ payload_of w → payload_encodable p ≡ true
 payload_fits p w e = rw e (payload_encodable_lem w)
 
 pub located_fits : (location w : ℕ) (b : Bool) → b ≡ var_well_formed w → not b ≡ false → location < 2 ^ 27

@@ -4,7 +4,6 @@ ghost use Rattle.word.specs.Words.{bits};
 ghost use Rattle.bindings.specs.Format.{place_of, entry_well_formed};
 ghost use Rattle.layouts.specs.Meaning.{find_entry};
 ghost use Rattle.layouts.specs.Format.{layout_well_formed, decode_layout};
-ghost use Rattle.places.specs.declared.found.Found.TheVariants.{Nothing};
 
 use crate::print;
 use bindings::binding_codes::{binding_code, least_size};
@@ -17,7 +16,6 @@ use layouts::layout::{
     group_count, join_visibility, layout_well_formed, push_entry,
 };
 use layouts::visibility::sees;
-use places::found::Found;
 use places::heads::counted;
 use std::io;
 
@@ -35,10 +33,10 @@ fn show(rt: &impl Print, e: BindGroupLayoutEntry) -> io::Result<()> {
     Ok(())
 }
 
-fn position(rt: &impl Print, found: Found) -> io::Result<()> {
+fn position(rt: &impl Print, found: Option<usize>) -> io::Result<()> {
     match found {
-        Found::At { index } => print::number(rt, index as u64),
-        Found::Nothing => print::nothing(rt),
+        Some(index) => print::number(rt, index as u64),
+        None => print::nothing(rt),
     }
 }
 
@@ -80,11 +78,11 @@ pub(crate) fn join(rt: &impl Print, l: &mut [u32], place: u32, stage: u32) -> io
         return print::nothing(rt);
     }
     match find_entry_word(l, place) {
-        Found::At { index } => {
+        Some(index) => {
             join_visibility(l, index, stage);
             print::number(rt, index as u64)
         }
-        Found::Nothing => print::nothing(rt),
+        None => print::nothing(rt),
     }
 }
 
@@ -100,7 +98,7 @@ fn push_new(
     requires l_value { layout_well_formed l.old ≡ true }
     requires visibility_value { entry_well_formed place ty least visibility ≡ true }
     requires place_bound { bits 26 23 place < (decode_layout l.old).groups }
-    requires l_value_2 { find_entry (place_of place) (decode_layout l.old) ≡ Nothing }
+    requires l_value_2 { find_entry (place_of place) (decode_layout l.old) ≡ None }
 {
     print::yes_no(rt, push_entry(l, place, ty, word_size(least), visibility))
 }
@@ -119,8 +117,8 @@ fn push_vacant(
     requires place_bound { bits 26 23 place < (decode_layout l.old).groups }
 {
     match find_entry_word(l, place) {
-        Found::At { index: _ } => print::nothing(rt),
-        Found::Nothing => push_new(rt, l, place, ty, least, visibility),
+        Some(_) => print::nothing(rt),
+        None => push_new(rt, l, place, ty, least, visibility),
     }
 }
 

@@ -4,15 +4,13 @@ ghost use Rattle.test_lists.specs.Room.{has_room};
 
 use crate::print;
 use numeric::type_words::type_word;
-use places::found::Found;
 use places::heads::counted;
 use stage_lists::list_out::{begin_out, insert_words};
 use stage_lists::stage_io::{
     find_location, out_well_formed, payload, primitive_index, stage_well_formed,
 };
-use stage_lists::types::PrimitiveIndex;
 use std::io;
-use varying::{InterfaceVar, Payload, payload_of, payload_well_formed, var_of, var_well_formed};
+use varying::{InterfaceVar, payload_of, payload_well_formed, var_of, var_well_formed};
 use word::word;
 
 fn show_variable(rt: &impl Print, v: InterfaceVar) -> io::Result<()> {
@@ -24,25 +22,24 @@ fn show_variable(rt: &impl Print, v: InterfaceVar) -> io::Result<()> {
 }
 
 // The variable whose word was found at a position.
-fn show_found(rt: &impl Print, l: &[u32], found: Found) -> io::Result<()> {
+fn show_found(rt: &impl Print, l: &[u32], found: Option<usize>) -> io::Result<()> {
     match found {
-        Found::At { index } => show_variable(rt, var_of(word(l, index))),
-        Found::Nothing => print::nothing(rt),
+        Some(index) => show_variable(rt, var_of(word(l, index))),
+        None => print::nothing(rt),
     }
 }
 
-fn show_primitive(rt: &impl Print, p: PrimitiveIndex) -> io::Result<()> {
+fn show_primitive(rt: &impl Print, p: Option<bool>) -> io::Result<()> {
     match p {
-        PrimitiveIndex::None => print::nothing(rt),
-        PrimitiveIndex::False => print::yes_no(rt, false),
-        PrimitiveIndex::True => print::yes_no(rt, true),
+        None => print::nothing(rt),
+        Some(written) => print::yes_no(rt, written),
     }
 }
 
-fn show_payload(rt: &impl Print, p: Payload) -> io::Result<()> {
+fn show_payload(rt: &impl Print, p: Option<u32>) -> io::Result<()> {
     match p {
-        Payload::Absent => print::nothing(rt),
-        Payload::Size { bytes } => print::number(rt, bytes as u64),
+        None => print::nothing(rt),
+        Some(bytes) => print::number(rt, bytes as u64),
     }
 }
 
@@ -56,11 +53,11 @@ pub(crate) fn look(rt: &impl Print, l: &[u32], location: u32, near: u32) -> io::
     show_found(rt, l, find_location(l, location, near as usize))
 }
 
-fn primitive_of(code: u32) -> PrimitiveIndex {
+fn primitive_of(code: u32) -> Option<bool> {
     match code {
-        0 => PrimitiveIndex::None,
-        1 => PrimitiveIndex::False,
-        _ => PrimitiveIndex::True,
+        0 => None,
+        1 => Some(false),
+        _ => Some(true),
     }
 }
 

@@ -1,4 +1,5 @@
 -- Readers and writers of a variable, a location and a payload belong together.
+use Rattle.std.proofs.Common.{Option, Some, None}
 use Prim.Native.Nat.{ℕ, ◌+◌, ◌*◌, ◌/◌, ◌^◌, ◌<◌}
 use native.Mathlib.Omega.{arith}
 use native.Mathlib.Nat.{div-div-eq-div-mul}
@@ -12,8 +13,6 @@ use Rattle.numeric.specs.Types.{kind_code}
 use Rattle.numeric.specs.TypeWords.{width_known, type_well_formed, type_of, shape_code, type_word}
 use Rattle.varying.specs.Format.{location_well_formed, var_well_formed, var_of, var_word, var_encodable, payload_well_formed, payload_of, payload_word, payload_encodable}
 use Rattle.varying.specs.declared.InterfaceVar.{InterfaceVar}
-use Rattle.varying.specs.declared.Payload.{Payload}
-use Rattle.varying.specs.declared.Payload.TheVariants as Pay
 use Rattle.word.proofs.Truth.{first, second, codes_back}
 use Rattle.numeric.proofs.Joined.{kind_back, shape_back, kind_again, shape_again, kind_below, shape_below, width_below}
 
@@ -159,7 +158,7 @@ payload_written w h =
     let k : kind_of w ≡ 9 = search (eqb-true, first) in
     go k (second (eqb (kind_of w) 9) (eqb (bit 26 w) 1 || eqb (bits 25 0 w) 0) h) (eqb (bit 26 w) 1) refl
   where
-    go : kind_of w ≡ 9 → (eqb (bit 26 w) 1 || eqb (bits 25 0 w) 0) ≡ true → (b : Bool) → eqb (bit 26 w) 1 ≡ b → payload_word (pick b (Pay.Size (bits 25 0 w)) Pay.Absent) ≡ w
+    go : kind_of w ≡ 9 → (eqb (bit 26 w) 1 || eqb (bits 25 0 w) 0) ≡ true → (b : Bool) → eqb (bit 26 w) 1 ≡ b → payload_word (pick b (Some (bits 25 0 w)) None) ≡ w
     go k z true e = omega (arith, eqb-true (bit 26 w) 1 e)
     go k z false e = omega (arith, eqb-false (bit 26 w) 1 e, eqb-true (bits 25 0 w) 0 (rw e at z))
 
@@ -167,23 +166,23 @@ pub payload_encodable_lem : (w : ℕ) → payload_encodable (payload_of w) ≡ t
 unfolding payload_of
 payload_encodable_lem w = go (eqb (bit 26 w) 1)
   where
-    go : (b : Bool) → payload_encodable (pick b (Pay.Size (bits 25 0 w)) Pay.Absent) ≡ true
+    go : (b : Bool) → payload_encodable (pick b (Some (bits 25 0 w)) None) ≡ true
     go true = lt-ltb (bits 25 0 w) (2 ^ 26) (omega arith)
     go false = refl
 
-pub payload_well_formed_lem : (p : Payload) → payload_encodable p ≡ true → payload_well_formed (payload_word p) ≡ true
+pub payload_well_formed_lem : (p : Option ℕ) → payload_encodable p ≡ true → payload_well_formed (payload_word p) ≡ true
 unfolding payload_well_formed payload_word
-payload_well_formed_lem Pay.Absent h = refl
-payload_well_formed_lem (Pay.Size bytes) h =
+payload_well_formed_lem None h = refl
+payload_well_formed_lem (Some bytes) h =
     let l : bytes < 2 ^ 26 = ltb-true bytes (2 ^ 26) h in
     let k : kind_of (of_kind 9 (2 ^ 26 + bytes)) ≡ 9 = omega arith in
     let b : bit 26 (of_kind 9 (2 ^ 26 + bytes)) ≡ 1 = omega arith in
     rw (k, b)
 
-pub payload_read : (p : Payload) → payload_encodable p ≡ true → payload_of (payload_word p) ≡ p
+pub payload_read : (p : Option ℕ) → payload_encodable p ≡ true → payload_of (payload_word p) ≡ p
 unfolding payload_of payload_word
-payload_read Pay.Absent h = refl
-payload_read (Pay.Size bytes) h =
+payload_read None h = refl
+payload_read (Some bytes) h =
     let l : bytes < 2 ^ 26 = ltb-true bytes (2 ^ 26) h in
     let b : bit 26 (of_kind 9 (2 ^ 26 + bytes)) ≡ 1 = omega arith in
     let c : bits 25 0 (of_kind 9 (2 ^ 26 + bytes)) ≡ bytes = omega arith in

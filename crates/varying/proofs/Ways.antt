@@ -7,10 +7,7 @@ use Rattle.word.specs.Words.{kind_of, bits, bit}
 use Rattle.numeric.specs.TypeWords.{type_well_formed, type_of}
 use Rattle.numeric.specs.declared.types.NumericType.{NumericType}
 use Rattle.varying.specs.Format.{location_well_formed, var_well_formed, var_of, payload_well_formed}
-use Rattle.varying.specs.Rules.{same_payload}
 use Rattle.varying.specs.declared.InterfaceVar.{InterfaceVar}
-use Rattle.varying.specs.declared.Payload.{Payload}
-use Rattle.varying.specs.declared.Payload.TheVariants as Pay
 
 module _ (w x : ℕ) (r : Bool) (e : x ≡ kind_of w) where
   pub location_kind : r ≡ eqb x 12 → r ≡ location_well_formed w
@@ -28,10 +25,6 @@ pub var_parts : (w : ℕ) (t : NumericType) → t ≡ type_of w
     → ◌≡◌ {A = InterfaceVar} (record { ty = t; interpolation = bits 14 12 w; sampling = bits 17 15 w; per_primitive = eqb (bit 18 w) 1 }) (var_of w)
 unfolding var_of
 var_parts w t e = rw e
-
-pub both_sized : (a b : Payload) (m n : ℕ) → a ≡ Pay.Size m → b ≡ Pay.Size n → eqb m n ≡ same_payload a b
-unfolding same_payload
-both_sized a b m n p q = rw (p, q)
 
 -- ---- a word that is known to be a variable
 

@@ -1,12 +1,10 @@
 -- How words carry a variable, a location and a payload (document 01, 'Varying' and 'kind 9 payload').
-use Rattle.std.specs.Prelude.{ℕ, ◌+◌, ◌*◌, ◌^◌, Bool, true, ◌&&◌, ◌||◌, List, [], ◌∷◌, eqb, ltb}
+use Rattle.std.specs.Prelude.{ℕ, ◌+◌, ◌*◌, ◌^◌, Bool, true, ◌&&◌, ◌||◌, List, [], ◌∷◌, eqb, ltb, Option, Some, None}
 use Rattle.word.specs.Choice.{pick, yes}
 use Rattle.word.specs.Words.{kind_of, content_of, content, bits, bit, of_kind}
 use Rattle.numeric.specs.TypeWords.{type_well_formed, type_of, type_word, width_known}
 use Rattle.varying.specs.declared.InterfaceVar.{InterfaceVar}
 use Rattle.varying.specs.declared.Located.{Located}
-use Rattle.varying.specs.declared.Payload.{Payload}
-use Rattle.varying.specs.declared.Payload.TheVariants as Pay
 
 -- 'kind 12 location'
 abbrev pub location_well_formed : ℕ → Bool
@@ -42,13 +40,13 @@ located_encodable v = content v.location && var_encodable v.var
 unfoldable pub payload_well_formed : ℕ → Bool
 payload_well_formed w = eqb (kind_of w) 9 && (eqb (bit 26 w) 1 || eqb (bits 25 0 w) 0)
 
-unfoldable pub payload_of : ℕ → Payload
-payload_of w = pick (eqb (bit 26 w) 1) (Pay.Size (bits 25 0 w)) Pay.Absent
+unfoldable pub payload_of : ℕ → Option ℕ
+payload_of w = pick (eqb (bit 26 w) 1) (Some (bits 25 0 w)) None
 
-unfoldable pub payload_word : Payload → ℕ
-payload_word Pay.Absent = of_kind 9 0
-payload_word (Pay.Size bytes) = of_kind 9 (2 ^ 26 + bytes)
+unfoldable pub payload_word : Option ℕ → ℕ
+payload_word None = of_kind 9 0
+payload_word (Some bytes) = of_kind 9 (2 ^ 26 + bytes)
 
-abbrev pub payload_encodable : Payload → Bool
-payload_encodable Pay.Absent = true
-payload_encodable (Pay.Size bytes) = ltb bytes (2 ^ 26)
+abbrev pub payload_encodable : Option ℕ → Bool
+payload_encodable None = true
+payload_encodable (Some bytes) = ltb bytes (2 ^ 26)

@@ -1,15 +1,13 @@
 -- Payloads compared.
-use Rattle.std.specs.Prelude.{Bool, true, false, eqb}
-use Rattle.varying.specs.declared.Payload.{Payload}
-use Rattle.varying.specs.declared.Payload.TheVariants as Pay
+use Rattle.std.specs.Prelude.{Bool, true, false, eqb, Option, Some, None, ℕ}
 
 -- present with size 0 differs from absent
-unfoldable pub same_payload : Payload → Payload → Bool
-same_payload Pay.Absent Pay.Absent = true
-same_payload Pay.Absent (Pay.Size b) = false
-same_payload (Pay.Size a) Pay.Absent = false
-same_payload (Pay.Size a) (Pay.Size b) = eqb a b
+unfoldable pub same_payload : Option ℕ → Option ℕ → Bool
+same_payload None None = true
+same_payload None (Some b) = false
+same_payload (Some a) None = false
+same_payload (Some a) (Some b) = eqb a b
 
-abbrev pub payload_present : Payload → Bool
-payload_present Pay.Absent = false
-payload_present (Pay.Size bytes) = true
+abbrev pub payload_present : Option ℕ → Bool
+payload_present None = false
+payload_present (Some bytes) = true

@@ -23,13 +23,6 @@ pub struct Located {
     pub var: InterfaceVar,
 }
 
-// The task payload of a stage, in bytes.
-#[derive(Clone, Copy)]
-pub enum Payload {
-    Absent,
-    Size { bytes: u32 },
-}
-
 // Whether a word is a location.
 pub fn location_well_formed(w: u32) -> bool
     ensures { result ≡ location_well_formed w }
@@ -97,29 +90,18 @@ pub fn payload_well_formed(w: u32) -> bool
 }
 
 // The payload that a word holds.
-pub fn payload_of(w: u32) -> Payload
+pub fn payload_of(w: u32) -> Option<u32>
     ensures { result ≡ payload_of w }
 {
     if w / 0x400_0000 % 2 == 1 {
-        return Payload::Size {
-            bytes: w % 0x400_0000,
-        };
+        return Some(w % 0x400_0000);
     }
-    Payload::Absent
+    None
 }
 
 // Whether two stages have the same payload; one of 0 bytes is not an absent one.
-pub fn same_payload(a: Payload, b: Payload) -> bool
+pub fn same_payload(a: Option<u32>, b: Option<u32>) -> bool
     ensures { result ≡ same_payload a b }
 {
-    match a {
-        Payload::Absent => match b {
-            Payload::Absent => true,
-            Payload::Size { bytes: _ } => false,
-        },
-        Payload::Size { bytes } => match b {
-            Payload::Absent => false,
-            Payload::Size { bytes: other } => bytes == other,
-        },
-    }
+    a == b
 }

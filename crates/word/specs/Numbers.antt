@@ -1,5 +1,7 @@
--- The numbers that answers carry (document 01, 'Numbers'), each written here and in no other definition; src/numbers.rt and include/bokwingi.h have the same names.
+-- The numbers that answers carry (document 01, 'Numbers'), each written here and in no other definition; src/refusal.rt and include/bokwingi.h have the same names.
 use Rattle.std.specs.Prelude.{ℕ}
+use Rattle.word.specs.declared.refusal.Number.{Number}
+use Rattle.word.specs.declared.refusal.Number.TheVariants as Number
 
 -- ---- the pack and the call
 
@@ -228,3 +230,58 @@ nested_too_deep = 91
 -- a type gives a sixty-fourth varying
 abbrev pub too_many_varyings : ℕ
 too_many_varyings = 92
+
+-- the number of each case of the code's enum
+abbrev pub number_of : Number → ℕ
+number_of Number.DamagedPack = damaged_pack
+number_of Number.MalformedPack = malformed_pack
+number_of Number.BadCall = bad_call
+number_of Number.ShortOut = short_out
+number_of Number.FullList = full_list
+number_of Number.EntryAbsent = entry_absent
+number_of Number.EntryNone = entry_none
+number_of Number.EntrySeveral = entry_several
+number_of Number.Missing = missing
+number_of Number.Invisible = invisible
+number_of Number.WrongType = wrong_type
+number_of Number.WrongAddressSpace = wrong_address_space
+number_of Number.WrongBufferAddressSpace = wrong_buffer_address_space
+number_of Number.WrongBufferSize = wrong_buffer_size
+number_of Number.WrongTextureViewDimension = wrong_texture_view_dimension
+number_of Number.WrongTextureClass = wrong_texture_class
+number_of Number.WrongSamplerComparison = wrong_sampler_comparison
+number_of Number.InconsistentlyDerivedType = inconsistently_derived_type
+number_of Number.BadStorageFormat = bad_storage_format
+number_of Number.FilteringFloat = filtering_float
+number_of Number.FilteringInteger = filtering_integer
+number_of Number.PairNoTexture = pair_no_texture
+number_of Number.WorkgroupTooLarge = workgroup_too_large
+number_of Number.WorkgroupZero = workgroup_zero
+number_of Number.InputMissing = input_missing
+number_of Number.InputType = input_type
+number_of Number.InputInterpolation = input_interpolation
+number_of Number.InputSampling = input_sampling
+number_of Number.InputPerPrimitive = input_per_primitive
+number_of Number.VertexLocation = vertex_location
+number_of Number.VertexCount = vertex_count
+number_of Number.FragmentLocation = fragment_location
+number_of Number.FragmentCount = fragment_count
+number_of Number.ColourLocation = colour_location
+number_of Number.SlotsUsedUp = slots_used_up
+number_of Number.DualSource = dual_source
+number_of Number.DepthAttachment = depth_attachment
+number_of Number.MeshVertices = mesh_vertices
+number_of Number.MeshPrimitives = mesh_primitives
+number_of Number.MeshTopology = mesh_topology
+number_of Number.PayloadLarge = payload_large
+number_of Number.PayloadMismatch = payload_mismatch
+number_of Number.InvalidPrimitiveIndex = invalid_primitive_index
+number_of Number.MissingPrimitiveIndex = missing_primitive_index
+number_of Number.DrawIndex = draw_index
+number_of Number.PerVertexNotTriangles = per_vertex_not_triangles
+number_of Number.NoColourType = no_colour_type
+number_of Number.FormatMismatch = format_mismatch
+number_of Number.UnknownCode = unknown_code
+number_of Number.BadTypes = bad_types
+number_of Number.NestedTooDeep = nested_too_deep
+number_of Number.TooManyVaryings = too_many_varyings

@@ -1,8 +1,11 @@
 // What a check answers: a number of the table of refusals, 0 for acceptance, and three details.
 ghost use Rattle.std.specs.Prelude.{◌≡◌};
 ghost use Rattle.word.specs.Answers.{answer, accepted, refused};
+ghost use Rattle.word.specs.Refusals.{refusal_answer, answer_of, answer_with};
 
-#[derive(Clone, Copy)]
+use crate::refusal::Refusal;
+
+#[derive(Clone, Copy, Debug, PartialEq, Eq)]
 pub struct Answer {
     pub number: u32,
     pub first: u32,
@@ -43,6 +46,38 @@ impl Answer {
             first: 0,
             second: 0,
             third: 0,
+        }
+    }
+}
+
+impl From<Refusal> for Answer {
+    ghost from_gives = { λ r a. a ≡ refusal_answer r };
+
+    fn from(r: Refusal) -> Self {
+        Self::new(r.number.code(), r.first, r.second, r.third)
+    }
+}
+
+// A check that hands nothing out.
+impl From<Result<(), Refusal>> for Answer {
+    ghost from_gives = { λ r a. a ≡ answer_of r };
+
+    fn from(outcome: Result<(), Refusal>) -> Self {
+        match outcome {
+            Ok(()) => Self::accepted(),
+            Err(refusal) => refusal.into(),
+        }
+    }
+}
+
+// A check that hands a number out, as the first detail of its acceptance.
+impl From<Result<u32, Refusal>> for Answer {
+    ghost from_gives = { λ r a. a ≡ answer_with r };
+
+    fn from(outcome: Result<u32, Refusal>) -> Self {
+        match outcome {
+            Ok(first) => Self::new(0, first, 0, 0),
+            Err(refusal) => refusal.into(),
         }
     }
 }

@@ -3,6 +3,7 @@
 
 pub mod answer;
 pub mod numbers;
+pub mod refusal;
 
 ghost use Rattle.std.specs.Prelude.{◌≡◌, ◌^◌, ◌<◌};
 ghost use Rattle.word.specs.Words.{word_at, kind_of, content_of, closing_sum};

@@ -1,5 +1,5 @@
 -- What stands at positions of a pack, read without asking whether it is well formed: what the functions behind the check of a pack read.
-use Rattle.std.specs.Prelude.{ℕ, zero, suc, ◌+◌, List, [], ◌∷◌, eqb, take, drop}
+use Rattle.std.specs.Prelude.{ℕ, zero, suc, ◌+◌, List, [], ◌∷◌, eqb, take, drop, Option, None}
 use Rattle.word.specs.Choice.{pick}
 use Rattle.word.specs.Words.{word_at, content_of, bits, bit}
 use Rattle.bindings.specs.Format.{resource_at}
@@ -7,11 +7,10 @@ use Rattle.bindings.specs.declared.types.Resource.{Resource}
 use Rattle.varying.specs.Format.{location_well_formed, payload_of}
 use Rattle.interface.specs.Meaning.{EntryPoint}
 use Rattle.interface.specs.Format.{local, built_in_of, bytes_of, name_words, stage_at, mesh_info, contents, pairs_of}
-use Rattle.interface.specs.declared.types.MeshRecord.{MeshRecord}
-use Rattle.interface.specs.declared.types.MeshRecord.TheVariants as Mesh
 use Rattle.interface.specs.declared.types.Varying.{Varying}
 use Rattle.interface.specs.declared.types.Varying.TheVariants as Var
 use Rattle.interface.specs.declared.types.EntryParts.{EntryParts}
+use Rattle.interface.specs.declared.types.EntryPointMeshInfo.{EntryPointMeshInfo}
 
 -- ---- varyings: two words for a local one, one for a built-in
 
@@ -30,8 +29,8 @@ varyings (suc n) ws = let rest = varyings n (drop (varying_width ws) ws) in vary
 abbrev pub name_at : List ℕ → ℕ → List ℕ
 name_at ws head = take (bits 22 16 (word_at ws head)) (bytes_of (take (name_words (bits 22 16 (word_at ws head))) (drop (head + 1) ws)))
 
-abbrev pub mesh_at : List ℕ → ℕ → ℕ → MeshRecord
-mesh_at ws head at = pick (eqb (bit 1 (word_at ws head)) 1) (mesh_info (word_at ws at) (word_at ws (at + 1)) (word_at ws (at + 2))) Mesh.Absent
+abbrev pub mesh_at : List ℕ → ℕ → ℕ → Option EntryPointMeshInfo
+mesh_at ws head at = pick (eqb (bit 1 (word_at ws head)) 1) (mesh_info (word_at ws at) (word_at ws (at + 1)) (word_at ws (at + 2))) None
 
 -- the entry point whose parts stand at these positions
 unfoldable pub standing : List ℕ → EntryParts → EntryPoint

@@ -1,19 +1,17 @@
 -- The positions of entries that resources note: at a resource's index stands where its entry was found.
-use Rattle.std.specs.Prelude.{ℕ, List, [], ◌∷◌, eqb, ltb, set}
+use Rattle.std.specs.Prelude.{ℕ, List, [], ◌∷◌, eqb, ltb, set, Option, Some, None}
 use Rattle.word.specs.Choice.{pick}
 use Rattle.bindings.specs.declared.types.Resource.{Resource}
 use Rattle.layouts.specs.Meaning.{Layout, find_entry}
 use Rattle.sizes.specs.Meaning.{Sizes}
-use Rattle.places.specs.declared.found.Found.{Found}
-use Rattle.places.specs.declared.found.Found.TheVariants.{At, Nothing}
 use Rattle.interface.specs.Format.{most_resources}
 use Rattle.interface.specs.declared.types.ShaderStage.{ShaderStage}
 use Rattle.resource_steps.specs.Resources.{resource_nth, record_size, provide_step}
 
 -- the position of a resource's entry noted at the resource's index, where it has one; a table has as many as a pack has resources at most
-abbrev pub note_at : ℕ → Found → List ℕ → List ℕ
-note_at i (At index) table = pick (ltb i most_resources) (set table i index) table
-note_at i Nothing table = table
+abbrev pub note_at : ℕ → Option ℕ → List ℕ → List ℕ
+note_at i (Some index) table = pick (ltb i most_resources) (set table i index) table
+note_at i None table = table
 
 -- what one resource notes: one whose size finds no room looks for no entry
 unfoldable pub step_notes : Layout → Resource → ℕ → Sizes → List ℕ → List ℕ

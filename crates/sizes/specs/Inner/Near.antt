@@ -1,16 +1,14 @@
 -- The position that is noted when a size is recorded.
-use Rattle.std.specs.Prelude.{ℕ, ◌+◌, List, set}
+use Rattle.std.specs.Prelude.{ℕ, ◌+◌, List, set, Option, Some, None}
 use Rattle.bindings.specs.declared.types.ResourceBinding.{ResourceBinding}
 use Rattle.places.specs.Places.{place_from}
-use Rattle.places.specs.declared.found.Found.{Found}
-use Rattle.places.specs.declared.found.Found.TheVariants.{At, Nothing}
 use Rattle.sizes.specs.Meaning.{Sizes, size_places}
 
 -- the position of the record at a place
-abbrev pub find_size : ResourceBinding → Sizes → Found
+abbrev pub find_size : ResourceBinding → Sizes → Option ℕ
 find_size place S = place_from place (size_places S.records) 0
 
 -- the position behind a record that was found is noted, in the one element that a note has; otherwise the note stays
-abbrev pub note_next : Found → List ℕ → List ℕ
-note_next (At i) next = set next 0 (i + 1)
-note_next Nothing next = next
+abbrev pub note_next : Option ℕ → List ℕ → List ℕ
+note_next (Some i) next = set next 0 (i + 1)
+note_next None next = next

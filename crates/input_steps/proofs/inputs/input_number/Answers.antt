@@ -8,8 +8,8 @@ offset_bounds-inputs-index c = search found_bytes
 pub bounds-inputs-index : goal.bounds-inputs-index
 bounds-inputs-index c = search found_inside
 
-pub returns-in-At-clause-value : goal.returns-in-At-clause-value
-returns-in-At-clause-value c = search number_found
+pub returns-in-Some-clause-value : goal.returns-in-Some-clause-value
+returns-in-Some-clause-value c = search number_found
 
-pub returns-in-Nothing-clause-value : goal.returns-in-Nothing-clause-value
-returns-in-Nothing-clause-value c = search number_missing
+pub returns-in-None-clause-value : goal.returns-in-None-clause-value
+returns-in-None-clause-value c = search number_missing

@@ -8,8 +8,8 @@ occupied-requires-clause-index_in_bounds c = search found_inside
 pub vacant-requires-clause-layout_value_2 : goal.vacant-requires-clause-layout_value_2
 vacant-requires-clause-layout_value_2 c = search found_none
 
-pub returns-in-At-clause-layout_after : goal.returns-in-At-clause-layout_after
-returns-in-At-clause-layout_after c = search place_occupied
+pub returns-in-Some-clause-layout_after : goal.returns-in-Some-clause-layout_after
+returns-in-Some-clause-layout_after c = search place_occupied
 
-pub returns-in-Nothing-clause-layout_after : goal.returns-in-Nothing-clause-layout_after
-returns-in-Nothing-clause-layout_after c = search place_vacant
+pub returns-in-None-clause-layout_after : goal.returns-in-None-clause-layout_after
+returns-in-None-clause-layout_after c = search place_vacant

@@ -5,8 +5,8 @@ use Rattle.resource_steps.proofs.pairs.type_word_at.Goals as goal
 pub entry_type-requires-clause-index_in_bounds : goal.entry_type-requires-clause-index_in_bounds
 entry_type-requires-clause-index_in_bounds c = search found_inside
 
-pub returns-in-At : goal.returns-in-At
-returns-in-At c = search type_found_lem
+pub returns-in-Some : goal.returns-in-Some
+returns-in-Some c = search type_found_lem
 
-pub returns-in-Nothing : goal.returns-in-Nothing
-returns-in-Nothing c = search type_none
+pub returns-in-None : goal.returns-in-None
+returns-in-None c = search type_none

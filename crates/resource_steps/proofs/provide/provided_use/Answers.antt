@@ -10,14 +10,14 @@ note-requires c = search found_few
 pub entry_use-requires-clause-index_in_bounds : goal.entry_use-requires-clause-index_in_bounds
 entry_use-requires-clause-index_in_bounds c = search found_inside
 
-pub returns-in-Nothing-clause-value : goal.returns-in-Nothing-clause-value
-returns-in-Nothing-clause-value c = search provided_none
+pub returns-in-None-clause-value : goal.returns-in-None-clause-value
+returns-in-None-clause-value c = search provided_none
 
-pub returns-in-Nothing-clause-entries_after : goal.returns-in-Nothing-clause-entries_after
-returns-in-Nothing-clause-entries_after c = search note_found
+pub returns-in-None-clause-entries_after : goal.returns-in-None-clause-entries_after
+returns-in-None-clause-entries_after c = search note_found
 
-pub returns-in-At-clause-value : goal.returns-in-At-clause-value
-returns-in-At-clause-value c = search provided_at
+pub returns-in-Some-clause-value : goal.returns-in-Some-clause-value
+returns-in-Some-clause-value c = search provided_at
 
-pub returns-in-At-clause-entries_after : goal.returns-in-At-clause-entries_after
-returns-in-At-clause-entries_after c = search note_found
+pub returns-in-Some-clause-entries_after : goal.returns-in-Some-clause-entries_after
+returns-in-Some-clause-entries_after c = search note_found

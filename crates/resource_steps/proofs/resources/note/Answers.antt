@@ -11,5 +11,5 @@ returns-then-i-lt128 c = search note_stored
 pub returns-else-i-lt128 : goal.returns-else-i-lt128
 returns-else-i-lt128 c = search note_past
 
-pub returns-in-Nothing : goal.returns-in-Nothing
-returns-in-Nothing c = search note_none
+pub returns-in-None : goal.returns-in-None
+returns-in-None c = search note_none

@@ -30,26 +30,26 @@ raise_word-requires c = search index_inside
 pub push_size-requires-clause-s_value_2 : goal.push_size-requires-clause-s_value_2
 push_size-requires-clause-s_value_2 c = search (size_lacks, content_tells)
 
-pub returns-in-At-clause-value : goal.returns-in-At-clause-value
-returns-in-At-clause-value c = search (size_fits_lem, content_tells)
+pub returns-in-Some-clause-value : goal.returns-in-Some-clause-value
+returns-in-Some-clause-value c = search (size_fits_lem, content_tells)
 
-pub returns-in-At-clause-s_after : goal.returns-in-At-clause-s_after
-returns-in-At-clause-s_after c = search (size_raised, content_tells)
+pub returns-in-Some-clause-s_after : goal.returns-in-Some-clause-s_after
+returns-in-Some-clause-s_after c = search (size_raised, content_tells)
 
-pub returns-in-At-clause-s_after_2 : goal.returns-in-At-clause-s_after_2
-returns-in-At-clause-s_after_2 c = search (record_decoded, size_raised, content_tells)
+pub returns-in-Some-clause-s_after_2 : goal.returns-in-Some-clause-s_after_2
+returns-in-Some-clause-s_after_2 c = search (record_decoded, size_raised, content_tells)
 
-pub returns-in-At-clause-s_after_3 : goal.returns-in-At-clause-s_after_3
-returns-in-At-clause-s_after_3 c = search raised_well_formed
+pub returns-in-Some-clause-s_after_3 : goal.returns-in-Some-clause-s_after_3
+returns-in-Some-clause-s_after_3 c = search raised_well_formed
 
-pub returns-in-At-clause-next_after : goal.returns-in-At-clause-next_after
-returns-in-At-clause-next_after c = search (next_noted, content_tells)
+pub returns-in-Some-clause-next_after : goal.returns-in-Some-clause-next_after
+returns-in-Some-clause-next_after c = search (next_noted, content_tells)
 
-pub returns-in-Nothing-clause-s_after_2 : goal.returns-in-Nothing-clause-s_after_2
-returns-in-Nothing-clause-s_after_2 c = search record_decoded
+pub returns-in-None-clause-s_after_2 : goal.returns-in-None-clause-s_after_2
+returns-in-None-clause-s_after_2 c = search record_decoded
 
-pub returns-in-Nothing-clause-s_after_3 : goal.returns-in-Nothing-clause-s_after_3
-returns-in-Nothing-clause-s_after_3 c = search record_well_formed
+pub returns-in-None-clause-s_after_3 : goal.returns-in-None-clause-s_after_3
+returns-in-None-clause-s_after_3 c = search record_well_formed
 
-pub returns-in-Nothing-clause-next_after : goal.returns-in-Nothing-clause-next_after
-returns-in-Nothing-clause-next_after c = search (next_kept, content_tells)
+pub returns-in-None-clause-next_after : goal.returns-in-None-clause-next_after
+returns-in-None-clause-next_after c = search (next_kept, content_tells)
