@@ -1,5 +1,5 @@
 // What the walk over the inputs comes to.
-use word::answer::Answer;
+ghost use Rattle.std.specs.Prelude.{◌≡◌};
 
 // What the walk over an entry point's inputs has met.
 #[derive(Clone, Copy, Debug, PartialEq, Eq)]
@@ -8,11 +8,4 @@ pub struct InputWalk {
     pub draw_index: bool,
     pub per_vertex: bool,
     pub locals: u32,
-}
-
-// A walk as far as it went, and its answer.
-#[derive(Clone, Copy, Debug, PartialEq, Eq)]
-pub struct Walked {
-    pub walk: InputWalk,
-    pub answer: Answer,
 }
