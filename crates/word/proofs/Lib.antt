@@ -5,3 +5,4 @@ pub mod Sums
 pub mod Parse
 pub mod ParseReads
 pub mod Both
+pub mod Loops
