@@ -23,18 +23,22 @@ impl Scalar {
         kind: ScalarKind::Sint,
         width: 4,
     };
+
     pub const U32: Scalar = Scalar {
         kind: ScalarKind::Uint,
         width: 4,
     };
+
     pub const F32: Scalar = Scalar {
         kind: ScalarKind::Float,
         width: 4,
     };
+
     pub const U64: Scalar = Scalar {
         kind: ScalarKind::Uint,
         width: 8,
     };
+
     pub const F64: Scalar = Scalar {
         kind: ScalarKind::Float,
         width: 8,

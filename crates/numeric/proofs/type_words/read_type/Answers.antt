@@ -1,14 +1,12 @@
-use Rattle.numeric.proofs.TypeWords.{other_word, more_bits, when_well_formed, when_malformed}
-use Rattle.numeric.proofs.type_words.read_type.Goals.{then-kind-ne13-via-then-kind-ne13, then-kind-ne13-via-else-kind-ne13+then-w-ne0, then-kind-ne13-via-else-kind-ne13+else-w-ne0+then-not-type_well_formed}
+use Rattle.std.proofs.Common.{arith}
+use Rattle.std.proofs.lemmas.Bool.Decides.{nat_tests}
+use Rattle.numeric.specs.TypeWords.{read_type}
 use Rattle.numeric.proofs.type_words.read_type.Goals as goal
 
 pub returns-then-kind-ne13 : goal.returns-then-kind-ne13
-returns-then-kind-ne13 c =
-    elim c.then-kind-ne13.branch [
-      | then-kind-ne13-via-then-kind-ne13 w ↦ search other_word
-      | then-kind-ne13-via-else-kind-ne13+then-w-ne0 w ↦ search more_bits
-      | then-kind-ne13-via-else-kind-ne13+else-w-ne0+then-not-type_well_formed w ↦ search when_malformed
-    ]
+unfolding read_type
+returns-then-kind-ne13 c = grind (arith, nat_tests)
 
 pub returns : goal.returns
-returns c = search when_well_formed
+unfolding read_type
+returns c = grind (arith, nat_tests)

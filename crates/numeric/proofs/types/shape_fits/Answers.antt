@@ -1,6 +1,6 @@
-use Rattle.std.proofs.Common.{rules}
+use Rattle.std.proofs.Common.{rules, arith}
 use Rattle.numeric.specs.Types.{shape_fits}
-use Rattle.numeric.proofs.Fits.{vectors_fit, columns_differ, columns_agree}
+use Rattle.numeric.proofs.Compared.{sizes_equal, sizes_ordered}
 use Rattle.numeric.proofs.types.shape_fits.Goals as goal
 
 pub returns-in-Scalar-Scalar : goal.returns-in-Scalar-Scalar
@@ -8,13 +8,16 @@ unfolding shape_fits
 returns-in-Scalar-Scalar c = search rules
 
 pub returns-in-Vector-Vector : goal.returns-in-Vector-Vector
-returns-in-Vector-Vector c = search vectors_fit
+unfolding shape_fits
+returns-in-Vector-Vector c = grind (arith, sizes_ordered)
 
 pub returns-then-eq : goal.returns-then-eq
-returns-then-eq c = search columns_agree
+unfolding shape_fits
+returns-then-eq c = grind (arith, sizes_equal)
 
 pub returns-else-eq : goal.returns-else-eq
-returns-else-eq c = search columns_differ
+unfolding shape_fits
+returns-else-eq c = grind (arith, sizes_equal)
 
 pub returns-in_default : goal.returns-in_default
 unfolding shape_fits

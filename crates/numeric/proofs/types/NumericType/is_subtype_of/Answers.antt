@@ -1,14 +1,21 @@
-use Rattle.numeric.proofs.Fits.{too_wide, other_kind, other_shape, all_fit}
+use Rattle.std.proofs.Common.{arith}
+use Rattle.std.proofs.lemmas.Bool.Decides.{nat_tests}
+use Rattle.numeric.specs.Types.{subtype_of}
+use Rattle.numeric.proofs.Compared.{kinds_compared}
 use Rattle.numeric.proofs.types.NumericType.is_subtype_of.Goals as goal
 
 pub returns-then-self-other : goal.returns-then-self-other
-returns-then-self-other c = search too_wide
+unfolding subtype_of
+returns-then-self-other c = grind (arith, nat_tests)
 
 pub returns-then-ne : goal.returns-then-ne
-returns-then-ne c = search other_kind
+unfolding subtype_of
+returns-then-ne c = grind (arith, nat_tests, kinds_compared)
 
 pub returns-then-not-shape_fits : goal.returns-then-not-shape_fits
-returns-then-not-shape_fits c = search other_shape
+unfolding subtype_of
+returns-then-not-shape_fits c = grind (arith, nat_tests, kinds_compared)
 
 pub returns : goal.returns
-returns c = search all_fit
+unfolding subtype_of
+returns c = grind (arith, nat_tests, kinds_compared)
