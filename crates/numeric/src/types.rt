@@ -45,8 +45,8 @@ impl Scalar {
     };
 }
 
-// How many components a vector, or a side of a matrix, has.
-#[derive(Clone, Copy, Debug, PartialEq, Eq, PartialOrd, Ord)]
+// How many components a vector, or a side of a matrix, has. No derived order: it reads a table, and the board's library has no data.
+#[derive(Clone, Copy, Debug, PartialEq, Eq)]
 pub enum VectorSize {
     Bi = 2,
     Tri = 3,
@@ -80,7 +80,7 @@ fn shape_fits(dim: NumericDimension, other: NumericDimension) -> bool
 {
     match (dim, other) {
         (NumericDimension::Scalar, NumericDimension::Scalar | NumericDimension::Vector(_)) => true,
-        (NumericDimension::Vector(s0), NumericDimension::Vector(s1)) => s0 <= s1,
+        (NumericDimension::Vector(s0), NumericDimension::Vector(s1)) => s0 as u32 <= s1 as u32,
         (NumericDimension::Matrix(c0, r0), NumericDimension::Matrix(c1, r1)) => {
             c0 == c1 && r0 == r1
         }

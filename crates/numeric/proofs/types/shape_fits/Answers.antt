@@ -1,6 +1,6 @@
 use Rattle.std.proofs.Common.{rules, arith}
 use Rattle.numeric.specs.Types.{shape_fits}
-use Rattle.numeric.proofs.Compared.{sizes_equal, sizes_ordered}
+use Rattle.numeric.proofs.Compared.{size_tag, sizes_compared}
 use Rattle.numeric.proofs.types.shape_fits.Goals as goal
 
 pub returns-in-Scalar-Scalar : goal.returns-in-Scalar-Scalar
@@ -9,15 +9,15 @@ returns-in-Scalar-Scalar c = search rules
 
 pub returns-in-Vector-Vector : goal.returns-in-Vector-Vector
 unfolding shape_fits
-returns-in-Vector-Vector c = grind (arith, sizes_ordered)
+returns-in-Vector-Vector c = grind (arith, size_tag)
 
 pub returns-then-eq : goal.returns-then-eq
 unfolding shape_fits
-returns-then-eq c = grind (arith, sizes_equal)
+returns-then-eq c = grind (arith, sizes_compared)
 
 pub returns-else-eq : goal.returns-else-eq
 unfolding shape_fits
-returns-else-eq c = grind (arith, sizes_equal)
+returns-else-eq c = grind (arith, sizes_compared)
 
 pub returns-in_default : goal.returns-in_default
 unfolding shape_fits
