@@ -37,10 +37,11 @@ fn dimension_at(code: u32) -> NumericDimension
     }
 }
 
+// No pattern: `1 | 2 | 4 | 8` takes a stage check's stack on the board from 2,048 bytes to 2,088.
 fn width_known(width: u32) -> bool
     ensures { result ≡ width_known width }
 {
-    matches!(width, 1 | 2 | 4 | 8)
+    width == 1 || width == 2 || width == 4 || width == 8
 }
 
 // Whether the type's bits of a word hold known codes.
