@@ -147,9 +147,9 @@ module _ (ws : List ℕ) (w : ℕ) (b : Bool) (h : length ws ≤ 1024) (e : w �
       accepts fault e = by_option p (λ n. rw n) (λ r s. absurd (let y : from (drop r ws) ≡ nowhere = rw s at e in let z : ◌≡◌ {A = ℕ} 0 1 = cc in omega arith))
       accepts (got a rest) e = by_option p (λ n. absurd (let y : nowhere ≡ from rest = rw n at e in let z : ◌≡◌ {A = ℕ} 0 1 = cc in omega arith)) (λ r s. rw s)
 
-      pub list_told : is_some p ≡ listed ws
+      pub list_told : (b : Bool) → b ≡ is_some p → b ≡ listed ws
       unfolding listed
-      list_told = rw list_read (rw g at (accepts (read_types c [] (drop 1 ws)) i))
+      list_told b q = q ∙ rw list_read (rw g at (accepts (read_types c [] (drop 1 ws)) i))
 
       pub all_read : declared ws ≡ earlier_of ws (content_of (word_at ws 0))
       unfolding declared earlier_of

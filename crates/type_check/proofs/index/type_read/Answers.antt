@@ -1,4 +1,4 @@
-use Rattle.type_check.proofs.TypeWays.{type_malformed, type_within, type_numeric, element_below, array_malformed, array_within, array_well_formed, type_struct}
+use Rattle.type_check.proofs.TypeWays.{type_malformed, type_numeric, array_malformed, array_well_formed, type_struct}
 use Rattle.type_check.proofs.index.type_read.Goals as goal
 
 pub returns-then-not-head_well_formed-clause-reached : goal.returns-then-not-head_well_formed-clause-reached
@@ -14,4 +14,4 @@ pub returns-else-kind-ne6-clause-reached : goal.returns-else-kind-ne6-clause-rea
 returns-else-kind-ne6-clause-reached c = search array_well_formed
 
 pub returns-in_default-clause-reached : goal.returns-in_default-clause-reached
-returns-in_default-clause-reached c = let h = c.in_default in ?
+returns-in_default-clause-reached c = search type_struct
