@@ -2,15 +2,17 @@
 use Prim.Native.Nat.{ℕ, zero, suc, ◌+◌, ◌-◌, ◌<◌, ◌≤◌}
 use native.Mathlib.Omega.{arith}
 use native.Mathlib.Nat.{add-zero, zero-add}
-use native.Mathlib.Numerals.{add-one, sub-one}
+use native.Mathlib.Numerals.{add-one}
 use mathlib.Core.Path.{◌≡◌, refl, sym, ap, ◌∙◌}
 use mathlib.Core.List.{List, [], ◌∷◌, ◌++◌}
-use lib.ListN.{get_or, length, drop, set, length-set}
-use lib.Seq.{sets, sets-eq, get_or-set_same, get_or-set_other}
+use lib.ListN.{get_or, length, take, drop, set, length-set, length-drop, length-take}
+use lib.Seq.{paste, sets, sets-eq, get_or-set_same, get_or-set_other, get_or-drop, get_or-take}
+use Rattle.std.specs.Prelude.{Option}
+use Rattle.std.proofs.lemmas.Grind.{same_number_lists}
 use Rattle.type_check.specs.Inner.Notes.{words_of}
 use Rattle.type_lists.specs.Meaning.{Unbound, TypeInner}
 use Rattle.type_lists.specs.Rules.{populate}
-use Rattle.populate.specs.Inner.Written.{put, again, Stood, Written}
+use Rattle.populate.specs.Inner.Written.{put, Stood, Written}
 
 pub put_append : (l : List ℕ) (to : ℕ) (xs ys : List ℕ) → put l to (xs ++ ys) ≡ put (put l to xs).1 (put l to xs).0 ys
 unfolding put
@@ -58,32 +60,27 @@ put_first l ws h =
 
 -- ---- words written again
 
-pub again_is : (ws l : List ℕ) (from to : ℕ) → from + length ws ≤ to → ((k : ℕ) → k < length ws → get_or l (from + k) 0 ≡ get_or ws k 0) → again l from to (length ws) ≡ put l to ws
-unfolding again put
-again_is [] l from to h same = refl
-again_is (w ∷ ws) l from to h same =
-    let z : from + zero ≡ from = add-zero from in
-    let a : get_or l from 0 ≡ w = rw z at (same zero (omega arith)) in
-    let b : again (set l to (get_or l from 0)) (from + 1) (to + 1) (length ws) ≡ put (set l to w) (to + 1) ws =
-    rw a
-    (again_is ws (set l to w) (from + 1) (to + 1) (omega arith) λ k i.
-    let q : from + 1 + k ≡ from + suc k = omega arith in
-    get_or-set_other l to (from + 1 + k) w 0 (λ y. omega arith) ∙ rw q (same (suc k) (omega arith))) in
-    b
+-- they are the words that stand there
+pub stands_as : (l ws : List ℕ) (from : ℕ) → from + length ws ≤ length l → ((k : ℕ) → k < length ws → get_or l (from + k) 0 ≡ get_or ws k 0) → take (length ws) (drop from l) ≡ ws
+stands_as l ws from h same =
+    let n : length (take (length ws) (drop from l)) ≡ length ws = simp (length-take, length-drop) (omega arith) in
+    same_number_lists (take (length ws) (drop from l)) ws n λ k i.
+    let j : k < length ws = omega arith in
+    get_or-take (length ws) (drop from l) k 0 j ∙ get_or-drop from l k 0 ∙ same k j
 
--- the loop: its start, one word more, its end
-module _ (l later : List ℕ) (first position from to count left : ℕ) (inv : again l first position count ≡ again later from to left) where
-  pub again_on : (h : left ≡ 0 → ⊥) → again l first position count ≡ again (set later to (get_or later from 0)) (from + 1) (to + 1) (left - 1)
-  unfolding again
-  again_on h = inv ∙ step left h
-    where
-      step : (n : ℕ) → (n ≡ 0 → ⊥) → again later from to n ≡ again (set later to (get_or later from 0)) (from + 1) (to + 1) (n - 1)
-      step zero z = absurd (z refl)
-      step (suc n) z = rw sub-one
-
-  pub again_done : left ≡ 0 → (to, later) ≡ again l first position count
-  unfolding again
-  again_done z = sym (inv ∙ rw z)
+pub copied : (l later : List ℕ) (first to count end : ℕ) → first + count ≤ to → to + count ≤ length l → end ≡ first + count → later ≡ paste l to (drop first l) (end - first)
+    → (to + count, later) ≡ put l to (take count (drop first l))
+copied l later first to count end h k q e =
+    let n : length (take count (drop first l)) ≡ count = simp (length-take, length-drop) (omega arith) in
+    let m : end - first ≡ count = omega arith in
+    let o : to + length (take count (drop first l)) ≤ length l = omega arith in
+    let a : (put l to (take count (drop first l))).1 ≡ later =
+    put_sets l to (take count (drop first l)) ∙ sets-eq (take count (drop first l)) l to o ∙ sym (e ∙ rw (m, n)) in
+    let b : (put l to (take count (drop first l))).0 ≡ to + count = put_to l to (take count (drop first l)) ∙ rw n in
+    pair (put l to (take count (drop first l))) (sym b) (sym a)
+  where
+    pair : (p : ℕ × List ℕ) → to + count ≡ p.0 → later ≡ p.1 → (to + count, later) ≡ p
+    pair p e f = rw (e, f)
 
 -- ---- the table of what was written
 
@@ -97,5 +94,5 @@ module _ (types : List TypeInner) where
         same = λ k h. rw b (put_before out to ws (from + k) (omega (arith, s.inside)) ∙ s.same k h);
       }
 
-  pub written_kept : (written out later ws : List ℕ) (to r : ℕ) → (r, later) ≡ put out to ws → Written types written out to → Written types written later r
+  pub written_kept : (written : List (Option ℕ)) (out later ws : List ℕ) (to r : ℕ) → (r, later) ≡ put out to ws → Written types written out to → Written types written later r
   written_kept written out later ws to r e s = record { each = λ n from h q. stood_kept out later ws (words_of (populate types n Unbound)) from to r e (s.each n from h q) }

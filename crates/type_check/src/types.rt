@@ -19,7 +19,8 @@ impl Types<'_> {
     // Where the type of a number stands.
     pub fn start(&self, n: usize) -> usize
         requires { n < self.now.count }
-        ensures { result ≡ start_at self.now.notes.now n }
+        ensures value { result ≡ start_at self.now.notes.now n }
+        ensures near { result < 1024 }
     {
         usize::from(self.notes[n].start)
     }

@@ -9,7 +9,7 @@ use Rattle.word.specs.Parse.{Parsed, fault, got, next}
 use Rattle.interface.specs.Format.{varying_words}
 use Rattle.interface.specs.declared.types.Varying.{Varying}
 use Rattle.type_lists.specs.Meaning.{Unbound, StructMember, TypeInner, Scalar, Vector, Matrix, Array, Struct, type_numbered}
-use Rattle.type_lists.specs.Format.{most_types}
+use Rattle.type_lists.specs.Format.{most_types, most_words}
 use Rattle.type_lists.specs.Rules.{populate, members_give, nesting, deepest}
 use Rattle.type_check.specs.Inner.Positions.{type_at, struct_at, names_below}
 use Rattle.type_check.specs.declared.notes.Note.{Note}
@@ -69,6 +69,7 @@ pub record Stands (types : List TypeInner) (ws : List ℕ) (n : ℕ) (e : TypeNo
   pub is : type_numbered types n ≡ type_at (drop e.start ws)
   pub below : names_below n (type_numbered types n) ≡ true
   pub noted : e.note ≡ number_note types n
+  pub near : e.start < most_words
 
 pub record Noted (types : List TypeInner) (ws : List ℕ) (notes : List TypeNote) : Type 0 where
   pub each : (n : ℕ) → n < length types → Stands types ws n (get_or notes n unnoted)
