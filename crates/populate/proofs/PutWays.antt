@@ -1,11 +1,11 @@
 -- The code's ways through what a type that is no struct gives.
-use Prim.Native.Nat.{ℕ, ◌+◌, ◌*◌, ◌/◌, ◌%◌, ◌^◌, ◌<◌, ◌≤◌, min}
+use Prim.Native.Nat.{ℕ, ◌+◌, ◌*◌, ◌/◌, ◌%◌, ◌^◌, ◌<◌, ◌≤◌}
 use native.Mathlib.Omega.{arith}
 use mathlib.Core.Path.{◌≡◌, refl, sym, ◌∙◌}
 use mathlib.Core.Bool.{Bool, true, false, not}
 use mathlib.Core.List.{List, [], ◌∷◌}
-use borrow.Author.Tests.{eq-eqb, ne_eqb, eqb-true, ltb-true, ltb-false, not-true, not-false}
-use lib.Dec.{eqb, ltb}
+use borrow.Author.Tests.{ne_eqb, eqb-true, not-true, not-false}
+use lib.Dec.{eqb}
 use lib.ListN.{length, drop, set, length-set}
 use Rattle.word.specs.Choice.{pick, yes}
 use Rattle.word.specs.Words.{word_at, kind_of, content_of, bits, bit, of_kind}
@@ -18,7 +18,6 @@ use Rattle.varying.specs.Format.{var_word}
 use Rattle.varying.proofs.Joined.{flag_back}
 use Rattle.interface.specs.Format.{built_in_of, built_in_code}
 use Rattle.interface.specs.declared.types.BuiltIn.TheVariants as In
-use Rattle.interface.proofs.RestoreVaryings.{code_back}
 use Rattle.type_lists.specs.Meaning.{Binding, Unbound, Location, BuiltIn}
 use Rattle.type_lists.specs.Format.{is_clip}
 use Rattle.type_lists.specs.Rules.{numeric_gives, array_gives, type_gives}

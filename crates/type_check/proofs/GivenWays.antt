@@ -1,12 +1,12 @@
 -- What a type gives with a binding, by words and notes, is what the definition gives.
 use Prim.Native.Nat.{ℕ, ◌+◌, ◌<◌, min}
 use native.Mathlib.Omega.{arith}
-use mathlib.Core.Path.{◌≡◌, refl, sym, ap, ◌∙◌}
-use mathlib.Core.Bool.{Bool, true, false}
+use mathlib.Core.Path.{◌≡◌, refl, ap, ◌∙◌}
+use mathlib.Core.Bool.{true, false}
 use mathlib.Core.List.{List, []}
-use borrow.Author.Tests.{ne_eqb, eqb-true, eqb-false}
+use borrow.Author.Tests.{eqb-true, eqb-false}
 use lib.Dec.{eqb}
-use lib.ListN.{get_or, length, drop}
+use lib.ListN.{length, drop}
 use Rattle.word.specs.Choice.{pick, yes}
 use Rattle.word.specs.Words.{word_at, kind_of, content_of, bits}
 use Rattle.word.specs.Lists.{flat}
@@ -23,7 +23,7 @@ use Rattle.type_lists.specs.Rules.{numeric_gives, array_gives, type_gives, popul
 use Rattle.type_check.specs.declared.notes.Note.{Note}
 use Rattle.type_check.specs.declared.notes.TypeNote.{TypeNote}
 use Rattle.type_check.specs.Inner.Positions.{binding_at, binding_of, members_at, type_at, struct_at}
-use Rattle.type_check.specs.Inner.Notes.{note, note_of, is_struct, number_note, start_at, note_at, clip_word, bound_note, array_note, lone_note_at, given_note, Noted}
+use Rattle.type_check.specs.Inner.Notes.{note, note_of, is_struct, number_note, start_at, note_at, bound_note, given_note, Noted}
 use Rattle.type_check.proofs.Gives.{lone_gives, struct_ignores}
 use Rattle.type_check.proofs.ClipWays.{type_22, type_23, type_24, clip_bound}
 

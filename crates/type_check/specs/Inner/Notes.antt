@@ -1,5 +1,5 @@
 -- What is noted of a type by its number: where it stands, how deep structs nest in it, how many varyings it gives and how many words they take.
-use Rattle.std.specs.Prelude.{ℕ, ◌+◌, ◌*◌, ◌^◌, ◌<◌, ◌≤◌, min, max, ◌≡◌, Bool, true, false, ◌&&◌, List, ◌∷◌, Option, Some, None, eqb, leb, length, drop, get_or}
+use Rattle.std.specs.Prelude.{ℕ, ◌+◌, ◌<◌, ◌≤◌, min, max, ◌≡◌, Bool, true, false, ◌&&◌, List, ◌∷◌, Option, Some, None, eqb, leb, length, drop, get_or}
 use mathlib.Core.Sum.{⊎_set}
 use Rattle.std.proofs.Props.{props}
 use Rattle.word.specs.Choice.{pick, yes}
