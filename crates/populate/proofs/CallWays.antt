@@ -44,9 +44,6 @@ none_at (suc n) (suc i) = none_at n i
 pub written_none : (types : List TypeInner) (out : List ℕ) (to : ℕ) → Written types (replicate 256 None) out to
 written_none types out to = record { each = λ n from h e. absurd (let z : ◌≡◌ {A = Option ℕ} None (Some from) = sym (none_at 256 n) ∙ e in let y : ◌≡◌ {A = ℕ} 0 1 = cc in omega arith) }
 
-pub list_put : (l later ws : List ℕ) (r : ℕ) → (r, later) ≡ put l 0 ws → later ≡ (put l 0 ws).1
-list_put l later ws r e = ap (λ (x : ℕ × List ℕ). x.1) e
-
 -- ---- the asked type
 
 words_few : (vs : List Varying) → length (words_of vs) ≤ 2 * length vs
@@ -209,12 +206,6 @@ module _ (ws : List ℕ) (asked : ℕ) (bs out : List ℕ) (x : Bool) (e : x ≡
     module _ (j : x ≡ true → declared ws ≡ earlier_of ws (content_of (word_at ws 0))) where
       all_read : declared ws ≡ earlier_of ws c
       all_read = j (not-false x o) ∙ rw (← f, ← g)
-
-      pub declared_counted : length (earlier_of ws c) ≡ c
-      declared_counted = rw (← all_read) counted
-
-      pub declared_noted : (notes : List TypeNote) → (x ≡ true → Noted (declared ws) ws notes) → Noted (earlier_of ws c) ws notes
-      declared_noted notes s = rw (← all_read) (s (not-false x o))
 
       pub asked_inside : (later : List ℕ) (r : Answer) → asked < c → (r, later) ≡ bound_on (earlier_of ws c) asked (read_binding bs) out → (r, later) ≡ populate_call ws asked bs out
       asked_inside later r h q = rw (call_types o, lt-ltb asked (length (declared ws)) (omega (arith, counted)), all_read) q

@@ -1,14 +1,15 @@
 -- Words written one behind the other: what they leave, what they hold, and words written again.
-use Prim.Native.Nat.{ℕ, zero, suc, ◌+◌, ◌-◌, ◌<◌, ◌≤◌}
+use Prim.Native.Nat.{ℕ, zero, suc, ◌+◌, ◌<◌, ◌≤◌}
 use native.Mathlib.Omega.{arith}
 use native.Mathlib.Nat.{add-zero, zero-add}
 use native.Mathlib.Numerals.{add-one}
 use mathlib.Core.Path.{◌≡◌, refl, sym, ap, ◌∙◌}
 use mathlib.Core.List.{List, [], ◌∷◌, ◌++◌}
 use lib.ListN.{get_or, length, take, drop, set, length-set, length-drop, length-take}
-use lib.Seq.{paste, sets, sets-eq, get_or-set_same, get_or-set_other, get_or-drop, get_or-take}
+use lib.Seq.{sets, sets-eq, get_or-set_same, get_or-set_other, get_or-drop, get_or-take}
 use Rattle.std.specs.Prelude.{Option}
 use Rattle.std.proofs.lemmas.Grind.{same_number_lists}
+use Rattle.std.proofs.lemmas.List.{take_more}
 use Rattle.type_check.specs.Inner.Notes.{words_of}
 use Rattle.type_lists.specs.Meaning.{Unbound, TypeInner}
 use Rattle.type_lists.specs.Rules.{populate}
@@ -68,19 +69,23 @@ stands_as l ws from h same =
     let j : k < length ws = omega arith in
     get_or-take (length ws) (drop from l) k 0 j ∙ get_or-drop from l k 0 ∙ same k j
 
-pub copied : (l later : List ℕ) (first to count end : ℕ) → first + count ≤ to → to + count ≤ length l → end ≡ first + count → later ≡ paste l to (drop first l) (end - first)
-    → (to + count, later) ≡ put l to (take count (drop first l))
-copied l later first to count end h k q e =
-    let n : length (take count (drop first l)) ≡ count = simp (length-take, length-drop) (omega arith) in
-    let m : end - first ≡ count = omega arith in
-    let o : to + length (take count (drop first l)) ≤ length l = omega arith in
-    let a : (put l to (take count (drop first l))).1 ≡ later =
-    put_sets l to (take count (drop first l)) ∙ sets-eq (take count (drop first l)) l to o ∙ sym (e ∙ rw (m, n)) in
-    let b : (put l to (take count (drop first l))).0 ≡ to + count = put_to l to (take count (drop first l)) ∙ rw n in
-    pair (put l to (take count (drop first l))) (sym b) (sym a)
-  where
-    pair : (p : ℕ × List ℕ) → to + count ≡ p.0 → later ≡ p.1 → (to + count, later) ≡ p
-    pair p e f = rw (e, f)
+-- the loop: its start, one word more, its end
+pub again_start : (l : List ℕ) (first to : ℕ) → (to + 0, l) ≡ put l to (take 0 (drop first l))
+unfolding put
+again_start l first to = rw (add-zero to)
+
+module _ (l later : List ℕ) (first to count i : ℕ) (inv : (to + i, later) ≡ put l to (take i (drop first l))) where
+  pub again_on : first + count ≤ to → to + count ≤ length l → i < count → (to + (i + 1), set later (to + i) (get_or later (first + i) 0)) ≡ put l to (take (i + 1) (drop first l))
+  unfolding put
+  again_on h k o =
+      let n : i < length (drop first l) = simp length-drop (omega arith) in
+      let z : to + (i + 1) ≡ to + i + 1 = omega arith in
+      let a : later ≡ (put l to (take i (drop first l))).1 = ap (λ (p : ℕ × List ℕ). p.1) inv in
+      let x : get_or later (first + i) 0 ≡ get_or (drop first l) i 0 = rw a (put_before l to (take i (drop first l)) (first + i) (omega arith)) ∙ sym (get_or-drop first l i 0) in
+      rw (take_more (drop first l) i 0 n, put_append l to (take i (drop first l)) (get_or (drop first l) i 0 ∷ []), ← inv, x, z)
+
+  pub again_done : i ≤ count → count ≤ i → (to + count, later) ≡ put l to (take count (drop first l))
+  again_done h k = let z : count ≡ i = omega arith in rw z inv
 
 -- ---- the table of what was written
 

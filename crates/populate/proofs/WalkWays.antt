@@ -6,7 +6,7 @@ use mathlib.Core.Bool.{Bool, true, false, false≢true}
 use mathlib.Core.List.{List, [], ◌∷◌, ◌++◌}
 use borrow.Author.Tests.{eqb-true, eqb-false, ltb-true}
 use lib.Dec.{eqb, ltb}
-use lib.ListN.{get_or, length, drop, set, length-append, length-set}
+use lib.ListN.{get_or, length, drop, set, length-append}
 use lib.Seq.{drop-drop, get_or-drop, get_or-set_same, get_or-set_other}
 use Rattle.word.specs.Words.{word_at, content_of, bits}
 use Rattle.word.specs.Lists.{every, flat}
@@ -101,9 +101,6 @@ module _ (types : List TypeInner) (ws : List ℕ) (notes : List TypeNote) (s : N
 
       -- a type that is no struct
       module _ (o : x ≡ false) (b : Binding) (l : List ℕ) (to : ℕ) where
-        pub lone_at : struct_at ws (start_at notes n) ≡ false
-        lone_at = sym g ∙ o
-
         lone_now : populate types n b ≡ type_gives nothing (type_at (drop (start_at notes n) ws)) b
         lone_now = lone_gives types n b h (lone_there o) ∙ rw (s.each n h).is
 
@@ -219,9 +216,3 @@ module _ (types : List TypeInner) (ws : List ℕ) (notes : List TypeNote) (s : N
             let r : to ≡ from = cc in
             rw (u, ← r) here)
             (λ v. let u : m ≡ n → ⊥ = eqb-false m n v in w.each m from y (sym (get_or-set_other table n m (Some to) None u) ∙ f))
-
-pub to_small : (to k : ℕ) (l : List ℕ) → to + k ≤ room l → to < 256
-to_small to k l h = omega arith
-
-pub table_length : (table : List (Option ℕ)) (n : ℕ) (v : Option ℕ) → length table ≡ 256 → length (set table n v) ≡ 256
-table_length table n v h = simp length-set h

@@ -111,6 +111,9 @@ pub(crate) fn put_again(out: &mut [u32], first: usize, to: usize, count: usize) 
     requires { (first + count ≤ to) × (to + count ≤ length out.old) }
     ensures { (result, out.new) ≡ put out.old to (take count (drop first out.old)) }
 {
-    out.copy_within(first..first + count, to);
+    // not `copy_within`: it hands on pairs with a pointer, which tools/board/build refuses
+    for i in 0..count {
+        out[to + i] = out[first + i];
+    }
     to + count
 }

@@ -5,15 +5,15 @@ use native.Mathlib.Nat.{zero-add}
 use mathlib.Core.Path.{◌≡◌, refl, sym, ◌∙◌}
 use mathlib.Core.Bool.{Bool, true, false, not, false≢true}
 use mathlib.Core.List.{List, [], ◌∷◌}
-use borrow.Author.Tests.{eqb-true, eqb-false, leb-true, lt-leb, le-leb, not-true, not-false}
-use lib.Dec.{eqb, leb}
+use borrow.Author.Tests.{eqb-true, eqb-false, lt-leb, le-leb, not-true, not-false}
+use lib.Dec.{eqb}
 use lib.ListN.{get_or, set, length, drop, length-drop}
 use lib.Seq.{get_or-set_same, get_or-set_other}
 use Rattle.std.specs.Prelude.{Option, Some, None, is_some}
-use Rattle.word.specs.Words.{word_at, kind_of, content_of}
+use Rattle.word.specs.Words.{word_at, content_of}
 use Rattle.word.specs.Parse.{Parsed, fault, got, one, nowhere, from, behind, rest_of}
-use Rattle.word.proofs.Parse.{one_fault, one_got, one_in}
-use Rattle.word.proofs.Truth.{second, by_test}
+use Rattle.word.proofs.Parse.{one_fault, one_got}
+use Rattle.word.proofs.Truth.{by_test}
 use Rattle.type_lists.specs.Meaning.{TypeInner}
 use Rattle.type_lists.specs.Format.{head_well_formed, read_type, read_types, count_well_formed, read_list, decode}
 use Rattle.type_lists.proofs.Numbered.{types_add, types_one, types_length, numbered_last, numbered_earlier}
@@ -109,12 +109,6 @@ module _ (ws : List ℕ) (i at : ℕ) (e : read_types i [] (drop 1 ws) ≡ got (
         noted_more (earlier_of ws i) ws notes (record { start = at; note = n }) v (drop r ws) s q y (type_inside few) (omega (arith, earlier_length)) (omega (arith, earlier_length)) in
         rw p (rw earlier_length at d)
 
-pub types_done : (ws : List ℕ) (i count at : ℕ) → read_types i [] (drop 1 ws) ≡ got (earlier_of ws i) (drop at ws) → i ≤ count → count ≤ i → from (drop at ws) ≡ behind (read_types count [] (drop 1 ws))
-types_done ws i count at e h k = let x : count ≡ i = omega arith in rw (x, e)
-
-pub all_noted : (ws : List ℕ) (notes : List TypeNote) (i count : ℕ) → Noted (earlier_of ws i) ws notes → i ≤ count → count ≤ i → Noted (earlier_of ws count) ws notes
-all_noted ws notes i count s h k = let x : count ≡ i = omega arith in rw x s
-
 -- ---- the list
 
 by_option : {G : Type 0} (p : Option ℕ) → (p ≡ None → G) → ((r : ℕ) → p ≡ Some r → G) → G
@@ -134,12 +128,6 @@ module _ (ws : List ℕ) (w : ℕ) (b : Bool) (h : length ws ≤ 1024) (e : w �
   list_uncounted o = let q : one count_well_formed ws ≡ fault = one_fault count_well_formed ws 0 w b e f (not-true b o) in sym (rw (le-leb (length ws) 1024 h, q))
 
   module _ (o : not b ≡ false) where
-    pub list_some : 1 ≤ length ws
-    list_some = omega (arith, one_in count_well_formed ws 0 w b e f (not-false b o) count_zero)
-
-    pub list_few : (c : ℕ) → c ≡ content_of w → c ≤ 256
-    list_few c g = rw g (leb-true (content_of w) 256 (second (eqb (kind_of w) 21) (leb (content_of w) 256) (sym f ∙ not-false b o)))
-
     list_read : decode ws ≡ read_types (content_of w) [] (drop 1 ws)
     unfolding decode read_list
     list_read = let q : one count_well_formed ws ≡ got w (drop 1 ws) = one_got count_well_formed ws 0 w b e f (not-false b o) count_zero in rw (le-leb (length ws) 1024 h, q)

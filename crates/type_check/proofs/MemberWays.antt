@@ -10,7 +10,7 @@ use lib.ListN.{length, drop}
 use Rattle.word.specs.Choice.{pick}
 use Rattle.word.specs.Words.{word_at, kind_of, content_of}
 use Rattle.word.specs.Parse.{Parsed, fault, got, next, several, nowhere, from, behind}
-use Rattle.word.proofs.Parse.{first_of, others_of, one_fault, one_got, one_in}
+use Rattle.word.proofs.Parse.{first_of, others_of, one_fault, one_got}
 use Rattle.word.proofs.Truth.{second}
 use Rattle.interface.specs.Format.{index_well_formed}
 use Rattle.type_lists.specs.Meaning.{StructMember, TypeInner}
@@ -50,9 +50,6 @@ module _ (types : List TypeInner) (ws : List ℕ) (n at w : ℕ) (l : length typ
   member_unnamed o = rw (one_fault (index_well_formed (length types)) ws at w b e index_now (not-true b o))
 
   module _ (o : not b ≡ false) where
-    pub member_within : at + 1 ≤ length ws
-    member_within = omega (arith, one_in (index_well_formed (length types)) ws at w b e index_now (not-false b o) (index_zero (length types)))
-
     pub named_below : content_of w < n
     named_below = ltb-true (content_of w) n (second (eqb (kind_of w) 5) (ltb (content_of w) n) (sym f ∙ not-false b o))
 

@@ -1,5 +1,5 @@
 -- The code's ways through one type.
-use Prim.Native.Nat.{ℕ, suc, ◌+◌, ◌%◌, ◌^◌, ◌<◌, ◌≤◌, min}
+use Prim.Native.Nat.{ℕ, suc, ◌+◌, ◌%◌, ◌^◌, ◌<◌, min}
 use native.Mathlib.Omega.{arith}
 use mathlib.Core.Path.{◌≡◌, refl, sym, ap, ◌∙◌}
 use mathlib.Core.Bool.{Bool, true, false, not, ◌&&◌}
@@ -10,7 +10,7 @@ use lib.ListN.{length, drop}
 use Rattle.word.specs.Choice.{pick}
 use Rattle.word.specs.Words.{word_at, kind_of, content_of, bits}
 use Rattle.word.specs.Parse.{Parsed, got, next, one, several}
-use Rattle.word.proofs.Parse.{one_fault, one_got, one_in}
+use Rattle.word.proofs.Parse.{one_fault, one_got}
 use Rattle.word.proofs.Truth.{second}
 use Rattle.numeric.specs.TypeWords.{type_of}
 use Rattle.numeric.specs.declared.types.Scalar as Numeric
@@ -76,9 +76,6 @@ module _ (types : List TypeInner) (ws : List ℕ) (n at w : ℕ) (l : length typ
   type_malformed o = rw (one_fault (head_well_formed (length types)) ws at w b e head_now (not-true b o))
 
   module _ (o : not b ≡ false) where
-    pub type_within : at + 1 ≤ length ws
-    type_within = omega (arith, one_in (head_well_formed (length types)) ws at w b e head_now (not-false b o) (head_zero (length types)))
-
     type_headed : read_type types (drop at ws) ≡ (pick (eqb (kind_of w) 22) (got (numeric_type (type_of w)) (drop (at + 1) ws))
         (pick (eqb (kind_of w) 23) (next (one (of_word 6) (drop (at + 1) ws)) λ size rest. got (Array (bits 15 0 w) (content_of size)) rest)
         (struct_of (several (bits 15 0 w) (read_member types) (drop (at + 1) ws)))))
@@ -109,9 +106,6 @@ module _ (types : List TypeInner) (ws : List ℕ) (n at w : ℕ) (l : length typ
 
           pub array_malformed : (m ≡ 6 → ⊥) → N.nowhere ≡ type_reached types (read_type types (drop at ws))
           array_malformed q = rw (type_headed, ← k, z, one_fault (of_word 6) ws (at + 1) v (eqb m 6) g word_now (ne_eqb m 6 q))
-
-          pub array_within : m ≡ 6 → at + 2 ≤ length ws
-          array_within q = omega (arith, one_in (of_word 6) ws (at + 1) v (eqb m 6) g word_now (eq-eqb m 6 q) refl)
 
           pub array_well_formed : (notes : List TypeNote) (t r : Note) → Noted types ws notes → m ≡ 6 → t ≡ note_at notes (w % 2 ^ 16) → r ≡ note t.depth 1 1
               → upto (drop (at + 2) ws) r ≡ type_reached types (read_type types (drop at ws))
