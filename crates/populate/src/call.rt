@@ -1,5 +1,6 @@
 // The varyings of an asked type with its binding: 90, 91, 92, 4, or their number, and their words.
 ghost use Rattle.std.specs.Prelude.{◌≡◌, ◌+◌, ◌<◌, ◌≤◌, length};
+ghost use Rattle.word.specs.Refusals.{answer_with};
 ghost use Rattle.type_lists.specs.Format.{read_binding};
 ghost use Rattle.type_lists.specs.Rules.{populate};
 ghost use Rattle.type_check.specs.Inner.Positions.{binding_of, earlier_of};
@@ -15,8 +16,7 @@ use type_check::given::given_note;
 use type_check::index::index_types;
 use type_check::notes::TypeNote;
 use type_check::types::Types;
-use word::answer::Answer;
-use word::numbers;
+use word::refusal::{Number, Refusal};
 
 // Writes the varyings of the asked type.
 fn put_varyings(types: &Types<'_>, asked: usize, binding: Binding, out: &mut [u32])
@@ -29,50 +29,50 @@ fn put_varyings(types: &Types<'_>, asked: usize, binding: Binding, out: &mut [u3
 }
 
 // The answer on the asked type with a binding that is well formed.
-fn populate_asked(types: &Types<'_>, asked: usize, binding: Binding, out: &mut [u32]) -> Answer
+fn populate_asked(types: &Types<'_>, asked: usize, binding: Binding, out: &mut [u32]) -> Result<u32, Refusal>
     requires { asked < types.now.count }
-    ensures { (result, out.new) ≡ populated (earlier_of types.now.words.now types.now.count) asked (binding_of binding.first binding.second) out.old }
+    ensures { (answer_with result, out.new) ≡ populated (earlier_of types.now.words.now types.now.count) asked (binding_of binding.first binding.second) out.old }
 {
     let note = given_note(types, asked, binding.first);
     if 8 < note.depth {
-        return Answer::refused(numbers::NESTED_TOO_DEEP);
+        return Err(Refusal::plain(Number::NestedTooDeep));
     }
     if 63 < note.count {
-        return Answer::refused(numbers::TOO_MANY_VARYINGS);
+        return Err(Refusal::plain(Number::TooManyVaryings));
     }
     if out.len() < usize::from(note.words) {
-        return Answer::refused(numbers::SHORT_OUT);
+        return Err(Refusal::plain(Number::ShortOut));
     }
     put_varyings(types, asked, binding, out);
-    Answer::new(0, u32::from(note.count), 0, 0)
+    Ok(u32::from(note.count))
 }
 
 // The answer on the asked type with its binding, which is one whole binding and may stand on the type.
-fn populate_bound(types: &Types<'_>, asked: usize, words: &[u32], out: &mut [u32]) -> Answer
+fn populate_bound(types: &Types<'_>, asked: usize, words: &[u32], out: &mut [u32]) -> Result<u32, Refusal>
     requires { asked < types.now.count }
-    ensures { (result, out.new) ≡ bound_on (earlier_of types.now.words.now types.now.count) asked (read_binding words.now) out.old }
+    ensures { (answer_with result, out.new) ≡ bound_on (earlier_of types.now.words.now types.now.count) asked (read_binding words.now) out.old }
 {
     if binding_next(words, 0) != Some(words.len()) {
-        return Answer::refused(numbers::BAD_TYPES);
+        return Err(Refusal::plain(Number::BadTypes));
     }
     let binding = Binding::at(words, 0);
     if !binding_good(types, asked, binding.first) {
-        return Answer::refused(numbers::BAD_TYPES);
+        return Err(Refusal::plain(Number::BadTypes));
     }
     populate_asked(types, asked, binding, out)
 }
 
 // The varyings of a type of a list with its binding, written one behind the other; their count is the first detail.
-pub fn populate_types(types: &[u32], asked: u32, binding: &[u32], out: &mut [u32]) -> Answer
-    ensures { (result, out.new) ≡ populate_call types.now asked binding.now out.old }
+pub fn populate_types(types: &[u32], asked: u32, binding: &[u32], out: &mut [u32]) -> Result<u32, Refusal>
+    ensures { (answer_with result, out.new) ≡ populate_call types.now asked binding.now out.old }
 {
     let mut notes = [TypeNote::NONE; 256];
     if !index_types(types, &mut notes) {
-        return Answer::refused(numbers::BAD_TYPES);
+        return Err(Refusal::plain(Number::BadTypes));
     }
     let count = word::content(word::word(types, 0));
     if count <= asked {
-        return Answer::refused(numbers::BAD_TYPES);
+        return Err(Refusal::plain(Number::BadTypes));
     }
     let declared = Types {
         words: types,
