@@ -1,5 +1,5 @@
 -- The binding type that a resource derives: words can hold it.
-use Rattle.std.proofs.Common.{◌≡◌, ℕ, ◌<◌, Bool, true, false, not, ◌&&◌, eqb, ltb, refl, arith, ltb-true, lt-ltb}
+use Rattle.std.proofs.Common.{◌≡◌, ℕ, ◌<◌, Bool, true, false, not, ◌&&◌, eqb, ltb, refl, arith, ltb-true, lt-ltb, Result, Ok, Err}
 use Rattle.word.specs.Choice.{yes}
 use Rattle.bindings.specs.Rules.{storable, same_bool}
 use Rattle.bindings.specs.Rules.{derived_texture, derive_binding_type}
@@ -9,8 +9,7 @@ use Rattle.bindings.specs.declared.types.ImageClass.TheVariants as Class
 use Rattle.bindings.specs.declared.types.ResourceType.{ResourceType}
 use Rattle.bindings.specs.declared.types.ResourceType.TheVariants as Res
 use Rattle.bindings.specs.declared.types.BindingType.{BindingType}
-use Rattle.bindings.specs.declared.types.Derived.{Derived}
-use Rattle.bindings.specs.declared.types.Derived.TheVariants as Der
+use Rattle.bindings.specs.declared.types.BindingError.{BindingError}
 use Rattle.word.proofs.Truth.{first, second}
 
 -- ---- ranges
@@ -18,9 +17,9 @@ use Rattle.word.proofs.Truth.{first, second}
 storable_encodable : (format : ℕ) → storable format ≡ true → ltb format 77 ≡ true
 storable_encodable format h = let l : format < 43 = search (ltb-true, first) in lt-ltb format 77 (omega arith)
 
-abbrev encodable_type : Derived → Bool
-encodable_type (Der.Binding ty) = format_encodable ty
-encodable_type Der.WrongBufferAddressSpace = true
+abbrev encodable_type : Result BindingType BindingError → Bool
+encodable_type (Ok ty) = format_encodable ty
+encodable_type (Err e) = true
 
 encodable_type_lem : (r : ResourceType) (named : Bool) → type_encodable r ≡ true → encodable_type (derive_binding_type r named) ≡ true
 unfolding type_encodable derive_binding_type derived_texture
@@ -37,7 +36,7 @@ encodable_type_lem (Res.Texture dim arrayed Class.External) named h = refl
 encodable_type_lem (Res.AccelerationStructure returns) named h = refl
 
 -- a derived type of an encodable resource type can be encoded
-pub derived_encodable : (r : ResourceType) (named : Bool) (ty : BindingType) → type_encodable r ≡ true → derive_binding_type r named ≡ Der.Binding ty → format_encodable ty ≡ true
+pub derived_encodable : (r : ResourceType) (named : Bool) (ty : BindingType) → type_encodable r ≡ true → derive_binding_type r named ≡ Ok ty → format_encodable ty ≡ true
 derived_encodable r named ty h d = rw d at (encodable_type_lem r named h)
 
 -- a truth value is the same as itself
