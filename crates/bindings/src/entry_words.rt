@@ -75,10 +75,13 @@ fn fields_well_formed(code: u32, w: u32) -> bool
     match code {
         0 => w / 8 % 0x10_0000 == 0 && (w / 2 % 2 == 0 || w % 2 == 1),
         1 => w % 0x80_0000 < 3,
-        2 => w / 128 % 0x1_0000 == 0 && (w % 8 < 6 && w / 16 % 8 < 5),
+        2 => w / 128 % 0x1_0000 == 0 && w % 8 < 6 && w / 16 % 8 < 5,
         4 => {
             w / 0x4_0000 % 32 == 0
-                && (w / 0x8000 % 2 == 0 && (w / 8 % 32 == 0 && (w % 8 < 6 && w / 256 % 128 < 77)))
+                && w / 0x8000 % 2 == 0
+                && w / 8 % 32 == 0
+                && w % 8 < 6
+                && w / 256 % 128 < 77
         }
         5 => w % 0x80_0000 == 0,
         6 => w / 2 % 0x40_0000 == 0,
@@ -128,8 +131,8 @@ fn least_well_formed(w: u32, least: u32, visibility: u32) -> bool
     ensures { result ≡ (kind_of least == 6 && ((is_buffer_word w || content_of least == 0) && (kind_of visibility == 19 && nat_lt (content_of visibility) 32))) }
 {
     least / 0x800_0000 == 6
-        && ((w / 0x80_0000 % 16 == 0 || least % 0x800_0000 == 0)
-            && visibility_well_formed(visibility))
+        && (w / 0x80_0000 % 16 == 0 || least % 0x800_0000 == 0)
+        && visibility_well_formed(visibility)
 }
 
 // Whether a word tells a binding type: its kind and its code stand side by side, and are tested as one.
@@ -144,7 +147,7 @@ fn type_well_formed(w: u32) -> bool
 pub fn words_well_formed(place: u32, w: u32, least: u32, visibility: u32) -> bool
     ensures { result ≡ entry_well_formed place w least visibility }
 {
-    place / 0x800_0000 == 4 && (type_well_formed(w) && least_well_formed(w, least, visibility))
+    place / 0x800_0000 == 4 && type_well_formed(w) && least_well_formed(w, least, visibility)
 }
 
 // The entry that four words mean.

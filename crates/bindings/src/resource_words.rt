@@ -66,14 +66,14 @@ fn space_at(code: u32, access: u32) -> AddressSpace
 fn buffer_well_formed(w: u32) -> bool
     ensures { result ≡ buffer_well_formed w }
 {
-    w / 32 % 0x4_0000 == 0 && (w / 8 % 4 < 3 && (w / 8 % 4 == 1 || w % 8 == 0))
+    w / 32 % 0x4_0000 == 0 && w / 8 % 4 < 3 && (w / 8 % 4 == 1 || w % 8 == 0)
 }
 
 // Whether textures of a format can be stored to.
 pub fn storable(format: u32) -> bool
     ensures { result ≡ storable format }
 {
-    format < 43 && (format != 28 && format != 31)
+    format < 43 && format != 28 && format != 31
 }
 
 // A shader's format is storable, and its access is not 0.
@@ -81,8 +81,10 @@ fn storage_well_formed(w: u32) -> bool
     ensures { result ≡ storage_well_formed w }
 {
     w / 0x8_0000 % 16 == 0
-        && (w / 0x8000 % 2 == 0
-            && (w / 8 % 32 == 0 && (storable(w / 256 % 128) && w / 0x1_0000 % 8 != 0)))
+        && w / 0x8000 % 2 == 0
+        && w / 8 % 32 == 0
+        && storable(w / 256 % 128)
+        && w / 0x1_0000 % 8 != 0
 }
 
 // Whether a word's type is known and its unnamed bits are zero.
