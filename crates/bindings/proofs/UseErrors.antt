@@ -1,5 +1,5 @@
 -- What an entry refuses a resource for: never that none can be derived for its address space.
-use Rattle.std.proofs.Common.{◌≡◌, ℕ, Bool, true, false, refl, Result, Ok, Err, eqb, ltb}
+use Rattle.std.proofs.Common.{◌≡◌, Bool, true, false, refl, Result, Ok, Err, eqb, ltb}
 use Rattle.word.specs.Choice.{pick}
 use Rattle.bindings.specs.Rules.{same_bool, storable, space_of, same_space, buffer_use, comparing, sampler_use, class_of, view_fits, sampled_fits, storage_fits, access_of, is_external, class_use, texture_use, acceleration_use, check_binding_use}
 use Rattle.bindings.specs.declared.types.ResourceType.{ResourceType}

@@ -163,7 +163,9 @@ module _ (stage : ShaderStage) (named : Bool) (r : Resource) (L : Layout) (g : l
   derived_step_lem : resource_encodable r ≡ true → ltb r.bind.group L.groups ≡ true → (d : Result BindingType BindingError) → derive_binding_type r.ty named ≡ d
       → Stepped stage named r L (derived_step stage r.bind d L)
   derived_step_lem h l (Ok ty) e = place_step_lem ty e h l (find_entry r.bind L) refl
-  derived_step_lem h l (Err error) e = refuses (binding_answer (error_number error) r.bind) (rw (ne_eqb (error_number error) 0 (error_some error)))
+  derived_step_lem h l (Err error) e =
+      let n : eqb (error_number error) 0 ≡ false = ne_eqb (error_number error) 0 (error_some error) in
+      refuses (binding_answer (error_number error) r.bind) (rw n n)
 
   pub derive_step_lem : resource_encodable r ≡ true → Stepped stage named r L (derive_step stage named r L)
   unfolding derive_step
