@@ -1,5 +1,5 @@
 -- The ways of resources through a layout that is being derived.
-use Rattle.std.proofs.Common.{Option, Some, None}
+use Rattle.std.proofs.Common.{Option, Some, None, Result, Ok, Err}
 use Prim.Native.Nat.{ℕ, ◌+◌, ◌-◌, ◌^◌, ◌<◌, ◌≤◌}
 use native.Mathlib.Omega.{arith}
 use mathlib.Core.Path.{◌≡◌, refl, sym, ap, ◌∙◌}
@@ -12,7 +12,7 @@ use Rattle.word.specs.Choice.{pick}
 use Rattle.word.specs.Words.{word_at, content_of, bits, of_kind}
 use Rattle.word.specs.Answers.{accepted}
 use Rattle.word.specs.declared.answer.Answer.{Answer}
-use Rattle.bindings.specs.Rules.{same_binding, derived_texture, derive_binding_type}
+use Rattle.bindings.specs.Rules.{error_number, same_binding, derived_texture, derive_binding_type}
 use Rattle.bindings.specs.Format.{place_of, place_word, type_code, is_buffer_word, resource_type_of, resource, type_encodable}
 use Rattle.bindings.specs.Format.{binding_type_of, binding_code, least_size_of, format_encodable, parts_well_formed, entry_of_parts, entry_encodable, size_limit, size_standing}
 use Rattle.bindings.specs.Answers.{binding_answer, derived_word}
@@ -20,8 +20,7 @@ use Rattle.bindings.specs.declared.types.ResourceBinding.{ResourceBinding}
 use Rattle.bindings.specs.declared.types.Resource.{Resource}
 use Rattle.bindings.specs.declared.types.BindingType.{BindingType}
 use Rattle.bindings.specs.declared.types.BindGroupLayoutEntry.{BindGroupLayoutEntry}
-use Rattle.bindings.specs.declared.types.Derived.{Derived}
-use Rattle.bindings.specs.declared.types.Derived.TheVariants as Der
+use Rattle.bindings.specs.declared.types.BindingError.{BindingError}
 use Rattle.word.proofs.Truth.{by_test}
 use Rattle.bindings.proofs.CodeLaws.{least_fits}
 use Rattle.bindings.proofs.ReadLaws.{place_encodable_lem}
@@ -123,25 +122,25 @@ found_none place L f q e = sym q ∙ e
 -- ---- one resource
 
 -- a derivation by its word
-none_derived : (d : Derived) (x : ℕ) → derived_word d ≡ x → x ≤ 0 → d ≡ Der.WrongBufferAddressSpace
-none_derived (Der.Binding b) x e z = absurd (omega arith)
-none_derived Der.WrongBufferAddressSpace x e z = refl
+none_derived : (d : Result BindingType BindingError) (error : BindingError) → derived_word d ≡ Err error → d ≡ Err error
+none_derived (Ok b) error e = cc
+none_derived (Err f) error e = let z : f ≡ error = cc in rw z
 
-some_derived : {P : Type 0} (d : Derived) (x : ℕ) → derived_word d ≡ x → 0 < x → ((b : BindingType) → d ≡ Der.Binding b → x ≡ of_kind 18 (binding_code b) → P) → P
-some_derived (Der.Binding b) x e n k = k b refl (sym e)
-some_derived Der.WrongBufferAddressSpace x e n k = absurd (omega arith)
+some_derived : {P : Type 0} (d : Result BindingType BindingError) (x : ℕ) → derived_word d ≡ Ok x → ((b : BindingType) → d ≡ Ok b → x ≡ of_kind 18 (binding_code b) → P) → P
+some_derived (Ok b) x e k = let z : of_kind 18 (binding_code b) ≡ x = cc in k b refl (sym z)
+some_derived (Err f) x e k = absurd (cc)
 
 pub within_groups : (L : Layout) (place g : ℕ) → g ≡ L.groups → bits 26 23 place < g → (place_of place).group < L.groups
 within_groups L place g q n = rw q at n
 
 module _ (named : Bool) (w size ty least : ℕ) (h : type_encodable (resource_type_of w size) ≡ true)
-    (e : (n : ℕ) → derived_word (derive_binding_type (resource_type_of w n) named) ≡ ty) (z : 0 < ty) (s : least ≡ pick (is_buffer_word w) size 0) where
-  abbrev d : Derived
+    (e : (n : ℕ) → derived_word (derive_binding_type (resource_type_of w n) named) ≡ Ok ty) (s : least ≡ pick (is_buffer_word w) size 0) where
+  abbrev d : Result BindingType BindingError
   d = derive_binding_type (resource_type_of w size) named
 
-  typed : {P : Type 0} → ((b : BindingType) → d ≡ Der.Binding b → TypeWords ty least b → binding_type_of ty least ≡ b → P) → P
+  typed : {P : Type 0} → ((b : BindingType) → d ≡ Ok b → TypeWords ty least b → binding_type_of ty least ≡ b → P) → P
   typed k =
-      some_derived d ty (e size) z λ b q x.
+      some_derived d ty (e size) λ b q x.
       let f : format_encodable b ≡ true = derived_encodable (resource_type_of w size) named b h q in
       let y : least ≡ least_size_of b = rw (derived_least w size named b q) s in
       k b q (record { encodable = f; type_word = x; least_size = y }) (rw (y, x) (type_read b f))
@@ -162,13 +161,14 @@ module _ (stage : ShaderStage) (named : Bool) (place w size : ℕ) (L : Layout) 
   unfolding derive_step
   derive_outside n h = rw (le-ltb (place_of place).group L.groups (omega arith), h)
 
-  pub derive_wrong : (ty : ℕ) → bits 26 23 place < g → ((n : ℕ) → derived_word (derive_binding_type (resource_type_of w n) named) ≡ ty) → ty ≤ 0
-      → a ≡ binding_answer 24 (place_of place) → layout_after a L ≡ derive_step stage named (resource place w size) L
+  pub derive_wrong : (error : BindingError) (n : ℕ) → bits 26 23 place < g → ((n : ℕ) → derived_word (derive_binding_type (resource_type_of w n) named) ≡ Err error)
+      → n ≡ error_number error → a ≡ binding_answer n (place_of place) → layout_after a L ≡ derive_step stage named (resource place w size) L
   unfolding derive_step
-  derive_wrong ty n e z h =
+  derive_wrong error n l e z h =
       rw (
-        lt-ltb (place_of place).group L.groups (within_groups L place g q n),
-        none_derived (derive_binding_type (resource_type_of w size) named) ty (e size) z,
+        lt-ltb (place_of place).group L.groups (within_groups L place g q l),
+        none_derived (derive_binding_type (resource_type_of w size) named) error (e size),
+        ← z,
         h,
       )
 

@@ -1,5 +1,5 @@
 -- The ways of resources through a provided layout.
-use Rattle.std.proofs.Common.{Option, Some, None}
+use Rattle.std.proofs.Common.{Option, Some, None, Result, Ok, Err}
 use Prim.Native.Nat.{ℕ, ◌+◌, ◌-◌, ◌^◌, ◌<◌, ◌≤◌}
 use native.Mathlib.Omega.{arith}
 use mathlib.Core.Path.{◌≡◌, refl, sym, ap, ◌∙◌}
@@ -11,9 +11,10 @@ use borrow.Author.Tests.{eq-eqb, ne_eqb, eqb-false, ltb-true, not-true, not-fals
 use Rattle.word.specs.Words.{word_at, kind_of, content_of, bits}
 use Rattle.word.specs.Answers.{accepted}
 use Rattle.word.specs.declared.answer.Answer.{Answer}
-use Rattle.bindings.specs.Rules.{check_binding_use, use_number}
+use Rattle.bindings.specs.Rules.{check_binding_use, error_number, use_number}
 use Rattle.bindings.specs.Format.{place_well_formed, place_of, type_code, is_buffer_word, space_at, resource_type_of, type_encodable, space_encodable, binding_type_of}
 use Rattle.bindings.specs.Answers.{binding_answer}
+use Rattle.bindings.specs.declared.types.BindingError.{BindingError}
 use Rattle.bindings.specs.declared.types.ResourceBinding.{ResourceBinding}
 use Rattle.bindings.specs.declared.types.Resource.{Resource}
 use Rattle.bindings.specs.declared.types.ResourceType.{ResourceType}
@@ -37,11 +38,18 @@ module _ (stage : ShaderStage) (ty : ResourceType) (e : BindGroupLayoutEntry) (c
   pub entry_unseen : not b ≡ true → 21 ≡ entry_use stage ty e
   entry_unseen n = rw (← s, ← p, ← q, not-true b n)
 
-  pub entry_seen : (t least u : ℕ) → not b ≡ false → least ≡ least_size_of e.ty → binding_type_of t (least_size_of e.ty) ≡ e.ty
-      → u ≡ use_number (check_binding_use ty (binding_type_of t least)) → u ≡ entry_use stage ty e
-  entry_seen t least u n g m k =
-      let z : binding_type_of t least ≡ e.ty = ap (binding_type_of t) g ∙ m in
-      rw (← s, ← p, ← q, not-false b n, ← z) k
+  module _ (t least : ℕ) (x : Result Unit BindingError) (n : not b ≡ false) (g : least ≡ least_size_of e.ty) (m : binding_type_of t (least_size_of e.ty) ≡ e.ty)
+      (k : x ≡ check_binding_use ty (binding_type_of t least)) where
+    entry_judged : use_number x ≡ entry_use stage ty e
+    entry_judged =
+        let z : binding_type_of t least ≡ e.ty = ap (binding_type_of t) g ∙ m in
+        rw (← s, ← p, ← q, not-false b n, ← z, k)
+
+    pub entry_served : x ≡ Ok tt → 0 ≡ entry_use stage ty e
+    entry_served o = rw o at entry_judged
+
+    pub entry_refused : (error : BindingError) (u : ℕ) → x ≡ Err error → u ≡ error_number error → u ≡ entry_use stage ty e
+    entry_refused error u o h = h ∙ rw o at entry_judged
 
 module _ (stage : ShaderStage) (L : Layout) (r : Resource) (f : Option ℕ) (a : Answer) (q : f ≡ find_entry r.bind L) where
   pub provided_none : f ≡ None → a ≡ binding_answer 20 r.bind → a ≡ provided_use stage L r

@@ -108,11 +108,10 @@ fn derive_step(
     if group_count(layout) <= place / 0x80_0000 % 16 {
         return place_answer(numbers::MISSING, place);
     }
-    let ty = derived_word(w, named);
-    if 0 < ty {
-        return place_step(stage, place, ty, derived_least(w, size), layout);
+    match derived_word(w, named) {
+        Ok(ty) => place_step(stage, place, ty, derived_least(w, size), layout),
+        Err(error) => place_answer(error.number(), place),
     }
-    place_answer(numbers::WRONG_BUFFER_ADDRESS_SPACE, place)
 }
 
 // Whether some pair names an index as its texture.

@@ -48,7 +48,10 @@ fn entry_use(stage: ShaderStage, w: u32, size: u64, layout: &[u32], index: usize
         return numbers::INVISIBLE;
     }
     let ty = entry_type(layout, index);
-    words_use(w, size, ty, entry_least(layout, index))
+    match words_use(w, size, ty, entry_least(layout, index)) {
+        Ok(()) => 0,
+        Err(error) => error.number(),
+    }
 }
 
 // Whether a provided layout serves a resource: its entry is tried at a position first, and noted where it stands; 20 where there is none.
