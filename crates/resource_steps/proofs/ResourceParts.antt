@@ -61,7 +61,7 @@ listed_encodable (r ∷ rs) zero h = first_passes (resource_encodable r) (each_e
 listed_encodable (r ∷ rs) (suc i) h = listed_encodable rs i (rest_passes (resource_encodable r) (each_encodable rs) h)
 
 module _ (ws offsets : List ℕ) (i : ℕ) (h : i < length (resource_table ws offsets)) where
-  counted : (i < resource_count ws) × (i < length (take (resource_count ws) offsets))
+  pub counted : (i < resource_count ws) × (i < length (take (resource_count ws) offsets))
   unfolding resource_table
   counted =
       let l = table_length ws (take (resource_count ws) offsets) in

@@ -12,6 +12,15 @@ pub struct Stopped {
     pub passed: usize,
 }
 
+// The refusal alone.
+impl From<Stopped> for Refusal {
+    ghost from_gives = { λ s r. r ≡ s.refusal };
+
+    fn from(stopped: Stopped) -> Self {
+        stopped.refusal
+    }
+}
+
 // A resource by its words: its place, its type, and its size.
 #[derive(Clone, Copy)]
 pub(crate) struct ResourceWords {

@@ -1,5 +1,6 @@
 // The steps behind the resources: they alter no list.
-ghost use Rattle.std.specs.Prelude.{◌≡◌, true, false, ◌+◌};
+ghost use Rattle.std.specs.Prelude.{◌≡◌, true, false, ◌+◌, length};
+ghost use Rattle.word.specs.Refusals.{answer_of};
 ghost use Rattle.layouts.specs.Format.{layout_well_formed, decode_layout};
 ghost use Rattle.stage_lists.specs.Format.{out_well_formed, decode_stage};
 ghost use Rattle.interface.specs.Format.{decode, decoded_number, interface_of};
@@ -8,21 +9,23 @@ ghost use Rattle.interface.specs.Inner.Parts.{Placed};
 ghost use Rattle.output_steps.specs.Inner.Given.{Summed};
 ghost use Rattle.input_steps.specs.Workgroup.{workgroup_step};
 ghost use Rattle.input_steps.specs.Inputs.{walked, start_walk};
-ghost use Rattle.stage.specs.Inner.Given.{Given};
+ghost use Rattle.resource_steps.specs.Inner.Given.{pairs_below};
 ghost use Rattle.stage.specs.Inner.Judging.{judged_inputs, judged};
 ghost use Rattle.stage.specs.Stage.{pair_step, behind_inputs};
 
 use input_steps::inputs::input_steps;
 use input_steps::types::{InputWalk, Walked};
 use input_steps::workgroup::workgroup_step;
-use interface::parts::{inputs_counted, pairs_counted};
+use interface::parts::inputs_counted;
 use interface::reads::{limits, topology_at};
 use interface::types::{EntryParts, EntryPointMeshInfo, ShaderStage, WorkgroupSize};
 use last_steps::last::last_step;
 use output_steps::outputs::slots_step;
 use output_steps::types::{Request, Summary};
 use resource_steps::pairs::pair_uses;
+use resource_steps::table::ResourceTable;
 use word::answer::Answer;
+use word::refusal::Refusal;
 use word::{content, word};
 
 // The mesh record of an entry point.
@@ -118,22 +121,20 @@ fn judge_inputs(
 pub(crate) fn pair_step(
     pack: &[u32],
     parts: EntryParts,
-    offsets: &[u16],
+    resources: &ResourceTable,
     entries: &[u8; 128],
     layout: &[u32],
     derived: bool,
-) -> Answer
+) -> Result<(), Refusal>
     requires placed { Placed pack.now parts × (layout_well_formed layout.now ≡ true) }
-    requires given { Given pack.now offsets.now (interface_of (decode pack.now)) (standing pack.now parts) }
-    ensures { result ≡ pair_step derived (interface_of (decode pack.now)).resources
-        (standing pack.now parts) (decode_layout layout.now) }
+    requires pairs_below { pairs_below (length resources.now) (standing pack.now parts).pairs ≡ true }
+    ensures { answer_of result ≡ pair_step derived resources.now (standing pack.now parts) (decode_layout layout.now) }
 {
     if derived {
-        return Answer::accepted();
+        return Ok(());
     }
-    let counts = parts.counts;
-    let n = pairs_counted(pack[counts]);
-    pair_uses(layout, pack, offsets, entries, parts.pairs, n)
+    let pairs = &pack[parts.pairs..parts.inputs];
+    pair_uses(layout, resources, entries, pairs)
 }
 
 // The workgroup size of an entry point against the limits of its stage.
