@@ -7,20 +7,19 @@ use mathlib.Core.List.{List, [], ◌∷◌}
 use lib.Dec.{eqb}
 use lib.ListN.{length, drop, length-drop}
 use borrow.Author.Tests.{eq-eqb, ne_eqb, not-true, not-false}
+use Rattle.std.proofs.Common.{Result, Ok, Err}
 use Rattle.word.specs.Choice.{pick}
 use Rattle.word.specs.Words.{of_kind}
 use Rattle.word.specs.Parse.{Parsed, fault, got, nowhere, from, behind, rest_at}
-use Rattle.word.specs.Answers.{answer, refused}
+use Rattle.word.specs.Answers.{answer, accepted, refused}
 use Rattle.word.specs.declared.answer.Answer.{Answer}
-use Rattle.bindings.specs.Rules.{check_binding_use, use_number, derive_binding_type}
-use Rattle.bindings.specs.Format.{read_resource, resource_at, place_encodable, type_encodable, resource_encodable, format_encodable, entry_well_formed_at, entry_at, binding_code, least_size_of}
+use Rattle.bindings.specs.Rules.{check_binding_use, use_number, error_number, derive_binding_type}
+use Rattle.bindings.specs.Format.{read_resource, resource_at, place_encodable, type_encodable, resource_encodable, format_encodable, entry_at, binding_code, least_size_of}
 use Rattle.bindings.specs.Answers.{binding_answer, only_resource, only_entry, check_words, derived_answer, derive_words}
 use Rattle.bindings.specs.declared.types.Resource.{Resource}
 use Rattle.bindings.specs.declared.types.BindingType.{BindingType}
 use Rattle.bindings.specs.declared.types.BindGroupLayoutEntry.{BindGroupLayoutEntry}
-use Rattle.bindings.specs.declared.types.BindingUse.{BindingUse}
-use Rattle.bindings.specs.declared.types.Derived.{Derived}
-use Rattle.bindings.specs.declared.types.Derived.TheVariants as Der
+use Rattle.bindings.specs.declared.types.BindingError.{BindingError}
 use Rattle.word.proofs.Truth.{second, never}
 use Rattle.bindings.proofs.ReadLaws.{read_at, read_encodable}
 use Rattle.bindings.proofs.DerivedTypes.{derived_encodable}
@@ -72,23 +71,6 @@ alone_encodable ws n b e h t = encodable_read ws n (read_resource ws) refl e h
 pub none_encodable : (ws : List ℕ) → false ≡ true → resource_encodable (resource_at ws 0) ≡ true
 none_encodable ws t = never false t refl
 
--- an entry alone is four words
-pub entry_other : (ws : List ℕ) → (length ws ≡ 4 → ⊥) → EntryAlone ws false
-entry_other [] n k = refl
-entry_other (a ∷ []) n k = refl
-entry_other (a ∷ b ∷ []) n k = refl
-entry_other (a ∷ b ∷ c ∷ []) n k = refl
-entry_other (a ∷ b ∷ c ∷ d ∷ []) n k = absurd (n refl)
-entry_other (a ∷ b ∷ c ∷ d ∷ w ∷ ws) n k = refl
-
-pub entry_four : (ws : List ℕ) (b : Bool) → b ≡ entry_well_formed_at ws 0 → length ws ≡ 4 → EntryAlone ws b
-entry_four [] b e n k = absurd (omega arith)
-entry_four (x ∷ []) b e n k = absurd (omega arith)
-entry_four (x ∷ y ∷ []) b e n k = absurd (omega arith)
-entry_four (x ∷ y ∷ z ∷ []) b e n k = absurd (omega arith)
-entry_four (x ∷ y ∷ z ∷ v ∷ []) b e n k = rw e
-entry_four (x ∷ y ∷ z ∷ v ∷ w ∷ ws) b e n k = absurd (omega arith)
-
 -- ---- the answers
 
 abbrev checked : Resource → BindGroupLayoutEntry → Answer
@@ -107,35 +89,40 @@ module _ (ws es : List ℕ) (b : Bool) (alone : Alone ws b) where
     unfolding check_words
     check_no_entry x n h = h ∙ sym (alone _ ∙ rw (not-false b m) (other _ ∙ rw (not-true c n)))
 
-    pub check_found : (r : Resource) (e : BindGroupLayoutEntry) (u : BindingUse) (n : ℕ) (x : Answer) → not c ≡ false → r ≡ resource_at ws 0 → e ≡ entry_at es 0
-        → u ≡ check_binding_use r.ty e.ty → n ≡ use_number u → x ≡ binding_answer n r.bind → x ≡ check_words ws es
-    unfolding check_words
-    check_found r e u n x l p q v w h =
-        let k : x ≡ checked r e = rw (← v, ← w) h in
-        k ∙ ap (λ r. checked r e) p ∙ ap (checked (resource_at ws 0)) q ∙ sym (alone _ ∙ rw (not-false b m) (other _ ∙ rw (not-false c l)))
+    module _ (r : Resource) (e : BindGroupLayoutEntry) (l : not c ≡ false) (p : r ≡ resource_at ws 0) (q : e ≡ entry_at es 0) where
+      found : (x : Answer) → x ≡ checked r e → x ≡ check_words ws es
+      unfolding check_words
+      found x k = k ∙ ap (λ r. checked r e) p ∙ ap (checked (resource_at ws 0)) q ∙ sym (alone _ ∙ rw (not-false b m) (other _ ∙ rw (not-false c l)))
+
+      pub check_served : (u : Result Unit BindingError) (x : Answer) → u ≡ check_binding_use r.ty e.ty → u ≡ Ok tt → x ≡ accepted → x ≡ check_words ws es
+      check_served u x v w h = found x (rw (← v, w) h)
+
+      pub check_refused : (u : Result Unit BindingError) (error : BindingError) (n : ℕ) (x : Answer) → u ≡ check_binding_use r.ty e.ty → u ≡ Err error
+          → n ≡ error_number error → x ≡ binding_answer n r.bind → x ≡ check_words ws es
+      check_refused u error n x v w z h = found x (rw (← v, w, ← z) h)
 
 module _ (ws : List ℕ) (named b : Bool) (alone : Alone ws b) where
   pub derive_no_resource : (x : Answer) → not b ≡ true → x ≡ refused 2 → x ≡ derive_words ws named
   unfolding derive_words
   derive_no_resource x n h = h ∙ sym (alone _ ∙ rw (not-true b n))
 
-  module _ (r : Resource) (d : Derived) (m : not b ≡ false) (p : r ≡ resource_at ws 0) (q : d ≡ derive_binding_type r.ty named) where
-    pub derive_found : (ty : BindingType) (y z : ℕ) (x : Answer) → d ≡ Der.Binding ty → y ≡ of_kind 18 (binding_code ty) → z ≡ of_kind 6 (least_size_of ty)
+  module _ (r : Resource) (d : Result BindingType BindingError) (m : not b ≡ false) (p : r ≡ resource_at ws 0) (q : d ≡ derive_binding_type r.ty named) where
+    pub derive_found : (ty : BindingType) (y z : ℕ) (x : Answer) → d ≡ Ok ty → y ≡ of_kind 18 (binding_code ty) → z ≡ of_kind 6 (least_size_of ty)
         → x ≡ answer 0 y z 0 → x ≡ derive_words ws named
     unfolding derive_words
     derive_found ty y z x e v w h =
         let k : x ≡ derived named r = rw (← q, e, ← v, ← w) h in
         k ∙ ap (derived named) p ∙ sym (alone _ ∙ rw (not-false b m))
 
-    pub derive_none : (x : Answer) → d ≡ Der.WrongBufferAddressSpace → x ≡ binding_answer 24 r.bind → x ≡ derive_words ws named
+    pub derive_none : (error : BindingError) (n : ℕ) (x : Answer) → d ≡ Err error → n ≡ error_number error → x ≡ binding_answer n r.bind → x ≡ derive_words ws named
     unfolding derive_words
-    derive_none x e h =
-        let k : x ≡ derived named r = rw (← q, e) h in
+    derive_none error n x e z h =
+        let k : x ≡ derived named r = rw (← q, e, ← z) h in
         k ∙ ap (derived named) p ∙ sym (alone _ ∙ rw (not-false b m))
 
 -- what is derived from a resource that was read can be written
-pub derive_encodable : (ws : List ℕ) (named b : Bool) (r : Resource) (d : Derived) (ty : BindingType) → not b ≡ false
-    → (b ≡ true → resource_encodable (resource_at ws 0) ≡ true) → r ≡ resource_at ws 0 → d ≡ derive_binding_type r.ty named → d ≡ Der.Binding ty → format_encodable ty ≡ true
+pub derive_encodable : (ws : List ℕ) (named b : Bool) (r : Resource) (d : Result BindingType BindingError) (ty : BindingType) → not b ≡ false
+    → (b ≡ true → resource_encodable (resource_at ws 0) ≡ true) → r ≡ resource_at ws 0 → d ≡ derive_binding_type r.ty named → d ≡ Ok ty → format_encodable ty ≡ true
 derive_encodable ws named b r d ty m encodable p q e =
     let h : resource_encodable r ≡ true = ap resource_encodable p ∙ encodable (not-false b m) in
     derived_encodable r.ty named ty (second (place_encodable r.bind) (type_encodable r.ty) h) (sym q ∙ e)

@@ -1,39 +1,17 @@
 -- The code's ways through the reader of resources.
-use Rattle.std.proofs.Common.{◌≡◌, ℕ, zero, suc, ◌+◌, ◌-◌, ◌<◌, ◌≤◌, Bool, true, false, not, ◌&&◌, eqb, ltb, List, [], ◌∷◌, length, drop, refl, ◌∙◌, add-one, arith, drop_of_length-le, drop-cons, ltb-false, ltb-true, eq-eqb, ne_eqb}
+use Rattle.std.proofs.Common.{◌≡◌, ℕ, zero, suc, ◌+◌, ◌-◌, ◌<◌, ◌≤◌, Bool, true, false, not, ltb, List, [], ◌∷◌, length, drop, refl, ◌∙◌, add-one, arith, drop_of_length-le, drop-cons, ltb-false, ltb-true}
 use native.Mathlib.Numerals.{add-two}
 use lib.ListN.{get_or-eq_default}
 use borrow.Author.Tests.{not-true, not-false}
-use Rattle.word.specs.Choice.{pick, yes}
-use Rattle.word.specs.Words.{word_at, content_of, bits, bit}
+use Rattle.word.specs.Choice.{pick}
+use Rattle.word.specs.Words.{word_at, content_of}
 use Rattle.word.specs.Parse.{Parsed, fault, got, next, one, nowhere, from, behind, rest_at}
-use Rattle.bindings.specs.Rules.{storable}
-use Rattle.bindings.specs.Format.{place_well_formed, place_of, type_code, space_at, sample_kind_at, storage_well_formed, resource_word_well_formed}
-use Rattle.bindings.specs.Format.{size_well_formed, bit_set, texture, resource_type_of, is_buffer_word, resource, read_resource, resource_at}
+use Rattle.bindings.specs.Format.{place_well_formed, place_of, resource_word_well_formed}
+use Rattle.bindings.specs.Format.{size_well_formed, resource_type_of, is_buffer_word, resource, read_resource, resource_at}
 use Rattle.bindings.specs.declared.types.ResourceBinding.{ResourceBinding}
-use Rattle.bindings.specs.declared.types.AddressSpace.{AddressSpace}
-use Rattle.bindings.specs.declared.types.SampleKind.{SampleKind}
-use Rattle.bindings.specs.declared.types.ImageClass.TheVariants as Class
 use Rattle.bindings.specs.declared.types.ResourceType.{ResourceType}
-use Rattle.bindings.specs.declared.types.ResourceType.TheVariants as Res
 use Rattle.bindings.specs.declared.types.Resource.{Resource}
 use Rattle.word.proofs.Truth.{by_test}
-
--- ---- types
-
-pub storage_bits : (w : ℕ) (x b : Bool) → b ≡ storable (bits 14 8 w)
-    → x ≡ (eqb (bits 22 19 w) 0 && (eqb (bit 15 w) 0 && (eqb (bits 7 3 w) 0 && (yes b && not (eqb (bits 18 16 w) 0))))) → x ≡ storage_well_formed w
-unfolding yes
-storage_bits w x b e h = rw (← e) h
-
-module _ (w size : ℕ) where
-  pub type_buffer : (space : AddressSpace) → type_code w ≡ 0 → space ≡ space_at (bits 4 3 w) (bits 2 0 w) → Res.Buffer size space ≡ resource_type_of w size
-  unfolding resource_type_of
-  type_buffer space z e = rw (eq-eqb (type_code w) 0 z, e)
-
-  pub type_sampled : (x : ResourceType) (kind : SampleKind) → (type_code w ≡ 0 → ⊥) → (type_code w ≡ 1 → ⊥) → type_code w ≡ 2 → kind ≡ sample_kind_at (bits 5 4 w)
-      → x ≡ texture w (Class.Sampled kind (bit_set 3 w)) → x ≡ resource_type_of w size
-  unfolding resource_type_of
-  type_sampled x kind m n z e h = rw (ne_eqb (type_code w) 0 m, ne_eqb (type_code w) 1 n, eq-eqb (type_code w) 2 z, ← e) h
 
 -- ---- the words of a resource at a position
 

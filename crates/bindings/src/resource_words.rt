@@ -21,9 +21,9 @@ fn place_well_formed(w: u32) -> bool
 
 // The place that a word means.
 pub fn place_of(w: u32) -> ResourceBinding
-    ensures value { result ≡ place_of w }
-    ensures group_bound { (result.group < 16) × (result.binding < 2 ^ 23) }
-    ensures result_value { place_encodable result ≡ true }
+    ensures meaning { result ≡ place_of w }
+    ensures ranges { (result.group < 16) × (result.binding < 2 ^ 23) }
+    ensures encodable { place_encodable result ≡ true }
 {
     ResourceBinding {
         group: w / 0x80_0000 % 16,
@@ -34,105 +34,73 @@ pub fn place_of(w: u32) -> ResourceBinding
 fn dimension_at(code: u32) -> ImageDimension
     ensures { result ≡ dimension_at code }
 {
-    if code == 0 {
-        return ImageDimension::D1;
+    match code {
+        0 => ImageDimension::D1,
+        1 => ImageDimension::D2,
+        2 => ImageDimension::D3,
+        _ => ImageDimension::Cube,
     }
-    if code == 1 {
-        return ImageDimension::D2;
-    }
-    if code == 2 {
-        return ImageDimension::D3;
-    }
-    ImageDimension::Cube
 }
 
 fn sample_kind_at(code: u32) -> SampleKind
     ensures { result ≡ sample_kind_at code }
 {
-    if code == 0 {
-        return SampleKind::Float;
+    match code {
+        0 => SampleKind::Float,
+        1 => SampleKind::Sint,
+        _ => SampleKind::Uint,
     }
-    if code == 1 {
-        return SampleKind::Sint;
-    }
-    SampleKind::Uint
 }
 
 fn space_at(code: u32, access: u32) -> AddressSpace
     ensures { result ≡ space_at code access }
 {
-    if code == 0 {
-        return AddressSpace::Uniform;
+    match code {
+        0 => AddressSpace::Uniform,
+        1 => AddressSpace::Storage { access },
+        _ => AddressSpace::Other,
     }
-    if code == 1 {
-        return AddressSpace::Storage { access };
-    }
-    AddressSpace::Other
 }
 
 // Only storage has an access.
 fn buffer_well_formed(w: u32) -> bool
     ensures { result ≡ buffer_well_formed w }
 {
-    w / 32 % 0x4_0000 == 0 && (w / 8 % 4 < 3 && (w / 8 % 4 == 1 || w % 8 == 0))
+    w / 32 % 0x4_0000 == 0 && w / 8 % 4 < 3 && (w / 8 % 4 == 1 || w % 8 == 0)
 }
 
 // Whether textures of a format can be stored to.
 pub fn storable(format: u32) -> bool
     ensures { result ≡ storable format }
 {
-    if format < 43 {
-        return format != 28 && format != 31;
-    }
-    false
+    format < 43 && format != 28 && format != 31
 }
 
 // A shader's format is storable, and its access is not 0.
 fn storage_well_formed(w: u32) -> bool
     ensures { result ≡ storage_well_formed w }
 {
-    if w / 0x8_0000 % 16 != 0 {
-        return false;
-    }
-    if w / 0x8000 % 2 != 0 {
-        return false;
-    }
-    if w / 8 % 32 != 0 {
-        return false;
-    }
-    if storable(w / 256 % 128) {
-        return w / 0x1_0000 % 8 != 0;
-    }
-    false
+    w / 0x8_0000 % 16 == 0
+        && w / 0x8000 % 2 == 0
+        && w / 8 % 32 == 0
+        && storable(w / 256 % 128)
+        && w / 0x1_0000 % 8 != 0
 }
 
 // Whether a word's type is known and its unnamed bits are zero.
+#[tactic(auto, unfolding(crate::specs::Format::resource_type_well_formed))]
 fn resource_type_well_formed(w: u32) -> bool
     ensures { result ≡ resource_type_well_formed w }
 {
-    let code = w / 0x80_0000 % 16;
-    if code == 0 {
-        return buffer_well_formed(w);
+    match w / 0x80_0000 % 16 {
+        0 => buffer_well_formed(w),
+        1 | 6 => w / 2 % 0x40_0000 == 0,
+        2 => w / 64 % 0x2_0000 == 0 && w / 16 % 4 < 3,
+        3 => w / 16 % 0x8_0000 == 0,
+        4 => storage_well_formed(w),
+        5 => w / 8 % 0x10_0000 == 0,
+        _ => false,
     }
-    if code == 1 {
-        return w / 2 % 0x40_0000 == 0;
-    }
-    if code == 2 {
-        return w / 64 % 0x2_0000 == 0 && w / 16 % 4 < 3;
-    }
-    if code == 3 {
-        return w / 16 % 0x8_0000 == 0;
-    }
-    if code == 4 {
-        return storage_well_formed(w);
-    }
-    if code == 5 {
-        return w / 8 % 0x10_0000 == 0;
-    }
-    if code == 6 {
-        return w / 2 % 0x40_0000 == 0;
-    }
-    false
 }
 
 fn texture(w: u32, class: ImageClass) -> ResourceType
@@ -146,49 +114,40 @@ fn texture(w: u32, class: ImageClass) -> ResourceType
 }
 
 // What a type word and a buffer's size mean.
+#[tactic(auto, unfolding(crate::specs::Format::resource_type_of))]
 fn resource_type_of(w: u32, size: u64) -> ResourceType
     ensures { result ≡ resource_type_of w size }
 {
-    let code = w / 0x80_0000 % 16;
-    if code == 0 {
-        return ResourceType::Buffer {
+    let multi = w / 8 % 2 == 1;
+    match w / 0x80_0000 % 16 {
+        0 => ResourceType::Buffer {
             size,
             space: space_at(w / 8 % 4, w % 8),
-        };
-    }
-    if code == 1 {
-        return ResourceType::Sampler {
+        },
+        1 => ResourceType::Sampler {
             comparison: w % 2 == 1,
-        };
-    }
-    let multi = w / 8 % 2 == 1;
-    if code == 2 {
-        let kind = sample_kind_at(w / 16 % 4);
-        return texture(w, ImageClass::Sampled { kind, multi });
-    }
-    if code == 3 {
-        return texture(w, ImageClass::Depth { multi });
-    }
-    if code == 4 {
-        let format = w / 256 % 128;
-        let access = w / 0x1_0000 % 8;
-        return texture(w, ImageClass::Storage { format, access });
-    }
-    if code == 5 {
-        return texture(w, ImageClass::External);
-    }
-    ResourceType::AccelerationStructure {
-        vertex_return: w % 2 == 1,
+        },
+        2 => {
+            let kind = sample_kind_at(w / 16 % 4);
+            texture(w, ImageClass::Sampled { kind, multi })
+        }
+        3 => texture(w, ImageClass::Depth { multi }),
+        4 => {
+            let format = w / 256 % 128;
+            let access = w / 0x1_0000 % 8;
+            texture(w, ImageClass::Storage { format, access })
+        }
+        5 => texture(w, ImageClass::External),
+        _ => ResourceType::AccelerationStructure {
+            vertex_return: w % 2 == 1,
+        },
     }
 }
 
 fn resource_word_well_formed(w: u32) -> bool
     ensures { result ≡ resource_word_well_formed w }
 {
-    if w / 0x800_0000 == 16 {
-        return resource_type_well_formed(w);
-    }
-    false
+    w / 0x800_0000 == 16 && resource_type_well_formed(w)
 }
 
 fn size_well_formed(w: u32) -> bool
@@ -245,8 +204,8 @@ pub fn resource_next(body: &[u32], at: usize) -> usize
 
 // The resource that stands at a position, read without asking whether it is one.
 pub fn resource_at(pack: &[u32], at: usize) -> Resource
-    ensures value { result ≡ resource_at pack.now at }
-    ensures bind_value { place_encodable result.bind ≡ true }
+    ensures meaning { result ≡ resource_at pack.now at }
+    ensures place_encodable { place_encodable result.bind ≡ true }
 {
     if pack.len() <= at {
         return resource_of(0, 0, 0);
@@ -259,8 +218,8 @@ pub fn resource_at(pack: &[u32], at: usize) -> Resource
 }
 
 fn resource_of(place: u32, w: u32, size: u64) -> Resource
-    ensures value { result ≡ resource place w size }
-    ensures bind_value { place_encodable result.bind ≡ true }
+    ensures meaning { result ≡ resource place w size }
+    ensures place_encodable { place_encodable result.bind ≡ true }
 {
     let bind = place_of(place);
     let ty = resource_type_of(w, size);

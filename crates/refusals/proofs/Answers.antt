@@ -1,7 +1,8 @@
 -- Demand 1 for the other functions that answer: each gives one of its numbers, and acceptance names no details but those said.
+use Rattle.std.proofs.Common.{Result, Ok, Err}
 use Prim.Native.Nat.{ℕ}
 use mathlib.Core.Path.{◌≡◌, refl}
-use mathlib.Core.Bool.{Bool, true}
+use mathlib.Core.Bool.{Bool, true, false}
 use mathlib.Core.List.{List, [], ◌∷◌}
 use lib.Dec.{ltb}
 use Rattle.word.specs.Lists.{among, every}
@@ -9,7 +10,7 @@ use Rattle.word.specs.Numbers as Number
 use Rattle.word.specs.Parse.{Parsed, fault, got}
 use Rattle.word.specs.Answers.{refused}
 use Rattle.word.specs.declared.answer.Answer.{Answer}
-use Rattle.word.proofs.Truth.{by_test}
+use Rattle.word.proofs.Truth.{by_test, never}
 use Rattle.std.specs.Prelude.{⊤, Option, Some, None, Result, Ok, Err}
 use Rattle.numeric.specs.Types.{fits}
 use Rattle.numeric.specs.TypeWords.{subtype_number}
@@ -23,10 +24,11 @@ use Rattle.bindings.specs.Answers.{binding_answer, only_resource, only_entry, ch
 use Rattle.bindings.specs.declared.types.ResourceBinding.{ResourceBinding}
 use Rattle.bindings.specs.declared.types.Resource.{Resource}
 use Rattle.bindings.specs.declared.types.BindGroupLayoutEntry.{BindGroupLayoutEntry}
-use Rattle.bindings.specs.declared.types.BindingUse.{BindingUse}
-use Rattle.bindings.specs.declared.types.BindingUse.TheVariants as Use
-use Rattle.bindings.specs.declared.types.Derived.{Derived}
-use Rattle.bindings.specs.declared.types.Derived.TheVariants as Der
+use Rattle.bindings.specs.declared.types.BindingError.{BindingError}
+use Rattle.bindings.specs.declared.types.BindingError.TheVariants as Error
+use Rattle.bindings.specs.declared.types.BindingType.{BindingType}
+use Rattle.bindings.proofs.DerivedTypes.{derived_refused}
+use Rattle.bindings.proofs.UseErrors.{gives, use_gives}
 use Rattle.interface.specs.Format.{Decoded, Damaged, Malformed, Pack, decoded_number, stage_at}
 use Rattle.entry_points.specs.Rules.{only_entry_point, only_answer, finalize_name}
 use Rattle.entry_points.specs.declared.choose.Chosen.{Chosen}
@@ -146,16 +148,17 @@ subtype_answered None = refl
 
 -- ---- words of a resource against those of an entry: acceptance names nothing
 
-use_answered : (u : BindingUse) (bind : ResourceBinding) → answered words_use_numbers 0 (binding_answer (use_number u) bind) ≡ true
+use_answered : (u : Result Unit BindingError) (bind : ResourceBinding) → gives u ≡ true → answered words_use_numbers 0 (binding_answer (use_number u) bind) ≡ true
 unfolding answered every among
-use_answered Use.Accepted bind = refl
-use_answered Use.WrongType bind = refl
-use_answered Use.WrongAddressSpace bind = refl
-use_answered Use.WrongBufferSize bind = refl
-use_answered Use.WrongTextureViewDimension bind = refl
-use_answered Use.WrongTextureClass bind = refl
-use_answered Use.WrongSamplerComparison bind = refl
-use_answered Use.BadStorageFormat bind = refl
+use_answered (Ok served) bind h = refl
+use_answered (Err Error.WrongType) bind h = refl
+use_answered (Err Error.WrongAddressSpace) bind h = refl
+use_answered (Err Error.WrongBufferAddressSpace) bind h = never false h refl
+use_answered (Err Error.WrongBufferSize) bind h = refl
+use_answered (Err Error.WrongTextureViewDimension) bind h = refl
+use_answered (Err Error.WrongTextureClass) bind h = refl
+use_answered (Err Error.WrongSamplerComparison) bind h = refl
+use_answered (Err Error.BadStorageFormat) bind h = refl
 
 entry_answered : (entry : List ℕ) (k : BindGroupLayoutEntry → Answer) → ((e : BindGroupLayoutEntry) → answered words_use_numbers 0 (k e) ≡ true)
     → answered words_use_numbers 0 (only_entry entry k) ≡ true
@@ -182,17 +185,18 @@ words_answered resource entry =
     (λ r. only_entry entry λ e. binding_answer (use_number (check_binding_use r.ty e.ty)) r.bind) refl
     (λ r.
     entry_answered entry (λ e. binding_answer (use_number (check_binding_use r.ty e.ty)) r.bind)
-    (λ e. use_answered (check_binding_use r.ty e.ty) r.bind))
+    (λ e. use_answered (check_binding_use r.ty e.ty) r.bind (use_gives r.ty e.ty)))
 
 -- ---- the derivation of an entry's type: acceptance names the type word and the least-size word
 
-derived_answered : (d : Derived) (bind : ResourceBinding) → answered derivation_numbers 2 (derived_answer d bind) ≡ true
+derived_answered : (d : Result BindingType BindingError) (bind : ResourceBinding) → ((e : BindingError) → d ≡ Err e → e ≡ Error.WrongBufferAddressSpace)
+    → answered derivation_numbers 2 (derived_answer d bind) ≡ true
 unfolding answered every among
-derived_answered (Der.Binding ty) bind = refl
-derived_answered Der.WrongBufferAddressSpace bind = refl
+derived_answered (Ok ty) bind h = refl
+derived_answered (Err e) bind h = rw (h e refl) refl
 
 pub derivation_answered : (resource : List ℕ) (named : Bool) → answered derivation_numbers 2 (derive_words resource named) ≡ true
 unfolding answered every among derive_words
 derivation_answered resource named =
     resource_answered derivation_numbers 2 (read_resource resource) (λ r. derived_answer (derive_binding_type r.ty named) r.bind) refl
-    (λ r. derived_answered (derive_binding_type r.ty named) r.bind)
+    (λ r. derived_answered (derive_binding_type r.ty named) r.bind (derived_refused r.ty named))

@@ -1,5 +1,5 @@
 // The steps behind the resources: they alter no list.
-ghost use Rattle.std.specs.Prelude.{◌≡◌, true, IfOk};
+ghost use Rattle.std.specs.Prelude.{◌≡◌, true, length, IfOk};
 ghost use Rattle.word.specs.Refusals.{answer_of};
 ghost use Rattle.layouts.specs.Format.{layout_well_formed, decode_layout};
 ghost use Rattle.stage_lists.specs.Format.{out_well_formed, decode_stage};
@@ -8,19 +8,20 @@ ghost use Rattle.interface.specs.Inner.Reads.{standing};
 ghost use Rattle.interface.specs.Inner.Parts.{Placed};
 ghost use Rattle.output_steps.specs.Inner.Given.{Summed};
 ghost use Rattle.input_steps.specs.Workgroup.{workgroup_step};
-ghost use Rattle.stage.specs.Inner.Given.{Given};
+ghost use Rattle.resource_steps.specs.Inner.Given.{pairs_below};
 ghost use Rattle.stage.specs.Stage.{pair_step, input_walk, behind_inputs, behind_pairs};
 
 use input_steps::inputs::input_steps;
 use input_steps::types::InputWalk;
 use input_steps::workgroup::workgroup_step;
-use interface::parts::{inputs_counted, pairs_counted};
+use interface::parts::inputs_counted;
 use interface::reads::{limits, topology_at};
 use interface::types::{EntryParts, EntryPointMeshInfo, ShaderStage, WorkgroupSize};
 use last_steps::last::last_step;
 use output_steps::outputs::slots_step;
 use output_steps::types::{Request, Summary};
 use resource_steps::pairs::pair_uses;
+use resource_steps::table::ResourceTable;
 use word::refusal::Refusal;
 use word::{content, word};
 
@@ -94,22 +95,20 @@ fn after_inputs(
 pub(crate) fn pair_step(
     pack: &[u32],
     parts: EntryParts,
-    offsets: &[u16],
+    resources: &ResourceTable,
     entries: &[u8; 128],
     layout: &[u32],
     derived: bool,
-) -> Answer
+) -> Result<(), Refusal>
     requires placed { Placed pack.now parts × (layout_well_formed layout.now ≡ true) }
-    requires given { Given pack.now offsets.now (interface_of (decode pack.now)) (standing pack.now parts) }
-    ensures { result ≡ pair_step derived (interface_of (decode pack.now)).resources
-        (standing pack.now parts) (decode_layout layout.now) }
+    requires pairs_below { pairs_below (length resources.now) (standing pack.now parts).pairs ≡ true }
+    ensures { answer_of result ≡ pair_step derived resources.now (standing pack.now parts) (decode_layout layout.now) }
 {
     if derived {
-        return Answer::accepted();
+        return Ok(());
     }
-    let counts = parts.counts;
-    let n = pairs_counted(pack[counts]);
-    pair_uses(layout, pack, offsets, entries, parts.pairs, n)
+    let pairs = &pack[parts.pairs..parts.inputs];
+    pair_uses(layout, resources, entries, pairs)
 }
 
 // The workgroup size of an entry point against the limits of its stage.
