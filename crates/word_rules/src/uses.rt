@@ -75,8 +75,9 @@ fn acceleration_use(w: u32, entry: u32) -> Result<(), BindingError>
     }
 }
 
-// Whether an entry serves a resource, by the type words and the sizes of both.
+// Whether an entry serves a resource, by the type words and the sizes of both. Out of line: inlined, it takes a register from the search loops of a stage check.
 #[tactic(auto, unfolding(bindings::specs::Rules::check_binding_use, bindings::specs::Format::resource_type_of))]
+#[inline(never)]
 pub fn words_use(w: u32, size: u64, entry: u32, least: u64) -> Result<(), BindingError>
     ensures { result ≡ check_binding_use (resource_type_of w size) (binding_type_of entry least) }
 {
