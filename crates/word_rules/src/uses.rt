@@ -26,9 +26,10 @@ fn size_use(size: u64, least: u64) -> Result<(), BindingError>
     ensures { result ≡ size_use size least }
 {
     if least != 0 && least < size {
-        return Err(BindingError::WrongBufferSize);
+        Err(BindingError::WrongBufferSize)
+    } else {
+        Ok(())
     }
-    Ok(())
 }
 
 // Whether an entry serves a buffer.
