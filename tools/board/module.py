@@ -28,7 +28,7 @@ CONVERSION = r'(?:zext(?: nneg)?|sext|trunc(?: nuw)?(?: nsw)?|bitcast|fpext|fptr
 
 # the attributes of functions: those that hold on any processor, and those of x86-64, which are left out for the board
 ANYWHERE = ['nounwind', 'nocallback', 'nofree', 'willreturn', 'noreturn', 'cold', 'memory(argmem: readwrite)', 'memory(argmem: write)',
-            'memory(inaccessiblemem: write)']
+            'memory(inaccessiblemem: write)', 'noinline']
 OF_X86_64 = ['"probe-stack"="inline-asm"', '"stack-probe-size"="3072"', '"target-cpu"="x86-64"']
 ATTRIBUTE = '(?:%s)' % '|'.join(map(re.escape, ANYWHERE + OF_X86_64))
 
