@@ -28,15 +28,3 @@ module _ (codes w : ℕ) where
 
   pub built_in_kind : (x : ℕ) → x ≡ kind_of w → bits 23 8 w ≡ 0 → bits 26 24 w < codes → eqb x 14 ≡ built_in_well_formed codes w
   built_in_kind x e z h = sym (rw (eq-eqb (bits 23 8 w) 0 z, lt-ltb (bits 26 24 w) codes h, ← e) (and-true (eqb x 14)))
-
--- the tests of a pair against a table
-module _ (table : List ℕ) (w x : ℕ) (r : Bool) (e : x ≡ kind_of w) where
-  pub pair_kind : r ≡ (eqb x 5 && (eqb (bits 26 16 w) 0 && (eqb (get_or table (bits 15 8 w) 0) 2 && eqb (get_or table (bits 7 0 w) 0) 1))) → r ≡ pair_by_roles table w
-  pair_kind h = rw (← e) h
-
-  module _ (k : x ≡ 5) (z : bits 26 16 w ≡ 0) (a : ℕ) (f : a ≡ get_or table (bits 15 8 w) 0) where
-    pub pair_other : (a ≡ 2 → ⊥) → r ≡ false → r ≡ pair_by_roles table w
-    pair_other n h = rw (← e, eq-eqb x 5 k, eq-eqb (bits 26 16 w) 0 z, ← f, ne_eqb a 2 n) h
-
-    pub pair_last : (b : ℕ) → b ≡ get_or table (bits 7 0 w) 0 → a ≡ 2 → r ≡ eqb b 1 → r ≡ pair_by_roles table w
-    pair_last b g n h = rw (← e, eq-eqb x 5 k, eq-eqb (bits 26 16 w) 0 z, ← f, ← g, eq-eqb a 2 n) h
