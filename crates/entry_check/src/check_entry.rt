@@ -117,6 +117,7 @@ fn varying_lists_next(body: &[u32], at: usize, counts: u32) -> Option<usize>
 }
 
 // The words of a pack before the closing one, how many resources they list, and the role of each.
+#[derive(Clone, Copy)]
 pub struct Pack<'a> {
     pub body: &'a [u32],
     pub count: u32,
