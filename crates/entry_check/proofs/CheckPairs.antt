@@ -1,9 +1,9 @@
 -- Laws of the table of listed resources, and of pairs told by it.
-use Rattle.std.proofs.Common.{◌≡◌, ℕ, zero, suc, ◌+◌, ◌-◌, ◌%◌, ◌^◌, ◌<◌, ◌≤◌, Bool, true, false, ◌&&◌, eqb, ltb, List, [], ◌∷◌, ◌++◌, length, get_or, take, drop, set, replicate, sym, refl, ap, ◌∙◌, subst, add-one, arith, length-drop, length-set, get_or-drop, get_or-set_other, take-suc, take_all, get_or-set_same, get_or-append-add, le-ltb, lt-ltb, eq-eqb}
+use Rattle.std.proofs.Common.{◌≡◌, ℕ, zero, suc, ◌+◌, ◌-◌, ◌%◌, ◌^◌, ◌<◌, ◌≤◌, Bool, true, false, ◌&&◌, eqb, ltb, List, [], ◌∷◌, ◌++◌, length, get_or, take, drop, set, replicate, sym, refl, ap, ◌∙◌, subst, add-one, arith, length-set, get_or-drop, get_or-set_other, take-suc, take_all, get_or-set_same, get_or-append-add, le-ltb, lt-ltb, eq-eqb}
 use mathlib.Core.Path.{fun_ext}
 use lib.ListN.{get_or-eq_default, get_or-append}
 use Rattle.word.specs.Choice.{pick}
-use Rattle.word.specs.Words.{word_at, kind_of, content_of, bits, of_kind}
+use Rattle.word.specs.Words.{kind_of, content_of, bits, of_kind}
 use Rattle.word.specs.Parse.{one, several, Rest, nowhere, from, behind}
 use Rattle.word.specs.Lists.{among}
 use Rattle.interface.specs.Format.{of_word, index_well_formed, contents, is_texture, is_sampler, of_type, pair_well_formed}

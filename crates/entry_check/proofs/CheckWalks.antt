@@ -1,6 +1,6 @@
 -- The walk over an entry point joined to its reader.
 use Prim.{tt}
-use Rattle.std.proofs.Common.{◌≡◌, ℕ, zero, suc, ◌≤◌, Bool, true, false, not, eqb, leb, List, [], ◌∷◌, length, take, drop, sym, refl, ◌∙◌}
+use Rattle.std.proofs.Common.{◌≡◌, ℕ, zero, suc, Bool, true, false, not, eqb, leb, List, [], ◌∷◌, length, take, drop, sym, refl, ◌∙◌}
 use borrow.Author.Tests.{not-true, not-false}
 use Rattle.word.specs.Choice.{pick}
 use Rattle.word.specs.Words.{bits, bit}

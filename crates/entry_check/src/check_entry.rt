@@ -75,7 +75,11 @@ fn mesh_next(body: &[u32], at: usize, marked: bool) -> Option<usize>
 fn role_at(table: &[Role; 128], index: usize) -> Role
     ensures { result ≡ slice_index_or table.now index Other }
 {
-    if index < table.len() { table[index] } else { Role::Other }
+    if index < table.len() {
+        table[index]
+    } else {
+        Role::Other
+    }
 }
 
 // Whether a word is a pair of a listed texture and a listed sampler.
@@ -96,7 +100,10 @@ fn pairs_next(body: &[u32], from: usize, n: u32, table: &[Role; 128]) -> Option<
 {
     let end = from + n as usize;
     let words = body.get(from..end)?;
-    words.iter().all(|w| pair_well_formed(*w, table)).then_some(end)
+    words
+        .iter()
+        .all(|w| pair_well_formed(*w, table))
+        .then_some(end)
 }
 
 // The index that a word of kind 5 holds; a word of another kind gives a number past all indexes.

@@ -9,6 +9,7 @@ fn name_word_well_formed(w: u32, left: u32) -> bool
     requires { 1 ≤ left }
     ensures { result ≡ name_well_formed left (bytes_of (w ∷ [])) }
 {
+    // No match on what is left: each length shares the tests of the bytes before.
     if w % 0x100 == 0 {
         return false;
     }

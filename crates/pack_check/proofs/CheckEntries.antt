@@ -98,10 +98,6 @@ module _ (ws l heads : List ℕ) (rs : List Resource) (i at r n : ℕ) (m : Head
       listed_more (read_entry_point rs) l i (drop at ws) e (drop r ws) (HeadAt ws at) (λ es. Headed ws (take (i + 1) (set heads i at)) es) f (head_at_lem rs ws at)
       (λ a y. rw x (headed_append ws (take i heads) (listed (several i (read_entry_point rs) l)) at a m y))
 
-pub heads_end : (ws l heads : List ℕ) (rs : List Resource) (i n : ℕ) → Headed ws (take i heads) (listed (several i (read_entry_point rs) l)) → i ≤ n → n ≤ i
-    → Headed ws (take n heads) (listed (several n (read_entry_point rs) l))
-heads_end ws l heads rs i n m h k = let x : n ≡ i = omega arith in rw x m
-
 -- ---- stages and names compared at those positions
 
 stage_code_lem : (c : ℕ) → c < 5 → stage_code (stage_at c) ≡ c

@@ -27,7 +27,7 @@ use Rattle.word.proofs.Truth.{first, second, neither, never}
 use Rattle.entry_check.proofs.CheckSteps.{step_stop, step_go, word_stop, word_go}
 use Rattle.entry_check.proofs.CheckWalks.{on_word, on_step}
 use Rattle.pack_check.proofs.CheckEntries.{distinct_named}
-use Rattle.entry_check.proofs.CheckCases.{decided, test_behind}
+use Rattle.entry_check.proofs.CheckCases.{test_behind}
 
 -- ---- entry points
 
@@ -50,9 +50,6 @@ module _ (ws l heads : List ℕ) (rs : List Resource) (n : ℕ) where
 
     pub entries_go : not b ≡ false → from r ≡ entries_behind rs n l
     entries_go t = sym (entries_by ∙ rw (not-false b t))
-
-pub heads_long : (n : ℕ) (heads start : List ℕ) → n ≤ 16 → length heads ≡ length start → 16 ≤ length start → length (take n heads) ≡ n
-heads_long n heads start h e l = length-take-le n heads (omega arith)
 
 -- ---- resources and entry points
 

@@ -9,7 +9,7 @@ use lib.Dec.{eqb}
 use lib.ListN.{length, take, drop, set, length-append, length-drop, take-append-drop}
 use lib.Seq.{drop-append-le, get_or-take, get_or-set_same, get_or-set_other}
 use Rattle.word.specs.Choice.{pick}
-use Rattle.word.specs.Words.{word_at, bits}
+use Rattle.word.specs.Words.{word_at}
 use Rattle.word.specs.Parse.{Parsed, several, from, behind}
 use Rattle.word.proofs.Rests.{got_from}
 use Rattle.word.proofs.ParseReads.{Stands}
@@ -17,7 +17,7 @@ use Rattle.bindings.specs.Format.{read_resource, resource_at, is_buffer_word}
 use Rattle.interface.specs.Format.{read_entry_point, damaged, decode, decoded_number, body}
 use Rattle.interface.specs.Inner.Reads.{resources_at}
 use Rattle.entry_check.specs.Inner.Walks.{pack_resources}
-use Rattle.pack_check.specs.Inner.Records.{entries_behind, records_behind, Stop, Stops, EntryStops}
+use Rattle.pack_check.specs.Inner.Records.{Stop, Stops, EntryStops}
 use Rattle.interface.specs.Inner.Parts.{records_from, end_from, resource_end, entry_end, entry_point_at, resource_count, entry_count, entries_at, Offsets, Heads}
 use Rattle.interface.proofs.ReadsRecords.{ReadsAt, several_records}
 use Rattle.interface.proofs.ReadsEntry.{entry_stands}
@@ -40,15 +40,6 @@ module _ {A : Type 0} (read : List ℕ → Parsed A) (ws table : List ℕ) (star
       by k j false e =
           let d : k ≡ i → ⊥ = eqb-false k i e in
           rw (get_or-set_other table i k at 0 d) (s.each k (omega arith))
-
-pub stops_all : {A : Type 0} (read : List ℕ → Parsed A) (ws table : List ℕ) (start i n : ℕ) → Stops read ws start i table → i ≤ n → n ≤ i → Stops read ws start n table
-stops_all read ws table start i n s h k = let x : n ≡ i = omega arith in rw x s
-
--- ---- resources and entry points
-
-pub entries_stops : (ws table : List ℕ) (totals p : ℕ) → from (drop p ws) ≡ behind (several (bits 26 16 totals) read_resource (drop 15 ws)) → p ≤ length ws
-    → Stops (read_entry_point (pack_resources (bits 26 16 totals) ws)) ws p (bits 15 0 totals) table → EntryStops ws totals table
-entries_stops ws table totals p e h m = record { start = p; begin = record { within = h; rest = e }; stops = m }
 
 -- ---- where readers stop, in the words that theirs begin
 

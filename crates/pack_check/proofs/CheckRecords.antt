@@ -110,7 +110,3 @@ module _ (ws l : List ℕ) (table start : List Role) (i at r w c : ℕ) (v : Rol
       (λ a y. rw (m, drop-cons start i Other (omega arith), roles_append, y, add-one i)
       (set_at (pair_roles (listed (several i read_resource l))) (get_or start i Other) (drop (suc i) start) v i (roles_long (listed (several i read_resource l)) ∙ listed_long read_resource l i (drop at ws) e)
       ∙ sym (append_assoc (pair_roles (listed (several i read_resource l))) (v ∷ []) (drop (suc i) start))))
-
-pub roles_end : (l : List ℕ) (table start : List Role) (i n : ℕ) → table ≡ pair_roles (listed (several i read_resource l)) ++ drop i start → i ≤ n → n ≤ i
-    → table ≡ pair_roles (listed (several n read_resource l)) ++ drop n start
-roles_end l table start i n m h k = let x : n ≡ i = omega arith in rw x m

@@ -1,5 +1,5 @@
 -- Laws of the numbers of refused packs.
-use Rattle.std.proofs.Common.{◌≡◌, ℕ, arith}
+use Rattle.std.proofs.Common.{◌≡◌, arith}
 use Rattle.pack_check.specs.Errors.{error_number}
 use Rattle.pack_check.specs.declared.check_pack.PackError.{PackError}
 use Rattle.pack_check.specs.declared.check_pack.PackError.TheVariants.{Damaged, Malformed}

@@ -153,7 +153,9 @@ fn limits_next(body: &[u32]) -> Option<usize>
     ensures end { IfSome result (λ next. (next ≡ 15) × (next ≤ length body.now)) }
 {
     let limits = body.get(2..15)?;
-    let good = limits.iter().fold(true, |good, w| good & (word::kind(*w) == 3));
+    let good = limits
+        .iter()
+        .fold(true, |good, w| good & (word::kind(*w) == 3));
     good.then_some(15)
 }
 

@@ -22,9 +22,6 @@ unfolding several
 none_read read l = refl
 
 module _ {A : Type 0} (read : List ℕ → Parsed A) (l : List ℕ) (i : ℕ) (m : List ℕ) (e : from m ≡ behind (several i read l)) where
-  pub all_read : (n : ℕ) → i ≤ n → n ≤ i → from m ≡ behind (several n read l)
-  all_read n h k = let x : n ≡ i = omega arith in rw x e
-
   pub one_read : (r : List ℕ) → from r ≡ behind (read m) → from r ≡ behind (several (i + 1) read l)
   unfolding several
   one_read r f =

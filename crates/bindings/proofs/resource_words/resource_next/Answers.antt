@@ -5,8 +5,9 @@ use Rattle.bindings.proofs.resource_words.resource_next.Goals.{then-body-at-lt2-
 pub returns-then-body-at-lt2-clause-rest : goal.returns-then-body-at-lt2-clause-rest
 returns-then-body-at-lt2-clause-rest c =
     elim c.then-body-at-lt2.branch [
-    then-body-at-lt2-via-then-body-at-lt2 w ↦ search next_few
-    | then-body-at-lt2-via-else-body-at-lt2+then-not-place_well_formed w ↦ search next_no_place ]
+      | then-body-at-lt2-via-then-body-at-lt2 w ↦ search next_few
+      | then-body-at-lt2-via-else-body-at-lt2+then-not-place_well_formed w ↦ search next_no_place
+    ]
 
 pub returns-then-not-resource_word_well_formed-clause-rest : goal.returns-then-not-resource_word_well_formed-clause-rest
 returns-then-not-resource_word_well_formed-clause-rest c = search next_no_type

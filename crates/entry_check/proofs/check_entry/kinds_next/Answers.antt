@@ -13,5 +13,5 @@ pub returns-clause-rest : goal.returns-clause-rest
 returns-clause-rest c =
     let test = of_word c.args.kind in
     let all : c.all.result ≡ list_all test c.in_ok-words.words.now =
-        all_from_yields_List test _ _ c.all.result c.all.ensures.ran (YieldsList-from_slice c.in_ok-words.words.now cc) (λ x b q k. search (rules, tests)) in
+    all_from_yields_List test _ _ c.all.result c.all.ensures.ran (YieldsList-from_slice c.in_ok-words.words.now cc) (λ x b q k. search (rules, tests)) in
     words_all test _ _ c.args.from c.args.n _ _ all c.in_ok-words.ensures.lookup.0 c.then_some.ensures

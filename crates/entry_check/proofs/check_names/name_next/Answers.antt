@@ -1,4 +1,4 @@
-use Rattle.std.proofs.Common.{◌≡◌, ◌+◌, ◌-◌, ◌*◌, rules, arith}
+use Rattle.std.proofs.Common.{◌≡◌, ◌+◌, ◌-◌, ◌*◌, arith}
 use Rattle.entry_check.proofs.CheckNames.{name_stops, name_goes, name_in, name_ended}
 use Rattle.entry_check.proofs.check_names.name_next.Goals as goal
 

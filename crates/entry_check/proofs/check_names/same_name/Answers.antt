@@ -8,14 +8,14 @@ pub returns-then-not-same_first : goal.returns-then-not-same_first
 returns-then-not-same_first c =
     let some : c.args.bytes - 4 * c.loop-i.i ≡ 0 → ⊥ = λ z. omega arith in
     let told : c.same_first.result ≡ same_first (c.args.bytes - 4 * c.loop-i.i) (word_at c.args.body.now (c.args.from + c.loop-i.i)) (word_at c.args.body.now (c.args.other + c.loop-i.i)) =
-        rw (← c.word-v.ensures, ← c.word-w.ensures) c.same_first.ensures in
+    rw (← c.word-v.ensures, ← c.word-w.ensures) c.same_first.ensures in
     search (names_differ, some, told)
 
 pub loop-i-preserved : goal.loop-i-preserved
 loop-i-preserved c =
     let some : c.args.bytes - 4 * c.loop-i.i ≡ 0 → ⊥ = λ z. omega arith in
     let told : c.same_first.result ≡ same_first (c.args.bytes - 4 * c.loop-i.i) (word_at c.args.body.now (c.args.from + c.loop-i.i)) (word_at c.args.body.now (c.args.other + c.loop-i.i)) =
-        rw (← c.word-v.ensures, ← c.word-w.ensures) c.same_first.ensures in
+    rw (← c.word-v.ensures, ← c.word-w.ensures) c.same_first.ensures in
     let less : c.args.bytes - 4 * (c.loop-i.i + 1) ≡ c.args.bytes - 4 * c.loop-i.i - 4 = omega arith in
     let i : c.args.from + (c.loop-i.i + 1) ≡ c.args.from + c.loop-i.i + 1 = omega arith in
     let j : c.args.other + (c.loop-i.i + 1) ≡ c.args.other + c.loop-i.i + 1 = omega arith in

@@ -23,8 +23,9 @@ loop-preserved c =
     let some : c.args.n - c.loop.counter ≡ 0 → ⊥ = λ z. omega arith in
     let less : c.args.n - (c.loop.counter + 1) ≡ c.args.n - c.loop.counter - 1 = omega arith in
     elim c.if-location_well_formed.branch [
-    then-location_well_formed+else-not-var_good w ↦ rw (w.at-is, w.below-is, w.good-is) (search local_in, search rules, search rules, search (local_go, some, less), search local_good)
-    | else-location_well_formed+else-not-built_in_well_formed w ↦ rw (w.at-is, w.below-is, w.good-is) (search built_in_in, search codes_stay, search rules, search (built_in_go, some, less), search rules) ]
+      | then-location_well_formed+else-not-var_good w ↦ rw (w.at-is, w.below-is, w.good-is) (search local_in, search rules, search rules, search (local_go, some, less), search local_good)
+      | else-location_well_formed+else-not-built_in_well_formed w ↦ rw (w.at-is, w.below-is, w.good-is) (search built_in_in, search codes_stay, search rules, search (built_in_go, some, less), search rules)
+    ]
 
 pub returns-clause-rest : goal.returns-clause-rest
 returns-clause-rest c =

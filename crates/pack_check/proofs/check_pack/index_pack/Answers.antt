@@ -1,6 +1,6 @@
 use Rattle.std.proofs.Common.{rules, sym, ◌∙◌}
 use borrow.Author.Tests.{not-true, not-false}
-use Rattle.pack_check.proofs.CheckPack.{pack_damaged, pack_some, body_long, body_few, pack_well_formed, pack_malformed, held}
+use Rattle.pack_check.proofs.CheckPack.{pack_damaged, pack_some, body_few, pack_well_formed, pack_malformed, held}
 use Rattle.pack_check.proofs.CheckPositions.{no_offsets, no_heads, offsets_found, heads_found}
 use Rattle.pack_check.proofs.CheckTables.{no_resource_positions, no_entry_positions, resource_positions_lem, entry_positions_lem}
 use Rattle.pack_check.proofs.check_pack.index_pack.Goals as goal

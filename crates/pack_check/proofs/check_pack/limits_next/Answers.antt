@@ -12,5 +12,5 @@ returns-in_err-limits-clause-rest c = none_behind _ _ _ c.from_residual.ensures 
 pub returns-clause-rest : goal.returns-clause-rest
 returns-clause-rest c =
     let all : c.fold-good.result ≡ fold (λ good w. good && of_word 3 w) true c.in_ok-limits.limits.now =
-        fold_from_yields_List _ (λ good w. good && of_word 3 w) true _ c.fold-good.ensures.ran (YieldsList-from_slice c.in_ok-limits.limits.now cc) (λ a x b q k. search (rules, tests)) in
+    fold_from_yields_List _ (λ good w. good && of_word 3 w) true _ c.fold-good.ensures.ran (YieldsList-from_slice c.in_ok-limits.limits.now cc) (λ a x b q k. search (rules, tests)) in
     limits_tested _ _ _ _ all c.in_ok-limits.ensures.lookup.0 c.then_some.ensures

@@ -1,6 +1,5 @@
-use borrow.Author.Rules.{rules}
 use Rattle.entry_check.proofs.CheckSteps.{none_behind}
-use Rattle.pack_check.proofs.CheckPack.{edition_stop, totals_stop, limits_stop, pack_go, few_resources, few_entries}
+use Rattle.pack_check.proofs.CheckPack.{edition_stop, totals_stop, limits_stop, pack_go}
 use Rattle.pack_check.proofs.CheckTables.{edition_unwritten, totals_unwritten, limits_unwritten, resources_written, entries_written}
 use Rattle.pack_check.proofs.check_pack.pack_next.Goals as goal
 
