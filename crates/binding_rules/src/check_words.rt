@@ -20,15 +20,11 @@ use word::numbers;
 
 // Whether the words are a resource and nothing more.
 fn resource_alone(ws: &[u32]) -> bool
-    ensures k_value { (k : Resource → Answer) → only_resource (read_resource ws.now) k
+    ensures meaning { (k : Resource → Answer) → only_resource (read_resource ws.now) k
         ≡ pick result (k (resource_at ws.now 0)) (refused malformed_pack) }
-    ensures ws_value { result ≡ true → resource_encodable (resource_at ws.now 0) ≡ true }
+    ensures encodable { result ≡ true → resource_encodable (resource_at ws.now 0) ≡ true }
 {
-    let end = resource_next(ws, 0);
-    if end == 0 {
-        return false;
-    }
-    end == ws.len()
+    resource_next(ws, 0) == Some(ws.len())
 }
 
 // Whether the words are an entry and nothing more.

@@ -112,9 +112,8 @@ pub fn finalize_entry_point_name(pack: &[u32], stage: u32) -> Answer
 {
     let mut offsets: [u16; 128] = [0; 128];
     let mut heads: [u16; 16] = [0; 16];
-    let refusal = index_pack(pack, &mut offsets, &mut heads);
-    if refusal != 0 {
-        return Answer::refused(refusal);
+    if let Err(error) = index_pack(pack, &mut offsets, &mut heads) {
+        return Answer::refused(error.number());
     }
     if 4 < stage {
         return Answer::refused(numbers::BAD_CALL);

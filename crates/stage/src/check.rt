@@ -292,9 +292,8 @@ pub fn check_stage(
 {
     let mut offsets: [u16; 128] = [0; 128];
     let mut heads: [u16; 16] = [0; 16];
-    let refusal = index_pack(pack, &mut offsets, &mut heads);
-    if refusal != 0 {
-        return Answer::refused(refusal);
+    if let Err(error) = index_pack(pack, &mut offsets, &mut heads) {
+        return Answer::refused(error.number());
     }
     check_call(
         pack, &offsets, &heads, layout, sizes, inputs, out, name, codes,
