@@ -4,5 +4,5 @@ use Rattle.interface.proofs.parts.resource_end.Goals as goal
 pub returns-then-word-eq0-clause-value : goal.returns-then-word-eq0-clause-value
 returns-then-word-eq0-clause-value c = search resource_buffer
 
-pub returns-clause-value : goal.returns-clause-value
-returns-clause-value c = search resource_other
+pub returns-else-word-eq0-clause-value : goal.returns-else-word-eq0-clause-value
+returns-else-word-eq0-clause-value c = search resource_other

@@ -7,11 +7,11 @@ position_at-requires c = search heads_there
 pub parts_at-requires : goal.parts_at-requires
 parts_at-requires c = (search head_inside, search entry_inside, search pack_short)
 
-pub returns-clause-result_value : goal.returns-clause-result_value
-returns-clause-result_value c = search nth_read
+pub returns-clause-stands : goal.returns-clause-stands
+returns-clause-stands c = search nth_read
 
 pub returns-clause-placed : goal.returns-clause-placed
 returns-clause-placed c = search nth_placed
 
-pub returns-clause-value : goal.returns-clause-value
-returns-clause-value c = search nth_parts
+pub returns-clause-parts : goal.returns-clause-parts
+returns-clause-parts c = search nth_parts
