@@ -1,10 +1,10 @@
 -- The ways of the functions that walk from record to record.
-use Prim.Native.Nat.{ℕ, zero, suc, ◌+◌, ◌-◌, ◌/◌, ◌%◌, ◌^◌, ◌<◌, ◌≤◌}
+use Prim.Native.Nat.{ℕ, zero, suc, ◌+◌, ◌-◌, ◌/◌, ◌^◌, ◌<◌, ◌≤◌}
 use native.Mathlib.Omega.{arith}
 use native.Mathlib.Numerals.{add-one}
 use mathlib.Core.Path.{◌≡◌, refl, sym, ap, ◌∙◌}
 use mathlib.Core.List.{List, [], ◌∷◌}
-use borrow.Author.Tests.{eq-eqb, ne_eqb, ltb-true, ltb-false}
+use borrow.Author.Tests.{ltb-true, ltb-false}
 use lib.Dec.{eqb, ltb}
 use lib.ListN.{length, drop, get_or-eq_default}
 use Rattle.word.specs.Choice.{pick}
@@ -15,7 +15,7 @@ use Rattle.interface.specs.Format.{name_words, decode, decoded_number, interface
 use Rattle.interface.specs.Inner.Reads.{varying_width, standing}
 use Rattle.interface.specs.Inner.Parts.{records_from, end_from, varying_end, varyings_end, resource_end, counts_at, inputs_at, parts_at, entry_end, entry_point_at, entries_at, resource_count, entry_count, head_at, Placed, Heads, workgroup_at}
 use Rattle.interface.specs.declared.types.EntryParts.{EntryParts}
-use Rattle.interface.proofs.ReadsRecords.{end_left, end_none, records_length}
+use Rattle.interface.proofs.ReadsRecords.{end_left, records_length}
 use Rattle.interface.proofs.ReadsPack.{accepted}
 use Rattle.interface.proofs.ReadsWays.{width_there}
 
@@ -28,13 +28,6 @@ end_suc after (suc n) at = end_suc after n (after at)
 
 pub end_more : (after : ℕ → ℕ) (n at : ℕ) → end_from after (n + 1) at ≡ after (end_from after n at)
 end_more after n at = rw add-one (end_suc after n at)
-
-module _ (ws : List ℕ) (at w : ℕ) (hw : w ≡ word_at ws (at + 1)) where
-  pub resource_buffer : w / 8388608 % 16 ≡ 0 → at + 3 ≡ resource_end ws at
-  resource_buffer h = rw (← hw, eq-eqb (w / 8388608 % 16) 0 h)
-
-  pub resource_other : (w / 8388608 % 16 ≡ 0 → ⊥) → at + 2 ≡ resource_end ws at
-  resource_other h = rw (← hw, ne_eqb (w / 8388608 % 16) 0 h)
 
 -- ---- an entry point
 

@@ -1,14 +1,10 @@
 -- The ways of the functions that read what stands in a pack.
-use Prim.Native.Nat.{ℕ, ◌+◌, ◌/◌, ◌%◌, ◌<◌, ◌≤◌}
-use native.Mathlib.Omega.{arith}
+use Prim.Native.Nat.{ℕ, ◌+◌, ◌/◌, ◌%◌, ◌≤◌}
 use mathlib.Core.Path.{◌≡◌, sym, ap, ◌∙◌}
-use mathlib.Core.Bool.{true}
 use mathlib.Core.List.{List, [], ◌∷◌}
-use borrow.Author.Tests.{eq-eqb, ne_eqb, ltb-true}
-use lib.Dec.{ltb}
 use lib.ListN.{length, drop}
 use lib.Seq.{get_or-drop}
-use Rattle.word.specs.Words.{word_at, kind_of, content_of}
+use Rattle.word.specs.Words.{word_at, content_of}
 use Rattle.word.proofs.Parse.{first_of}
 use Rattle.interface.specs.Format.{decode, decoded_number, limits_by, limits_of, interface_of}
 use Rattle.interface.specs.Inner.Reads.{varying_width}
