@@ -2,6 +2,8 @@
 ghost use Rattle.std.specs.Prelude.{◌≡◌, ◌++◌, ◌+◌, ◌<◌, ◌≤◌, length, take, drop, IfSome};
 ghost use Rattle.word.specs.Words.{word_at, bits};
 ghost use Rattle.word.specs.Parse.{one, several, behind, rest_of};
+ghost use Rattle.word.specs.Answers.{refused};
+ghost use Rattle.word.specs.Refusals.{refusal_answer};
 ghost use Rattle.bindings.specs.Format.{read_resource};
 ghost use Rattle.interface.specs.Format.{of_word, edition_well_formed, totals_well_formed, read_entry_point, read_pack, damaged, decode, decoded_number};
 ghost use Rattle.interface.specs.Inner.Parts.{resource_count, Offsets, Heads};
@@ -14,7 +16,7 @@ use bindings::resource_words::resource_next;
 use entry_check::check_entry::Pack;
 use entry_check::check_names::names_distinct;
 use entry_check::role::Role;
-use word::numbers;
+use word::refusal::{Number, Refusal};
 
 // Why a pack is refused: its length, total or closing sum, or what its words say.
 #[derive(Clone, Copy, Debug, PartialEq, Eq)]
@@ -23,14 +25,13 @@ pub enum PackError {
     Malformed,
 }
 
-impl PackError {
-    // Its number among the answers of checks.
-    pub fn number(self) -> u32
-        ensures { result ≡ error_number self }
-    {
-        match self {
-            PackError::Damaged => numbers::DAMAGED_PACK,
-            PackError::Malformed => numbers::MALFORMED_PACK,
+impl From<PackError> for Refusal {
+    ghost from_gives = { λ e r. refusal_answer r ≡ refused (error_number e) };
+
+    fn from(error: PackError) -> Self {
+        match error {
+            PackError::Damaged => Refusal::plain(Number::DamagedPack),
+            PackError::Malformed => Refusal::plain(Number::MalformedPack),
         }
     }
 }
