@@ -130,7 +130,10 @@ fn answer_on(pack: &[u32]) -> u32 {
     if pack_check::check_pack::index_pack(pack, &mut offsets, &mut heads) != answer {
         return 9;
     }
-    answer
+    match answer {
+        Ok(()) => 0,
+        Err(error) => error.number(),
+    }
 }
 
 // The answer on the pack with some bits of a word flipped.
