@@ -124,7 +124,7 @@ impl Module<'_> {
 }
 
 // The entry point that a stage means where no name is given, by its position.
-#[tactic(auto, using(crate::proofs::ReadsChoice::damaged_refused, crate::proofs::ReadsChoice::malformed_refused, crate::proofs::ReadsChoice::stage_refused, crate::proofs::ReadsChoice::stage_chosen, crate::proofs::ReadsChoice::few_entries))]
+#[tactic(auto, using(crate::proofs::ReadsChoice::pack_refused, crate::proofs::ReadsChoice::stage_refused, crate::proofs::ReadsChoice::stage_chosen, crate::proofs::ReadsChoice::few_entries))]
 pub fn finalize_entry_point_name(pack: &[u32], stage: u32) -> Result<u32, Refusal>
     ensures { answer_with result ≡ finalize_name (decode pack.now) stage }
 {

@@ -294,7 +294,7 @@ pub fn check_stage(
     let mut offsets: [u16; 128] = [0; 128];
     let mut heads: [u16; 16] = [0; 16];
     if let Err(error) = index_pack(pack, &mut offsets, &mut heads) {
-        return Answer::refused(error.number());
+        return Refusal::from(error).into();
     }
     check_call(
         pack, &offsets, &heads, layout, sizes, inputs, out, name, codes,

@@ -8,6 +8,7 @@
 ghost use Rattle.std.specs.Prelude.{◌≡◌, ◌<◌, ◌≤◌, length};
 
 use std::io;
+use word::refusal::Refusal;
 
 // The pack has 83 words; zeros stand behind it.
 const PACK: [u32; 96] = [
@@ -132,7 +133,7 @@ fn answer_on(pack: &[u32]) -> u32 {
     }
     match answer {
         Ok(()) => 0,
-        Err(error) => error.number(),
+        Err(error) => Refusal::from(error).number.code(),
     }
 }
 
