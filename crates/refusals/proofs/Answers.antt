@@ -31,8 +31,9 @@ use Rattle.bindings.proofs.DerivedTypes.{derived_refused}
 use Rattle.bindings.proofs.UseErrors.{gives, use_gives}
 use Rattle.interface.specs.Format.{Decoded, Damaged, Malformed, Pack, decoded_number, stage_at}
 use Rattle.entry_points.specs.Rules.{only_entry_point, only_answer, finalize_name}
-use Rattle.entry_points.specs.declared.choose.Chosen.{Chosen}
-use Rattle.entry_points.specs.declared.choose.Chosen.TheVariants as Ch
+use Rattle.std.specs.Prelude.{Result, Ok, Err}
+use Rattle.entry_points.specs.declared.choose.ChoiceError.{ChoiceError}
+use Rattle.entry_points.specs.declared.choose.ChoiceError.TheVariants.{Absent, Several}
 use Rattle.refusals.specs.Table.{early, stage_numbers, pack_numbers, subtype_numbers, name_numbers, vertex_format_numbers, texture_format_numbers, format_use_numbers, words_use_numbers, derivation_numbers, populate_numbers, table, answered}
 use Rattle.refusals.proofs.Known.{either}
 
@@ -52,11 +53,11 @@ pack_answered (Pack i) = refl
 
 -- ---- the choice of a name: acceptance names the position
 
-chosen_answered : (x : Chosen) → answered name_numbers 1 (only_answer x) ≡ true
+chosen_answered : (x : Result ℕ ChoiceError) → answered name_numbers 1 (only_answer x) ≡ true
 unfolding answered every among
-chosen_answered (Ch.At i) = refl
-chosen_answered Ch.Absent = refl
-chosen_answered Ch.Several = refl
+chosen_answered (Ok i) = refl
+chosen_answered (Err Absent) = refl
+chosen_answered (Err Several) = refl
 
 pub name_answered : (d : Decoded) (stage : ℕ) → answered name_numbers 1 (finalize_name d stage) ≡ true
 unfolding answered every among finalize_name

@@ -21,7 +21,7 @@ ghost use Rattle.stage.specs.Stage.{input_walk, behind_pairs, request_of, derive
 
 use crate::judge::{judge, pair_step};
 use crate::types::Codes;
-use entry_points::choose::{Chosen, find_entry_point};
+use entry_points::module::Module;
 use interface::reads::{entry_parts, stage_at};
 use interface::types::EntryParts;
 use layouts::layout::layout_well_formed;
@@ -187,6 +187,7 @@ fn on_entry_point(
 }
 
 // The entry point of a stage and a name, if there is one.
+#[tactic(auto, using(crate::proofs::CheckLaws::chosen_below, crate::proofs::CheckLaws::chosen_at, crate::proofs::CheckLaws::chosen_absent))]
 fn on_named(
     pack: &[u32],
     offsets: &[u16],
@@ -203,13 +204,13 @@ fn on_named(
     ensures { outcome result layout.new sizes.new out.new ≡ on_named (call pack.now name.now codes
         (lent layout.old sizes.old inputs.now out.old)) (interface_of (decode pack.now)) }
 {
-    match find_entry_point(pack, heads, stage_at(codes.stage), name) {
-        Chosen::At { position } => on_entry_point(
-            pack, offsets, heads, position, layout, sizes, inputs, out, codes,
-        ),
-        Chosen::Absent => Answer::refused(numbers::ENTRY_ABSENT),
-        Chosen::Several => Answer::refused(numbers::ENTRY_ABSENT),
-    }
+    let module = Module { pack, heads };
+    let Some(position) = module.find_entry_point(stage_at(codes.stage), name) else {
+        return Answer::refused(numbers::ENTRY_ABSENT);
+    };
+    on_entry_point(
+        pack, offsets, heads, position, layout, sizes, inputs, out, codes,
+    )
 }
 
 // Whether the codes of a call are in their ranges.
@@ -293,7 +294,7 @@ pub fn check_stage(
     let mut offsets: [u16; 128] = [0; 128];
     let mut heads: [u16; 16] = [0; 16];
     if let Err(error) = index_pack(pack, &mut offsets, &mut heads) {
-        return Answer::refused(error.number());
+        return Refusal::from(error).into();
     }
     check_call(
         pack, &offsets, &heads, layout, sizes, inputs, out, name, codes,
