@@ -4,9 +4,10 @@ use Prim.Native.Nat.{ℕ, ◌+◌, ◌-◌, ◌*◌, ◌%◌, ◌<◌, ◌≤◌
 use native.Mathlib.Omega.{arith}
 use mathlib.Core.Path.{◌≡◌, refl, sym, ap, ◌∙◌}
 use mathlib.Core.Bool.{Bool, true, false}
-use mathlib.Core.List.{List}
+use mathlib.Core.List.{List, [], ◌∷◌}
 use lib.ListN.{drop, get_or}
 use borrow.Author.Tests.{eq-eqb, eqb-true, ltb-true}
+use Rattle.word.specs.Choice.{pick}
 use Rattle.word.specs.Words.{word_at, content_of, kind_of, bits}
 use Rattle.word.proofs.Truth.{by_test}
 use Rattle.bindings.specs.Format.{place_of}
@@ -135,3 +136,26 @@ module _ (n i : ℕ) (f : Option ℕ) (h : found_below n f ≡ true) (e : f ≡ 
   -- and its word can be read
   pub found_bytes : n * 4 < 2 ^ 63 → i * 4 < 2 ^ 64
   found_bytes k = omega (arith, found_inside)
+
+-- ---- a place among others
+
+abbrev is_at : Option ℕ → Bool
+is_at (Some i) = true
+is_at None = false
+
+sought_in : (place : ResourceBinding) (ps : List ResourceBinding) (i : ℕ) → place_in place ps ≡ is_at (place_from place ps i)
+unfolding place_in place_from
+sought_in place [] i = refl
+sought_in place (p ∷ ps) i = go (same_place p place) (sought_in place ps (i + 1))
+  where
+    go : (b : Bool) → place_in place ps ≡ is_at (place_from place ps (i + 1))
+        → pick b true (place_in place ps) ≡ is_at (pick b (Some i) (place_from place ps (i + 1)))
+    go true e = refl
+    go false e = e
+
+module _ (place : ResourceBinding) (ps : List ResourceBinding) (f : Option ℕ) (e : f ≡ place_from place ps 0) where
+  pub place_found : (i : ℕ) → f ≡ Some i → true ≡ place_in place ps
+  place_found i h = rw (sought_in place ps 0, ← e, h)
+
+  pub place_lacks : f ≡ None → false ≡ place_in place ps
+  place_lacks h = rw (sought_in place ps 0, ← e, h)
