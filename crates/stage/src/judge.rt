@@ -88,7 +88,7 @@ fn after_inputs(
     let payload = payload_of(pack, parts);
     let input = stage_lists::stage_io::payload(inputs);
     let written = stage_lists::stage_io::primitive_index(inputs);
-    last_step(request, limits(pack), mesh, payload, input, written, walk)
+    last_step(request, limits(pack), mesh, payload, input, written, walk).into()
 }
 
 // The inputs, and what follows them.
