@@ -87,9 +87,7 @@ fn check_bindings(
 {
     let resources = ResourceTable::new(pack, offsets);
     let mut entries: [u8; 128] = [0; 128];
-    check_resources(
-        pack, parts, &resources, &mut entries, layout, sizes, codes,
-    )?;
+    check_resources(pack, parts, &resources, &mut entries, layout, sizes, codes)?;
     pair_step(pack, parts, &resources, &entries, layout, codes.mode == 1)
 }
 

@@ -5,4 +5,4 @@ pub returns-then-slots-ne0 : goal.returns-then-slots-ne0
 returns-then-slots-ne0 c = search behind_refused
 
 pub returns : goal.returns
-returns c = search behind_went
+returns c = rw c.into.ensures (search behind_went)
