@@ -9,6 +9,7 @@ ghost use Rattle.std.specs.Io.{ReadsAtMost};
 ghost use Rattle.std.specs.Io.KnownBytes.{Appends, Consumes, IsAtEnd};
 ghost use Rattle.report.specs.Report.{report};
 
+use report::report_text;
 use std::io;
 use std::io::{Read, Write};
 use std::process::ExitCode;
@@ -55,9 +56,8 @@ fn read_input<R: Read>(input: &mut R, room: &mut [u8]) -> io::Result<usize>
 fn print_report<W: Write>(output: &mut W, bytes: &[u8]) -> io::Result<()>
     ensures { OnOk result (Appends (W.contents output.old) (W.contents output.new) (report bytes.now)) }
 {
-    let mut text = [0u8; 12288];
-    let n = report::report_text(bytes, &mut text);
-    output.write_all(&text[..n])
+    let text = report_text(bytes);
+    output.write_all(text.as_slice())
 }
 
 // Says on standard error what failed. Where that cannot be written either, nobody is told.

@@ -1,5 +1,5 @@
 use Rattle.report.proofs.Running.{derived_answer_lem, derived_layout, derived_fed}
-use Rattle.report.proofs.run.derive.Goals as goal
+use Rattle.report.proofs.run.Run.derive.Goals as goal
 
 pub returns-clause-value : goal.returns-clause-value
 returns-clause-value c = search derived_answer_lem
