@@ -15,6 +15,7 @@ use std::io::{Read, Write};
 use std::process::ExitCode;
 
 // Reads until the room is full or the input ends, and answers how many bytes were read.
+// Each read gives as many bytes as it likes, so this is no counted loop.
 fn read_bytes<R: Read>(input: &mut R, room: &mut [u8]) -> io::Result<usize>
     ensures bound { ReadsAtMost result room.new }
     ensures bytes { IfOk result (λ n. Consumes (R.remaining input.old) (R.remaining input.new) (take n room.new)) }
