@@ -1,7 +1,7 @@
 // What the program that checks a pack prints: a line for each entry point and the layout words, or why the pack is refused.
 #![tactic(auto)]
 
-ghost use Rattle.std.specs.Prelude.{◌≡◌, ◌++◌};
+ghost use Rattle.std.specs.Prelude.{◌≡◌};
 ghost use Rattle.interface.specs.Format.{decode};
 ghost use Rattle.report.specs.Report.{refused_pack, decoded_text, report};
 

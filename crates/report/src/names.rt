@@ -1,5 +1,5 @@
 // The name of an entry point as bytes.
-ghost use Rattle.std.specs.Prelude.{◌≡◌, ◌*◌, ◌<◌, ◌≤◌, length};
+ghost use Rattle.std.specs.Prelude.{◌≡◌, ◌<◌, ◌≤◌, length};
 ghost use Rattle.arrayvec.specs.ArrayVec.{array_vec_len};
 ghost use Rattle.interface.specs.Format.{bytes_of};
 ghost use Rattle.interface.specs.Inner.Reads.{name_at};

@@ -1,10 +1,6 @@
 // What is asked of layout lists.
-ghost use Rattle.std.specs.Prelude.{◌≡◌, true, ◌<◌};
-ghost use Rattle.word.specs.Words.{bits};
-ghost use Rattle.bindings.specs.Format.{place_of, entry_well_formed};
-ghost use Rattle.layouts.specs.Meaning.{find_entry};
-ghost use Rattle.layouts.specs.Format.{layout_well_formed, decode_layout};
-ghost use Rattle.places.specs.declared.found.Found.TheVariants.{Nothing};
+ghost use Rattle.std.specs.Prelude.{◌≡◌, true};
+ghost use Rattle.layouts.specs.Format.{layout_well_formed};
 
 use crate::print;
 use bindings::binding_codes::{binding_code, least_size};
