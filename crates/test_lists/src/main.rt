@@ -82,11 +82,11 @@ fn answer(rt: &impl Print, list: &mut [u32], asked: Asked) -> io::Result<()> {
     }
 }
 
-fn case(rt: &(impl Print + AllocGlobal), input: &mut impl Read) -> io::Result<()> {
+fn case(rt: &impl Print, input: &mut impl Read) -> io::Result<()> {
     let asked = Asked::from(read::array::<5>(input)?);
     let count = read::next(input)?;
-    let mut list = read::words(rt.alloc(), input, count)?;
-    let old = list.clone()?;
+    let mut list = read::words::<1032>(input, count)?;
+    let old = list.clone().unwrap();
     answer(rt, &mut list, asked)?;
     test_text::print::changes(rt, &old, &list, "", " ")?;
     println!(rt)

@@ -1,49 +1,49 @@
 // A case: what stands on a line of the input.
-use std::alloc::{AllocError, AllocFailed, Global};
-use std::num::ParseIntError;
+ghost use Rattle.std.specs.Prelude.{◌≤◌};
+
+use arrayvec::ArrayVec;
+use std::str;
+
+// A list, with space for a little more than a call takes.
+pub(crate) type List = ArrayVec<u32, 1040>;
 
 #[derive(Drop)]
 pub(crate) struct Case {
-    pub(crate) types: Vec<u32>,
+    pub(crate) types: List,
     pub(crate) asked: u32,
-    pub(crate) binding: Vec<u32>,
-    pub(crate) out: Vec<u32>,
+    pub(crate) binding: List,
+    pub(crate) out: List,
 }
 
-// Why a line gives no case.
-#[derive(Clone, Copy)]
-pub(crate) enum Fault {
-    Form,
-    Memory(AllocError),
-}
-
-impl From<ParseIntError> for Fault {
-    fn from(_e: ParseIntError) -> Fault {
-        Fault::Form
-    }
-}
-
-impl<T: Drop> From<AllocFailed<T>> for Fault {
-    fn from(e: AllocFailed<T>) -> Fault {
-        Fault::Memory(AllocError::from(e))
+// A number in digits and small letters; a sign or a capital letter, which `from_str_radix` takes too, is none.
+fn number(text: &str, radix: u32) -> Option<u32>
+    requires { (2 ≤ radix) × (radix ≤ 36) }
+{
+    if text
+        .bytes()
+        .all(|b| b.is_ascii_digit() || b.is_ascii_lowercase())
+    {
+        u32::from_str_radix(text, radix).ok()
+    } else {
+        None
     }
 }
 
 // Words in hex joined by commas, or the mark of none.
-fn list(alloc: Global, text: &str) -> Result<Vec<u32>, Fault> {
-    let mut list = Vec::new(alloc);
+fn list(text: &str) -> Option<List> {
+    let mut list = ArrayVec::new();
     if text == "-" {
-        return Ok(list);
+        return Some(list);
     }
     for word in text.split(',') {
-        list.push(u32::from_str_radix(word, 16)?)?;
+        list.try_push(number(word, 16)?).ok()?;
     }
-    Ok(list)
+    Some(list)
 }
 
 // The case of a line, `populate TYPES ASKED BINDING OUT`.
-pub(crate) fn read(alloc: Global, line: &str) -> Result<Case, Fault> {
-    let mut fields = line.split(' ');
+pub(crate) fn read(line: &[u8]) -> Option<Case> {
+    let mut fields = str::from_utf8(line).ok()?.split(' ');
     let (Some("populate"), Some(types), Some(asked), Some(binding), Some(out), None) = (
         fields.next(),
         fields.next(),
@@ -52,12 +52,12 @@ pub(crate) fn read(alloc: Global, line: &str) -> Result<Case, Fault> {
         fields.next(),
         fields.next(),
     ) else {
-        return Err(Fault::Form);
+        return None;
     };
-    Ok(Case {
-        types: list(alloc, types)?,
-        asked: asked.parse::<u32>()?,
-        binding: list(alloc, binding)?,
-        out: list(alloc, out)?,
+    Some(Case {
+        types: list(types)?,
+        asked: number(asked, 10)?,
+        binding: list(binding)?,
+        out: list(out)?,
     })
 }

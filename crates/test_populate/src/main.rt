@@ -1,14 +1,19 @@
 // Makes recorded calls of `populate_types` and prints an answer a line, to be held to what the Rust answered; oracle/README.md has the form
 // of both, `populate TYPES ASKED BINDING OUT` and `NUMBER D1 D2 D3 OUT`, and says how they are made.
-// A line that is no such case is answered `bad`.
+// A line that is no such case, or has more than there is space for, is answered `bad`.
 #![tactic(auto)]
 
-use crate::case::{Case, Fault, read};
+use crate::case::{Case, read};
+use arrayvec::ArrayVec;
 use populate::call::populate_types;
 use std::io;
+use std::io::Read;
 use word::answer::Answer;
 
 mod case;
+
+// Room for the longest line; three of the longest lists fit.
+type Line = ArrayVec<u8, 0x8000>;
 
 // The words of a list, joined by commas.
 fn words(rt: &impl Print, list: &[u32]) -> io::Result<()> {
@@ -41,17 +46,33 @@ fn answer(rt: &impl Print, case: Case) -> io::Result<()> {
     println!(rt)
 }
 
-fn on_line(rt: &(impl Print + AllocGlobal), line: &str) -> io::Result<()> {
-    match read(rt.alloc(), line) {
-        Ok(case) => answer(rt, case),
-        Err(Fault::Form) => println!(rt; "bad"),
-        Err(Fault::Memory(e)) => Err(io::Error::from(e)),
+// Where the line fills the space, it may have had more bytes.
+fn on_line(rt: &impl Print, line: &Line) -> io::Result<()> {
+    if line.is_full() {
+        return println!(rt; "bad");
+    }
+    match read(line.as_slice()) {
+        Some(case) => answer(rt, case),
+        None => println!(rt; "bad"),
     }
 }
 
+// A line ends at a newline, at a byte 0 or at the end of the input; an empty one that no newline ends is the last.
 fn main(rt: HostRuntime) -> io::Result<()> {
-    for line in rt.lines(rt.alloc()) {
-        on_line(&rt, line?.as_str())?;
+    let mut line = Line::new();
+    for byte in rt.stdin().bytes() {
+        match byte? {
+            0 if line.is_empty() => return Ok(()),
+            0 | b'\n' => {
+                on_line(&rt, &line)?;
+                line.clear();
+            }
+            b if !line.is_full() => line.push(b),
+            _ => {}
+        }
     }
-    Ok(())
+    if line.is_empty() {
+        return Ok(());
+    }
+    on_line(&rt, &line)
 }

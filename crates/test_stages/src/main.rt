@@ -11,6 +11,12 @@ use std::io;
 use std::io::Read;
 use test_text::{print, read};
 
+// Words for the longest lent list, a little past what document 01 takes.
+const MOST: usize = 1040;
+
+// Words for the longest pack, likewise.
+const PACK: usize = 4200;
+
 // What changed in a list.
 fn changes(rt: &impl Print, before: &[u32], after: &[u32]) -> io::Result<()> {
     print!(rt; " ;")?;
@@ -19,21 +25,21 @@ fn changes(rt: &impl Print, before: &[u32], after: &[u32]) -> io::Result<()> {
 
 // Reads the lists and the name of a stage check; prints its answer, and what it changed.
 fn stage_case(
-    rt: &(impl Print + AllocGlobal),
+    rt: &impl Print,
     input: &mut impl Read,
     pack: &[u32],
     lengths: [u32; 5],
     codes: Codes,
 ) -> io::Result<()> {
     let [layout, sizes, inputs, out, name] = lengths;
-    let mut layout = read::words(rt.alloc(), input, layout)?;
-    let mut sizes = read::words(rt.alloc(), input, sizes)?;
-    let inputs = read::words(rt.alloc(), input, inputs)?;
-    let mut out = read::words(rt.alloc(), input, out)?;
-    let name = read::bytes(rt.alloc(), input, name)?;
-    let old_layout = layout.clone()?;
-    let old_sizes = sizes.clone()?;
-    let old_out = out.clone()?;
+    let mut layout = read::words::<MOST>(input, layout)?;
+    let mut sizes = read::words::<MOST>(input, sizes)?;
+    let inputs = read::words::<MOST>(input, inputs)?;
+    let mut out = read::words::<MOST>(input, out)?;
+    let name = read::bytes::<128>(input, name)?;
+    let old_layout = layout.clone().unwrap();
+    let old_sizes = sizes.clone().unwrap();
+    let old_out = out.clone().unwrap();
     let answer = check_stage(
         pack,
         &mut layout,
@@ -49,7 +55,7 @@ fn stage_case(
     changes(rt, &old_out, &out)
 }
 
-fn case(rt: &(impl Print + AllocGlobal), input: &mut impl Read) -> io::Result<()> {
+fn case(rt: &impl Print, input: &mut impl Read) -> io::Result<()> {
     let [
         sort,
         pack,
@@ -64,7 +70,7 @@ fn case(rt: &(impl Print + AllocGlobal), input: &mut impl Read) -> io::Result<()
         dual_source,
         depth,
     ] = read::array::<12>(input)?;
-    let pack = read::words(rt.alloc(), input, pack)?;
+    let pack = read::words::<PACK>(input, pack)?;
     match sort {
         0 => {
             let codes = Codes {

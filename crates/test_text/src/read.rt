@@ -1,5 +1,5 @@
 // Words and bytes from standard input; behind its end they are 0.
-use std::alloc::Global;
+use arrayvec::ArrayVec;
 use std::io;
 use std::io::{ErrorKind, Read};
 
@@ -27,19 +27,20 @@ pub fn array<const N: usize>(input: &mut impl Read) -> io::Result<[u32; N]> {
     Ok(words)
 }
 
-// So many words.
-pub fn words(alloc: Global, input: &mut impl Read, count: u32) -> io::Result<Vec<u32>> {
-    let mut words = Vec::new(alloc);
-    for _ in 0..count {
-        words.push(next(input)?)?;
+// So many words, at most N.
+pub fn words<const N: usize>(input: &mut impl Read, count: u32) -> io::Result<ArrayVec<u32, N>> {
+    let mut words = ArrayVec::from([0; N]);
+    words.truncate(count as usize);
+    for w in words.iter_mut() {
+        *w = next(input)?;
     }
     Ok(words)
 }
 
-// So many bytes.
-pub fn bytes(alloc: Global, input: &mut impl Read, count: u32) -> io::Result<Vec<u8>> {
-    let mut bytes = Vec::new(alloc);
-    bytes.resize(count as usize, 0)?;
+// So many bytes, at most N.
+pub fn bytes<const N: usize>(input: &mut impl Read, count: u32) -> io::Result<ArrayVec<u8, N>> {
+    let mut bytes = ArrayVec::from([0; N]);
+    bytes.truncate(count as usize);
     fill(input, &mut bytes)?;
     Ok(bytes)
 }
