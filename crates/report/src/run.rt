@@ -83,7 +83,7 @@ impl Run {
             dual_source: 0,
             depth: 1,
         };
-        let a = check_stage(
+        let outcome = check_stage(
             pack,
             &mut self.layout,
             &mut sizes,
@@ -92,6 +92,7 @@ impl Run {
             name.as_slice(),
             codes,
         );
+        let a = Answer::from(outcome);
         self.feed(a.number, &out);
         a
     }

@@ -40,7 +40,7 @@ fn answer(rt: &impl Print, case: Case) -> io::Result<()> {
         first,
         second,
         third,
-    } = populate_types(&types, asked, &binding, &mut out);
+    } = Answer::from(populate_types(&types, asked, &binding, &mut out));
     print!(rt; "{number} {first:x} {second:x} {third:x} ")?;
     words(rt, &out)?;
     println!(rt)
