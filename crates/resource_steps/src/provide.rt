@@ -22,7 +22,7 @@ use word::{content, numbers};
 use word_rules::uses::words_use;
 
 // Records the size that a buffer asks for; a list without room is 5.
-fn record_buffer(place: u32, w: u32, size: u64, next: &mut [u16; 1], sizes: &mut [u32]) -> Answer
+fn record_buffer(place: u32, w: u32, size: u64, next: &mut usize, sizes: &mut [u32]) -> Answer
     requires sizes_value { sizes_well_formed sizes.old ≡ true }
     requires size_value { type_encodable (resource_type_of w size) ≡ true }
     ensures sizes_after { sizes_after result (decode_sizes sizes.new)
@@ -82,7 +82,7 @@ fn provide_step(
     near: usize,
     stage: ShaderStage,
     entries: &mut [u8; 128],
-    next: &mut [u16; 1],
+    next: &mut usize,
     layout: &[u32],
     sizes: &mut [u32],
 ) -> Answer
@@ -134,7 +134,7 @@ pub fn provide_steps(
     let mut at = from;
     let mut passed: u32 = 0;
     let mut near: usize = 0;
-    let mut next: [u16; 1] = [0; 1];
+    let mut next: usize = 0;
     while passed != n {
         let i = content(pack[at]);
         let a = provide_step(
