@@ -1,4 +1,4 @@
-use Rattle.resource_steps.proofs.DeriveLaws.{type_words, new_well_formed, new_fits, new_lacks, vacant_pushed, vacant_full, new_small}
+use Rattle.resource_steps.proofs.DeriveLaws.{type_words, new_well_formed, new_fits, new_lacks, vacant_pushed, new_small}
 use Rattle.resource_steps.proofs.derive.vacant.Goals as goal
 
 pub push_entry-pushed-requires-clause-parts : goal.push_entry-pushed-requires-clause-parts
@@ -9,9 +9,6 @@ push_entry-pushed-requires-clause-fits c = search (new_fits, type_words c.args.t
 
 pub push_entry-pushed-requires-clause-place_free : goal.push_entry-pushed-requires-clause-place_free
 push_entry-pushed-requires-clause-place_free c = search (new_lacks, type_words c.args.ty)
-
-pub returns-then-not-pushed-clause-layout_after : goal.returns-then-not-pushed-clause-layout_after
-returns-then-not-pushed-clause-layout_after c = search (vacant_full, type_words c.args.ty)
 
 pub returns-clause-layout_after : goal.returns-clause-layout_after
 returns-clause-layout_after c = search (vacant_pushed, type_words c.args.ty)
