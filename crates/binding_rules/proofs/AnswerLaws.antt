@@ -10,7 +10,9 @@ use borrow.Author.Tests.{eq-eqb, ne_eqb, not-true, not-false}
 use Rattle.std.proofs.Common.{Result, Ok, Err}
 use Rattle.word.specs.Choice.{pick}
 use Rattle.word.specs.Words.{of_kind}
-use Rattle.word.specs.Parse.{Parsed, fault, got, nowhere, from, behind, rest_at}
+use Rattle.std.specs.Prelude.{Option, Some, None, IfSome, ◌<◌}
+use Rattle.std.specs.Option.{option_eq}
+use Rattle.word.specs.Parse.{Parsed, fault, got, nowhere, from, behind, rest_of}
 use Rattle.word.specs.Answers.{answer, accepted, refused}
 use Rattle.word.specs.declared.answer.Answer.{Answer}
 use Rattle.bindings.specs.Rules.{check_binding_use, use_number, error_number, derive_binding_type}
@@ -31,45 +33,35 @@ Alone ws b = (k : Resource → Answer) → only_resource (read_resource ws) k �
 abbrev pub EntryAlone : List ℕ → Bool → Type 0
 EntryAlone ws b = (k : BindGroupLayoutEntry → Answer) → only_entry ws k ≡ pick b (k (entry_at ws 0)) (refused 3)
 
--- a position that is not the start is somewhere
-somewhere : {P : Type 0} (ws : List ℕ) (n : ℕ) → (n ≡ 0 → ⊥) → rest_at ws n ≡ nowhere → P
-somewhere ws zero h e = absurd (h refl)
-somewhere ws (suc n) h e = let z : ◌≡◌ {A = ℕ} 0 1 = cc in absurd (omega arith)
+unread : (ws : List ℕ) (k : Resource → Answer) (p : Parsed Resource) → nowhere ≡ behind p → only_resource p k ≡ refused 2
+unread ws k fault e = refl
+unread ws k (got r rest) e = let z : ◌≡◌ {A = ℕ} 0 1 = cc in absurd (omega arith)
 
-there : (ws : List ℕ) (n : ℕ) (rest : List ℕ) → rest_at ws n ≡ from rest → drop n ws ≡ rest
-there ws zero rest e = let z : ◌≡◌ {A = ℕ} 0 1 = cc in absurd (omega arith)
-there ws (suc n) rest e = cc
-
-none_read : (ws : List ℕ) (k : Resource → Answer) (p : Parsed Resource) → nowhere ≡ behind p → only_resource p k ≡ refused 2
-none_read ws k fault e = refl
-none_read ws k (got r rest) e = let z : ◌≡◌ {A = ℕ} 0 1 = cc in absurd (omega arith)
-
-pub alone_none : (ws : List ℕ) (n : ℕ) → rest_at ws n ≡ behind (read_resource (drop 0 ws)) → n ≡ 0 → Alone ws false
-alone_none ws n e z k = none_read ws k (read_resource ws) (rw z at e)
-
-one_read : (ws : List ℕ) (n : ℕ) (k : Resource → Answer) (p : Parsed Resource) → read_resource ws ≡ p → rest_at ws n ≡ behind p → (n ≡ 0 → ⊥) → n ≤ length ws
+read_to : (ws : List ℕ) (n : ℕ) (k : Resource → Answer) (p : Parsed Resource) → read_resource ws ≡ p → from (drop n ws) ≡ behind p → n ≤ length ws
     → only_resource p k ≡ pick (eqb n (length ws)) (k (resource_at ws 0)) (refused 2)
-one_read ws n k fault q e h l = somewhere ws n h e
-one_read ws n k (got r []) q e h l =
-    let d : drop n ws ≡ [] = there ws n [] e in
+read_to ws n k fault q e l = let z : ◌≡◌ {A = ℕ} 0 1 = cc in absurd (omega arith)
+read_to ws n k (got r []) q e l =
+    let d : drop n ws ≡ [] = cc in
     rw (eq-eqb n (length ws) (omega (arith, length-drop n ws, ap length d)), read_at ws r [] q)
-one_read ws n k (got r (w ∷ rest)) q e h l =
-    let d : drop n ws ≡ w ∷ rest = there ws n (w ∷ rest) e in
+read_to ws n k (got r (w ∷ rest)) q e l =
+    let d : drop n ws ≡ w ∷ rest = cc in
     let m : length ws - n ≡ suc (length rest) = sym (length-drop n ws) ∙ ap length d in
     rw (ne_eqb n (length ws) (λ z. omega arith))
 
-pub alone_ends : (ws : List ℕ) (n : ℕ) → rest_at ws n ≡ behind (read_resource (drop 0 ws)) → (n ≡ 0 → ⊥) → n ≤ length ws → Alone ws (eqb n (length ws))
-alone_ends ws n e h l k = one_read ws n k (read_resource ws) refl e h l
+encodable_read : (ws l : List ℕ) (p : Parsed Resource) → read_resource ws ≡ p → from l ≡ behind p → resource_encodable (resource_at ws 0) ≡ true
+encodable_read ws l fault q e = let z : ◌≡◌ {A = ℕ} 0 1 = cc in absurd (omega arith)
+encodable_read ws l (got r rest) q e = ap resource_encodable (sym (read_at ws r rest q)) ∙ read_encodable ws r rest q
 
-encodable_read : (ws : List ℕ) (n : ℕ) (p : Parsed Resource) → read_resource ws ≡ p → rest_at ws n ≡ behind p → (n ≡ 0 → ⊥) → resource_encodable (resource_at ws 0) ≡ true
-encodable_read ws n fault q e h = somewhere ws n h e
-encodable_read ws n (got r rest) q e h = ap resource_encodable (sym (read_at ws r rest q)) ∙ read_encodable ws r rest q
+-- the position behind a resource, if there is one, is the end or not
+pub alone_ends : (ws : List ℕ) (r : Option ℕ) (b : Bool) → b ≡ option_eq eqb r (Some (length ws)) → rest_of ws r ≡ behind (read_resource ws)
+    → IfSome r (λ n. (0 < n) × (n ≤ length ws)) → Alone ws b
+alone_ends ws None b t e h k = rw t (unread ws k (read_resource ws) e)
+alone_ends ws (Some n) b t e h k = rw t (read_to ws n k (read_resource ws) refl e h.1)
 
-pub alone_encodable : (ws : List ℕ) (n : ℕ) (b : Bool) → rest_at ws n ≡ behind (read_resource (drop 0 ws)) → (n ≡ 0 → ⊥) → b ≡ true → resource_encodable (resource_at ws 0) ≡ true
-alone_encodable ws n b e h t = encodable_read ws n (read_resource ws) refl e h
-
-pub none_encodable : (ws : List ℕ) → false ≡ true → resource_encodable (resource_at ws 0) ≡ true
-none_encodable ws t = never false t refl
+pub alone_encodable : (ws : List ℕ) (r : Option ℕ) (b : Bool) → b ≡ option_eq eqb r (Some (length ws)) → rest_of ws r ≡ behind (read_resource ws)
+    → b ≡ true → resource_encodable (resource_at ws 0) ≡ true
+alone_encodable ws None b t e u = never false (sym t ∙ u) refl
+alone_encodable ws (Some n) b t e u = encodable_read ws (drop n ws) (read_resource ws) refl e
 
 -- ---- the answers
 

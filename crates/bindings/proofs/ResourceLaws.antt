@@ -5,7 +5,7 @@ use lib.ListN.{get_or-eq_default}
 use borrow.Author.Tests.{not-true, not-false}
 use Rattle.word.specs.Choice.{pick}
 use Rattle.word.specs.Words.{word_at, content_of}
-use Rattle.word.specs.Parse.{Parsed, fault, got, next, one, nowhere, from, behind, rest_at}
+use Rattle.word.specs.Parse.{Parsed, fault, got, next, one, Rest, nowhere, from, behind}
 use Rattle.bindings.specs.Format.{place_well_formed, place_of, resource_word_well_formed}
 use Rattle.bindings.specs.Format.{size_well_formed, resource_type_of, is_buffer_word, resource, read_resource, resource_at}
 use Rattle.bindings.specs.declared.types.ResourceBinding.{ResourceBinding}
@@ -21,25 +21,6 @@ sized : (b : Bool) (size : Parsed ℕ) (rest : List ℕ) (k : ℕ → Resource) 
 sized true fault rest k r = refl
 sized true (got s rest') rest k r = refl
 sized false size rest k r = refl
-
-at_from : (ws : List ℕ) (at : ℕ) → 0 < at → rest_at ws at ≡ from (drop at ws)
-at_from ws zero h = absurd (omega arith)
-at_from ws (suc n) h = refl
-
--- the size that a buffer has
-module _ (ws : List ℕ) (at w : ℕ) (b : Bool) (be : b ≡ is_buffer_word w) where
-  pub size_none : 0 < at → not b ≡ true → rest_at ws at ≡ pick (is_buffer_word w) (behind (one size_well_formed (drop at ws))) (from (drop at ws))
-  size_none h n = rw (← be, not-true b n) (at_from ws at h)
-
-  pub size_past : not b ≡ false → length ws ≤ at → nowhere ≡ pick (is_buffer_word w) (behind (one size_well_formed (drop at ws))) (from (drop at ws))
-  size_past n h = rw (← be, not-false b n, drop_of_length-le ws h)
-
-  module _ (s : ℕ) (g : Bool) (n : not b ≡ false) (h : at < length ws) (se : s ≡ word_at ws at) (ge : g ≡ size_well_formed s) where
-    pub size_bad : not g ≡ true → nowhere ≡ pick (is_buffer_word w) (behind (one size_well_formed (drop at ws))) (from (drop at ws))
-    size_bad m = rw (← be, not-false b n, drop-cons ws at 0 h, ← se, ← ge, not-true g m)
-
-    pub size_good_lem : not g ≡ false → rest_at ws (at + 1) ≡ pick (is_buffer_word w) (behind (one size_well_formed (drop at ws))) (from (drop at ws))
-    size_good_lem m = rw (← be, not-false b n, drop-cons ws at 0 h, ← se, ← ge, not-false g m, add-one)
 
 module _ (ws : List ℕ) (at : ℕ) where
   none_left : length ws ≤ at → drop at ws ≡ []
@@ -68,16 +49,13 @@ module _ (ws : List ℕ) (at : ℕ) where
       unfolding read_resource
       next_no_type n = rw (two_left h, ← pe, ← be, not-false b bt, ← te, ← ce, not-true c n)
 
-      pub next_sized : (r : ℕ) → not c ≡ false
-          → rest_at ws r ≡ pick (is_buffer_word t) (behind (one size_well_formed (drop (at + 2) ws))) (from (drop (at + 2) ws))
-          → rest_at ws r ≡ behind (read_resource (drop at ws))
+      pub next_sized : (r : Rest) → not c ≡ false
+          → r ≡ pick (is_buffer_word t) (behind (one size_well_formed (drop (at + 2) ws))) (from (drop (at + 2) ws))
+          → r ≡ behind (read_resource (drop at ws))
       unfolding read_resource
       next_sized r n e =
           let behind_size = sized (is_buffer_word t) (one size_well_formed (drop (at + 2) ws)) (drop (at + 2) ws) (λ s. resource p t (content_of s)) (resource p t 0) in
           rw (two_left h, ← pe, ← be, not-false b bt, ← te, ← ce, not-false c n) (e ∙ behind_size)
-
-pub next_later : (at r : ℕ) → ((r ≡ 0 → ⊥) → at + 2 ≤ r) → (r ≡ 0 → ⊥) → at < r
-next_later at r h n = omega (arith, h n)
 
 pub resource_parts : (place w size : ℕ) (bind : ResourceBinding) (ty : ResourceType) → bind ≡ place_of place → ty ≡ resource_type_of w size
     → record { bind = bind; ty = ty } ≡ resource place w size

@@ -8,7 +8,7 @@ use crate::types::{BindingType, BufferBindingType, TextureSampleType};
 
 #[tactic(auto, using(crate::proofs::CodeLaws::flag_byte))]
 fn buffer_code(ty: BufferBindingType) -> u64
-    ensures value { result ≡ buffer_code ty }
+    ensures meaning { result ≡ buffer_code ty }
     ensures upper_bound { result ≤ 3 }
 {
     match ty {
@@ -18,7 +18,7 @@ fn buffer_code(ty: BufferBindingType) -> u64
 }
 
 fn sample_code(sample_type: TextureSampleType) -> u64
-    ensures value { result ≡ sample_code sample_type }
+    ensures meaning { result ≡ sample_code sample_type }
     ensures upper_bound { result ≤ 4 }
 {
     match sample_type {
@@ -33,7 +33,7 @@ fn sample_code(sample_type: TextureSampleType) -> u64
 // The type's bits of a binding type.
 #[tactic(auto, using(crate::proofs::CodeLaws::flag_byte), unfolding(crate::specs::Format::binding_code))]
 pub fn binding_code(ty: BindingType) -> u64
-    ensures value { result ≡ binding_code ty }
+    ensures meaning { result ≡ binding_code ty }
     ensures upper_bound { result ≤ 0x200_0000_0000 }
 {
     match ty {

@@ -1,7 +1,7 @@
 // How words carry places and resources.
-ghost use Rattle.std.specs.Prelude.{◌≡◌, ◌^◌, ◌<◌, ◌≤◌, true, length, drop, ◌≢◌};
+ghost use Rattle.std.specs.Prelude.{◌≡◌, ◌^◌, ◌<◌, ◌≤◌, true, length, drop, IfSome};
 ghost use Rattle.word.specs.Choice.{pick};
-ghost use Rattle.word.specs.Parse.{one, from, behind, rest_at};
+ghost use Rattle.word.specs.Parse.{one, from, behind, rest_of};
 ghost use Rattle.bindings.specs.Rules.{storable};
 ghost use Rattle.bindings.specs.Format.{place_well_formed, place_of, place_encodable, dimension_at, sample_kind_at, space_at, buffer_well_formed, storage_well_formed};
 ghost use Rattle.bindings.specs.Format.{resource_type_well_formed, resource_word_well_formed, size_well_formed, is_buffer_word, texture, resource_type_of, resource, read_resource, resource_at};
@@ -163,41 +163,33 @@ fn is_buffer(w: u32) -> bool
 }
 
 // The position behind the size that a buffer has and another resource has not.
-fn size_next(body: &[u32], at: usize, w: u32) -> usize
-    requires { (0 < at) × (at ≤ length body.now) }
-    ensures result_value { rest_at body.now result
+fn size_next(body: &[u32], at: usize, w: u32) -> Option<usize>
+    requires { at ≤ length body.now }
+    ensures rest { rest_of body.now result
         ≡ pick (is_buffer_word w) (behind (one size_well_formed (drop at body.now))) (from (drop at body.now)) }
-    ensures upper_bound { result ≤ length body.now }
-    ensures lower_bound { (result ≢ 0) → at ≤ result }
+    ensures end { IfSome result (λ next. (at ≤ next) × (next ≤ length body.now)) }
 {
     if !is_buffer(w) {
-        return at;
+        return Some(at);
     }
-    if body.len() <= at {
-        return 0;
+    if body.len() <= at || !size_well_formed(body[at]) {
+        return None;
     }
-    if !size_well_formed(body[at]) {
-        return 0;
-    }
-    at + 1
+    Some(at + 1)
 }
 
-// The position behind the resource that stands at a position, 0 where none does.
-pub fn resource_next(body: &[u32], at: usize) -> usize
+// The position behind the resource that stands at a position, if one does.
+pub fn resource_next(body: &[u32], at: usize) -> Option<usize>
     requires { at ≤ length body.now }
-    ensures result_value { rest_at body.now result ≡ behind (read_resource (drop at body.now)) }
-    ensures upper_bound { result ≤ length body.now }
-    ensures lower_bound { (result ≢ 0) → at < result }
+    ensures rest { rest_of body.now result ≡ behind (read_resource (drop at body.now)) }
+    ensures end { IfSome result (λ next. (at < next) × (next ≤ length body.now)) }
 {
-    if body.len() - at < 2 {
-        return 0;
-    }
-    if !place_well_formed(body[at]) {
-        return 0;
+    if body.len() - at < 2 || !place_well_formed(body[at]) {
+        return None;
     }
     let w = body[at + 1];
     if !resource_word_well_formed(w) {
-        return 0;
+        return None;
     }
     size_next(body, at + 2, w)
 }

@@ -70,8 +70,8 @@ pub extern "C" fn bokwingi_check_stage(
         dual_source,
         depth,
     };
-    let a = check_stage(pack, layout, sizes, inputs, out, name, codes);
-    hand_out(a, details)
+    let outcome = check_stage(pack, layout, sizes, inputs, out, name, codes);
+    hand_out(Answer::from(outcome), details)
 }
 
 // Chooses the entry point of a stage where no name is given: its position among all is the first detail.
@@ -79,7 +79,7 @@ pub extern "C" fn bokwingi_check_stage(
 pub extern "C" fn bokwingi_entry_point(pack: &[u32], stage: u32, details: &mut [u32]) -> u32
     ensures { Handed (finalize_name (decode pack.now) stage) result details.old details.new }
 {
-    hand_out(finalize_entry_point_name(pack, stage), details)
+    hand_out(Answer::from(finalize_entry_point_name(pack, stage)), details)
 }
 
 // The type of a vertex format, as a lone type word in the first detail.
@@ -87,7 +87,7 @@ pub extern "C" fn bokwingi_entry_point(pack: &[u32], stage: u32, details: &mut [
 pub extern "C" fn bokwingi_vertex_format(code: u32, details: &mut [u32]) -> u32
     ensures { Handed (format_answer (vertex_format code)) result details.old details.new }
 {
-    hand_out(vertex_format(code), details)
+    hand_out(Answer::from(vertex_format(code)), details)
 }
 
 // The type of a texture format, as a lone type word in the first detail.
@@ -95,7 +95,7 @@ pub extern "C" fn bokwingi_vertex_format(code: u32, details: &mut [u32]) -> u32
 pub extern "C" fn bokwingi_texture_format(code: u32, details: &mut [u32]) -> u32
     ensures { Handed (format_answer (texture_format code)) result details.old details.new }
 {
-    hand_out(texture_format(code), details)
+    hand_out(Answer::from(texture_format(code)), details)
 }
 
 // Whether a texture format is covered by the type, a lone type word, that a shader writes.
@@ -107,7 +107,7 @@ pub extern "C" fn bokwingi_check_texture_format(
 ) -> u32
     ensures { Handed (check_texture_format (texture_format format) (read_type output)) result details.old details.new }
 {
-    hand_out(check_texture_format(format, output), details)
+    hand_out(Answer::from(check_texture_format(format, output)), details)
 }
 
 // Whether one lone type is below another: 1, 0, or 82 where one of them is no type.
@@ -130,6 +130,6 @@ pub extern "C" fn bokwingi_populate(
     ensures handed { Handed (populate_call types.now asked binding.now out.old).0 result details.old details.new }
     ensures out_after { out.new ≡ (populate_call types.now asked binding.now out.old).1 }
 {
-    let a = populate_types(types, asked, binding, out);
-    hand_out(a, details)
+    let outcome = populate_types(types, asked, binding, out);
+    hand_out(Answer::from(outcome), details)
 }

@@ -1,90 +1,23 @@
 -- A name's bytes, word after word, and their comparison with others.
-use Prim.Native.Nat.{ℕ, zero, suc, ◌+◌, ◌-◌, ◌*◌, ◌/◌, ◌%◌, ◌<◌, ◌≤◌}
+use Prim.Native.Nat.{ℕ, zero, suc, ◌+◌, ◌*◌, ◌/◌, ◌%◌, ◌<◌, ◌≤◌}
 use native.Mathlib.Omega.{arith}
-use native.Mathlib.Nat.{add-zero, sub-zero}
 use native.Mathlib.Numerals.{add-one}
 use mathlib.Core.Path.{◌≡◌, refl, sym, ap, ◌∙◌}
-use mathlib.Core.Bool.{Bool, true, false, not}
+use mathlib.Core.Bool.{Bool, true, false}
 use mathlib.Core.List.{List, [], ◌∷◌}
-use borrow.Author.Tests.{not-true, not-false}
-use lib.ListN.{length, get_or, take, drop, length-drop, drop_of_length-le, take-append-drop}
-use lib.Seq.{take_all, drop-cons, drop-drop, length-take-le}
+use lib.ListN.{length, get_or, take, drop, length-drop, drop_of_length-le}
+use lib.Seq.{drop-cons, length-take-le, get_or-take, get_or-drop}
+use Rattle.std.specs.Int.{to_le_bytes}
+use mir.Syntax.{w32}
+use borrow.Author.Tests.{eq-eqb, ne_eqb}
+use lib.Dec.{eqb}
 use Rattle.word.specs.Choice.{pick}
 use Rattle.word.specs.Words.{word_at, bits}
 use Rattle.interface.specs.Format.{bytes_of, name_words, same_bytes}
 use Rattle.interface.specs.Inner.Reads.{name_at}
 use Rattle.interface.specs.Inner.Parts.{workgroup_at}
-use Rattle.entry_check.specs.Inner.Walks.{first_words, name_of, same_first}
-use Rattle.word.proofs.Parse.{first_of, others_of}
-use Rattle.entry_check.proofs.CheckHeads.{last_byte, name_long, name_step, other_length}
-use Rattle.interface.proofs.EncodeNames.{Bytes, bytes_long}
-
--- ---- bytes put together
-
--- a word made of four bytes has these
-packed : (r a b c d : ℕ) → a < 256 → b < 256 → c < 256 → d < 256 → r ≡ a + 256 * b + 65536 * c + 16777216 * d → bytes_of (r ∷ []) ≡ a ∷ b ∷ c ∷ d ∷ []
-unfolding bytes_of
-packed r a b c d ha hb hc hd e = let w : Bytes r a b c d = omega arith in rw (w.first_byte, w.second_byte, w.third_byte, w.fourth_byte)
-
--- a name's bytes from a position on, one after the other
-take_next : (m : ℕ) (l : List ℕ) (k : ℕ) → k < length l → take (suc m) (drop k l) ≡ get_or l k 0 ∷ take m (drop (k + 1) l)
-take_next m l k h = rw (drop-cons l k 0 h, add-one k)
-
--- the word of one, two, three and four of them
-module _ (name : List ℕ) (k count a : ℕ) (h : k + count ≤ length name) (ha : a ≡ get_or name k 0) (la : a < 256) where
-  pub word_1 : count ≡ 1 → take count (bytes_of (a ∷ [])) ≡ take count (drop k name)
-  word_1 e = rw (e, packed a a 0 0 0 la (omega arith) (omega arith) (omega arith) (omega arith), take_next 0 name k (omega arith), ha)
-
-  module _ (b : ℕ) (hb : b ≡ get_or name (k + 1) 0) (lb : b < 256) where
-    pub word_2 : count ≡ 2 → take count (bytes_of ((a + 256 * b) ∷ [])) ≡ take count (drop k name)
-    word_2 e =
-        rw (
-          e,
-          packed (a + 256 * b) a b 0 0 la lb (omega arith) (omega arith) (omega arith),
-          take_next 1 name k (omega arith),
-          take_next 0 name (k + 1) (omega arith),
-          ha,
-          hb,
-        )
-
-    module _ (c : ℕ) (hc : c ≡ get_or name (k + 2) 0) (lc : c < 256) where
-      pub word_3 : count ≡ 3 → take count (bytes_of ((a + 256 * b + 65536 * c) ∷ [])) ≡ take count (drop k name)
-      word_3 e =
-          let x : k + 1 + 1 ≡ k + 2 = omega arith in
-          rw (
-            e,
-            packed (a + 256 * b + 65536 * c) a b c 0 la lb lc (omega arith) (omega arith),
-            take_next 2 name k (omega arith),
-            take_next 1 name (k + 1) (omega arith),
-            x,
-            take_next 0 name (k + 2) (omega arith),
-            ha,
-            hb,
-            hc,
-          )
-
-      pub word_4 : (d : ℕ) → d ≡ get_or name (k + 3) 0 → d < 256 → (count ≡ 1 → ⊥) → (count ≡ 2 → ⊥) → (count ≡ 3 → ⊥) → 1 ≤ count → count ≤ 4
-          → take count (bytes_of ((a + 256 * b + 65536 * c + 16777216 * d) ∷ [])) ≡ take count (drop k name)
-      word_4 d hd ld m n o low high =
-          let e : count ≡ 4 = omega arith in
-          let x : k + 1 + 1 ≡ k + 2 = omega arith in
-          let y : k + 2 + 1 ≡ k + 3 = omega arith in
-          rw (
-            e,
-            packed (a + 256 * b + 65536 * c + 16777216 * d) a b c d la lb lc ld (omega arith),
-            take_next 3 name k (omega arith),
-            take_next 2 name (k + 1) (omega arith),
-            x,
-            take_next 1 name (k + 2) (omega arith),
-            y,
-            take_next 0 name (k + 3) (omega arith),
-            ha,
-            hb,
-            hc,
-            hd,
-          )
-
-pub ruleset words_of = (word_1, word_2, word_3, word_4)
+use Rattle.entry_check.specs.Inner.Walks.{first_words, name_of}
+use Rattle.entry_check.proofs.CheckHeads.{name_long, other_length}
 
 -- ---- a name
 
@@ -115,72 +48,47 @@ module _ (ws name : List ℕ) (head n : ℕ) (h : workgroup_at ws head ≤ lengt
 
 -- ---- a name compared with bytes
 
--- a word compared by its first bytes, where those of another are the name's
-pub word_compared : (name : List ℕ) (k count v w : ℕ) (b : Bool) → take count (bytes_of (v ∷ [])) ≡ take count (drop k name) → b ≡ same_first count w v
-    → b ≡ same_bytes (take count (bytes_of (w ∷ []))) (take count (drop k name))
-unfolding same_first
-word_compared name k count v w b e f = rw (← e) f
+-- a byte of words, and of the word that it lies in
+byte_in : (l : List ℕ) (i : ℕ) → i < 4 * length l → get_or (bytes_of l) i 0 ≡ get_or (to_le_bytes w32 (word_at l (i / 4))) (i % 4) 0
+unfolding bytes_of
+byte_in [] i h = absurd (omega arith)
+byte_in (w ∷ l) zero h = refl
+byte_in (w ∷ l) (suc zero) h = refl
+byte_in (w ∷ l) (suc (suc zero)) h = refl
+byte_in (w ∷ l) (suc (suc (suc zero))) h = refl
+byte_in (w ∷ l) (suc (suc (suc (suc i)))) h =
+    let q : suc (suc (suc (suc i))) / 4 ≡ suc (i / 4) = omega arith in
+    let r : suc (suc (suc (suc i))) % 4 ≡ i % 4 = omega arith in
+    rw (q, r) (byte_in l i (omega arith))
 
--- as many bytes of its first word as are compared, and the others
-bytes_step : (ws l : List ℕ) (from n count : ℕ) → (n ≡ 0 → ⊥) → count ≤ 4 → count ≤ length l
-    → take n (bytes_of (word_at ws from ∷ [])) ≡ take count (bytes_of (word_at ws from ∷ []))
-    → same_bytes (name_of n (drop from ws)) l
-    ≡ pick (same_bytes (take count (bytes_of (word_at ws from ∷ []))) (take count l)) (same_bytes (name_of (n - 4) (drop (from + 1) ws)) (drop count l)) false
-bytes_step ws l from n count h j k e =
-    let x : length (take count (bytes_of (word_at ws from ∷ []))) ≡ length (take count l)
-    = length-take-le count (bytes_of (word_at ws from ∷ [])) (rw (bytes_long (word_at ws from ∷ [])) j) ∙ sym (length-take-le count l k) in
-    ap (same_bytes (name_of n (drop from ws))) (sym (take-append-drop count l))
-    ∙ name_step n h (drop from ws) (take count l) (drop count l) (rw (first_of ws from, e) x)
-    ∙ rw (first_of ws from, e, others_of ws from)
+same_drop : (xs ys : List ℕ) (i : ℕ) → i < length xs → i < length ys
+    → same_bytes (drop i xs) (drop i ys) ≡ pick (eqb (get_or xs i 0) (get_or ys i 0)) (same_bytes (drop (i + 1) xs) (drop (i + 1) ys)) false
+unfolding same_bytes
+same_drop xs ys i h k = rw (drop-cons xs i 0 h, drop-cons ys i 0 k, add-one i)
 
--- the walk over a name: before it, words that differ, words that agree, the bytes behind the last whole word
-pub words_begin : (ws name : List ℕ) (from : ℕ)
-    → same_bytes (name_of (length name) (drop from ws)) name ≡ same_bytes (name_of (length name - 4 * 0) (drop (from + 0) ws)) (drop (4 * 0) name)
-words_begin ws name from = rw (add-zero from, sub-zero)
+module _ (ws name bytes : List ℕ) (from i : ℕ) (h : from + name_words (length name) ≤ length ws) (goal : Bool)
+    (inv : goal ≡ same_bytes (drop i (name_of (length name) (drop from ws))) (drop i name)) where
+  module _ (k : i < length name) (hb : bytes ≡ to_le_bytes w32 (word_at ws (from + i / 4))) where
+    byte_read : get_or (name_of (length name) (drop from ws)) i 0 ≡ get_or bytes (i % 4) 0
+    unfolding name_of
+    byte_read =
+        let m : ℕ = name_words (length name) in
+        let l : m ≤ length (drop from ws) = omega (arith, length-drop from ws) in
+        let t : length (take m (drop from ws)) ≡ m = length-take-le m (drop from ws) l in
+        rw (words_there m (drop from ws) l, get_or-take (length name) (bytes_of (take m (drop from ws))) i 0 k)
+        (byte_in (take m (drop from ws)) i (omega arith) ∙ rw (get_or-take m (drop from ws) (i / 4) 0 (omega arith), get_or-drop from ws (i / 4) 0, hb))
 
-module _ (ws name : List ℕ) (from i : ℕ) (b goal : Bool) (j : i < length name / 4)
-    (inv : goal ≡ same_bytes (name_of (length name - 4 * i) (drop (from + i) ws)) (drop (4 * i) name)) where
-  words_step : b ≡ same_bytes (take 4 (bytes_of (word_at ws (from + i) ∷ []))) (take 4 (drop (4 * i) name))
-      → goal ≡ pick b (same_bytes (name_of (length name - 4 * (i + 1)) (drop (from + (i + 1)) ws)) (drop (4 * (i + 1)) name)) false
-  words_step e =
-      let n : ℕ = length name - 4 * i in
-      let l : List ℕ = bytes_of (word_at ws (from + i) ∷ []) in
-      let four : length l ≡ 4 = bytes_long (word_at ws (from + i) ∷ []) in
-      let x : from + i + 1 ≡ from + (i + 1) = omega arith in
-      let y : length name - 4 * i - 4 ≡ length name - 4 * (i + 1) = omega arith in
-      let z : 4 * i + 4 ≡ 4 * (i + 1) = omega arith in
-      inv
-      ∙ bytes_step ws (drop (4 * i) name) (from + i) n 4 (λ q. omega arith) (omega arith) (omega (arith, length-drop (4 * i) name))
-      (take_all n l (omega arith) ∙ sym (take_all 4 l (omega arith)))
-      ∙ rw (drop-drop 4 (4 * i) name, x, y, z, ← e)
+    step : goal ≡ pick (eqb (get_or bytes (i % 4) 0) (get_or name i 0)) (same_bytes (drop (i + 1) (name_of (length name) (drop from ws))) (drop (i + 1) name)) false
+    step = inv ∙ rw (same_drop (name_of (length name) (drop from ws)) name i (rw name_long k) k, byte_read)
 
-  pub words_differ : not b ≡ true → b ≡ same_bytes (take 4 (bytes_of (word_at ws (from + i) ∷ []))) (take 4 (drop (4 * i) name)) → false ≡ goal
-  words_differ d e = sym (words_step e ∙ rw (not-true b d))
+    pub bytes_differ : (get_or bytes (i % 4) 0 ≡ get_or name i 0 → ⊥) → false ≡ goal
+    bytes_differ d = sym (step ∙ rw (ne_eqb (get_or bytes (i % 4) 0) (get_or name i 0) d))
 
-  pub words_agree : not b ≡ false → b ≡ same_bytes (take 4 (bytes_of (word_at ws (from + i) ∷ []))) (take 4 (drop (4 * i) name))
-      → goal ≡ same_bytes (name_of (length name - 4 * (i + 1)) (drop (from + (i + 1)) ws)) (drop (4 * (i + 1)) name)
-  words_agree d e = words_step e ∙ rw (not-false b d)
+    pub bytes_agree : get_or bytes (i % 4) 0 ≡ get_or name i 0 → goal ≡ same_bytes (drop (i + 1) (name_of (length name) (drop from ws))) (drop (i + 1) name)
+    bytes_agree e = step ∙ rw (eq-eqb (get_or bytes (i % 4) 0) (get_or name i 0) e)
 
-module _ (ws name : List ℕ) (from i : ℕ) (goal : Bool)
-    (inv : goal ≡ same_bytes (name_of (length name - 4 * i) (drop (from + i) ws)) (drop (4 * i) name)) (low : i ≤ length name / 4) (high : length name / 4 ≤ i) where
-  none_left : same_bytes (name_of (length name % 4 - 4) (drop (from + i + 1) ws)) (drop (length name % 4) (drop (4 * i) name)) ≡ true
-  unfolding name_of same_bytes
-  none_left =
-      let x : length name % 4 - 4 ≡ 0 = omega arith in
-      let y : length name ≤ 4 * i + length name % 4 = omega arith in
-      rw (x, drop-drop (length name % 4) (4 * i) name, drop_of_length-le name y)
-
-  pub words_ended : length name % 4 ≡ 0 → true ≡ goal
-  unfolding name_of same_bytes
-  words_ended z =
-      let x : length name - 4 * i ≡ 0 = omega arith in
-      let y : length name ≤ 4 * i = omega arith in
-      sym (inv ∙ rw (x, drop_of_length-le name y))
-
-  pub words_left : (b : Bool) → (length name % 4 ≡ 0 → ⊥)
-      → b ≡ same_bytes (take (length name % 4) (bytes_of (word_at ws (from + i) ∷ []))) (take (length name % 4) (drop (4 * i) name)) → b ≡ goal
-  words_left b z e =
-      let n : length name - 4 * i ≡ length name % 4 = omega arith in
-      sym ((rw n at inv)
-      ∙ bytes_step ws (drop (4 * i) name) (from + i) (length name % 4) (length name % 4) z (omega arith) (omega (arith, length-drop (4 * i) name)) refl
-      ∙ rw (none_left, ← e) (last_byte b))
+  pub bytes_ended : length name ≤ i → true ≡ goal
+  unfolding same_bytes
+  bytes_ended k =
+      let l : length (name_of (length name) (drop from ws)) ≤ i = rw name_long k in
+      sym (inv ∙ rw (drop_of_length-le name k, drop_of_length-le (name_of (length name) (drop from ws)) l))

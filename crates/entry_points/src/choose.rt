@@ -1,124 +1,143 @@
 // The choice of an entry point of an accepted pack.
-ghost use Rattle.std.specs.Prelude.{◌≡◌, true, ◌+◌, ◌<◌, length};
-ghost use Rattle.interface.specs.Format.{named, decode, decoded_number, interface_of};
+ghost use Rattle.std.specs.Prelude.{◌≡◌, ◌<◌, ◌≤◌, length, IfSome, IfOk};
+ghost use Rattle.word.specs.Refusals.{answer_with};
+ghost use Rattle.interface.specs.Format.{named, decode, interface_of};
 ghost use Rattle.interface.specs.Meaning.{entry_point_nth};
-ghost use Rattle.interface.specs.Inner.Parts.{Heads};
-ghost use Rattle.entry_points.specs.Inner.Walk.{met, chosen_in};
-ghost use Rattle.entry_points.specs.Rules.{of_stage, find_entry_point, only_entry_point, only_answer, finalize_name};
+ghost use Rattle.interface.specs.Inner.Reads.{standing};
+ghost use Rattle.interface.specs.Inner.Parts.{Placed, entry_point_at, head_at, parts_at, workgroup_at};
+ghost use Rattle.entry_points.specs.Rules.{of_stage, find_entry_point, only_entry_point, choice_refusal, finalize_name};
 
+use crate::module::Module;
 use crate::names::same_name;
-use interface::reads::{entry_count, position_at, stage_at, stage_code};
-use interface::types::ShaderStage;
+use interface::reads::{entry_count, entry_parts, position_at, stage_at};
+use interface::types::{EntryParts, ShaderStage};
 use pack_check::check_pack::index_pack;
-use word::answer::Answer;
-use word::numbers;
+use word::refusal::{Number, Refusal};
 
-// Which entry point a call means, by its position among all entry points.
-#[derive(Clone, Copy)]
-pub enum Chosen {
-    At { position: usize },
+// Why a stage alone chooses no entry point: it has none, or several.
+#[derive(Clone, Copy, Debug, PartialEq, Eq)]
+pub enum ChoiceError {
     Absent,
     Several,
 }
 
-// Whether the entry point at a place has this stage.
-fn of_stage(pack: &[u32], heads: &[u16], position: usize, stage: ShaderStage) -> bool
-    requires pack_value { (decoded_number (decode pack.now) ≡ 0) × Heads pack.now heads.now }
-    requires position_in_bounds { position < length (interface_of (decode pack.now)).entries }
-    ensures { result ≡ of_stage stage (entry_point_nth (interface_of (decode pack.now)).entries position) }
-{
-    let at = position_at(heads, position) as usize;
-    let head = pack[at];
-    stage_code(stage_at(head / 0x100_0000 % 8)) == stage_code(stage)
-}
+impl From<ChoiceError> for Refusal {
+    ghost use Rattle.entry_points.specs.Rules.{choice_refusal};
 
-// Whether it has this stage and this name.
-fn is_named(pack: &[u32], heads: &[u16], position: usize, stage: ShaderStage, name: &[u8]) -> bool
-    requires pack_value { (decoded_number (decode pack.now) ≡ 0) × Heads pack.now heads.now }
-    requires position_in_bounds { position < length (interface_of (decode pack.now)).entries }
-    ensures { result ≡ named stage name.now (entry_point_nth (interface_of (decode pack.now)).entries position) }
-{
-    if of_stage(pack, heads, position, stage) {
-        return same_name(pack, position_at(heads, position) as usize, name);
-    }
-    false
-}
+    ghost from_gives = { λ e r. r ≡ choice_refusal e };
 
-// The entry point of a stage and a name.
-pub fn find_entry_point(pack: &[u32], heads: &[u16], stage: ShaderStage, name: &[u8]) -> Chosen
-    requires { (decoded_number (decode pack.now) ≡ 0) × Heads pack.now heads.now }
-    ensures value { result ≡ find_entry_point stage name.now (interface_of (decode pack.now)).entries }
-    ensures pack_value { chosen_in result (length (interface_of (decode pack.now)).entries) ≡ true }
-{
-    let n = entry_count(pack);
-    let mut i: usize = 0;
-    while i < n {
-        if is_named(pack, heads, i, stage, name) {
-            return Chosen::At { position: i };
+    fn from(error: ChoiceError) -> Self {
+        match error {
+            ChoiceError::Absent => Self::plain(Number::EntryNone),
+            ChoiceError::Several => Self::plain(Number::EntrySeveral),
         }
-        i += 1;
-    }
-    Chosen::Absent
-}
-
-// What is known of a stage's one entry point after the one at a place.
-fn met_one(pack: &[u32], heads: &[u16], stage: ShaderStage, found: Chosen, i: usize) -> Chosen
-    requires pack_value { (decoded_number (decode pack.now) ≡ 0) × Heads pack.now heads.now }
-    requires i_in_bounds { (i < length (interface_of (decode pack.now)).entries) × (chosen_in found i ≡ true) }
-    ensures value { result ≡ met found (of_stage stage (entry_point_nth (interface_of (decode pack.now)).entries i)) i }
-    ensures i_value { chosen_in result (i + 1) ≡ true }
-{
-    if of_stage(pack, heads, i, stage) {
-        return match found {
-            Chosen::Absent => Chosen::At { position: i },
-            Chosen::At { position: _ } => Chosen::Several,
-            Chosen::Several => Chosen::Several,
-        };
-    }
-    found
-}
-
-// A stage's one entry point.
-fn only_entry_point(pack: &[u32], heads: &[u16], stage: ShaderStage) -> Chosen
-    requires { (decoded_number (decode pack.now) ≡ 0) × Heads pack.now heads.now }
-    ensures value { result ≡ only_entry_point stage (interface_of (decode pack.now)).entries }
-    ensures pack_value { chosen_in result (length (interface_of (decode pack.now)).entries) ≡ true }
-{
-    let n = entry_count(pack);
-    let mut i: usize = 0;
-    let mut found = Chosen::Absent;
-    while i < n {
-        found = met_one(pack, heads, stage, found, i);
-        i += 1;
-    }
-    found
-}
-
-// The number and the details of a choice without a name: the place, or 11 for none and 12 for several.
-fn only_answer(chosen: Chosen) -> Answer
-    requires { chosen_in chosen 16 ≡ true }
-    ensures { result ≡ only_answer chosen }
-{
-    match chosen {
-        Chosen::At { position } => Answer::new(0, position as u32, 0, 0),
-        Chosen::Absent => Answer::refused(numbers::ENTRY_NONE),
-        Chosen::Several => Answer::refused(numbers::ENTRY_SEVERAL),
     }
 }
 
-// The entry point that a stage means where no name is given.
-pub fn finalize_entry_point_name(pack: &[u32], stage: u32) -> Answer
-    ensures { result ≡ finalize_name (decode pack.now) stage }
+impl Module<'_> {
+    // How many entry points there are.
+    pub fn entry_count(&self) -> usize
+        ensures value { result ≡ length (interface_of (decode self.now.pack.now)).entries }
+        ensures upper_bound { result ≤ 16 }
+    {
+        entry_count(self.pack)
+    }
+
+    // Where the parts of an entry point stand.
+    pub fn entry_parts(&self, position: usize) -> EntryParts
+        requires { position < length (interface_of (decode self.now.pack.now)).entries }
+        ensures stands { standing self.now.pack.now result ≡ entry_point_nth (interface_of (decode self.now.pack.now)).entries position }
+        ensures placed { Placed self.now.pack.now result }
+        ensures parts { result ≡ parts_at self.now.pack.now (head_at self.now.pack.now position) }
+    {
+        entry_parts(self.pack, self.heads, position)
+    }
+
+    // Where an entry point begins.
+    #[tactic(auto, using(interface::proofs::ReadsParts::heads_there, interface::proofs::ReadsParts::head_inside, interface::proofs::ReadsParts::name_placed, crate::proofs::ReadsChoice::stands_here))]
+    fn head(&self, position: usize) -> usize
+        requires { position < length (interface_of (decode self.now.pack.now)).entries }
+        ensures stands { entry_point_at self.now.pack.now result ≡ entry_point_nth (interface_of (decode self.now.pack.now)).entries position }
+        ensures inside { result < length self.now.pack.now }
+        ensures name_inside { workgroup_at self.now.pack.now result ≤ length self.now.pack.now }
+    {
+        position_at(self.heads, position) as usize
+    }
+
+    // The stage of an entry point.
+    #[tactic(auto, using(crate::proofs::ReadsChoice::stage_read))]
+    fn stage_of(&self, position: usize) -> ShaderStage
+        requires { position < length (interface_of (decode self.now.pack.now)).entries }
+        ensures { result ≡ (entry_point_nth (interface_of (decode self.now.pack.now)).entries position).stage }
+    {
+        stage_at(self.pack[self.head(position)] / 0x100_0000 % 8)
+    }
+
+    // Whether an entry point has this stage.
+    fn has_stage(&self, position: usize, stage: ShaderStage) -> bool
+        requires { position < length (interface_of (decode self.now.pack.now)).entries }
+        ensures { result ≡ of_stage stage (entry_point_nth (interface_of (decode self.now.pack.now)).entries position) }
+    {
+        self.stage_of(position) == stage
+    }
+
+    // Whether an entry point has this stage and this name.
+    #[tactic(auto, using(crate::proofs::ReadsChoice::name_read))]
+    fn is_named(&self, position: usize, stage: ShaderStage, name: &[u8]) -> bool
+        requires { position < length (interface_of (decode self.now.pack.now)).entries }
+        ensures { result ≡ named stage name.now (entry_point_nth (interface_of (decode self.now.pack.now)).entries position) }
+    {
+        self.has_stage(position, stage) && same_name(self.pack, self.head(position), name)
+    }
+
+    // The entry point of a stage and a name.
+    #[tactic(auto, using(crate::proofs::ReadsChoice::find_here, crate::proofs::ReadsChoice::find_onward, crate::proofs::ReadsChoice::find_ended))]
+    pub fn find_entry_point(&self, stage: ShaderStage, name: &[u8]) -> Option<usize>
+        ensures value { result ≡ find_entry_point stage name.now (interface_of (decode self.now.pack.now)).entries }
+        ensures in_bounds { IfSome result (λ i. i < length (interface_of (decode self.now.pack.now)).entries) }
+    {
+        for position in 0..self.entry_count() {
+            if self.is_named(position, stage, name) {
+                return Some(position);
+            }
+        }
+        None
+    }
+
+    // A stage's one entry point.
+    #[tactic(auto, using(crate::proofs::ReadsChoice::only_other, crate::proofs::ReadsChoice::only_first, crate::proofs::ReadsChoice::only_second, crate::proofs::ReadsChoice::only_ended))]
+    fn only_entry_point(&self, stage: ShaderStage) -> Result<usize, ChoiceError>
+        ensures value { result ≡ only_entry_point stage (interface_of (decode self.now.pack.now)).entries }
+        ensures in_bounds { IfOk result (λ i. i < length (interface_of (decode self.now.pack.now)).entries) }
+    {
+        let mut only = None;
+        for position in 0..self.entry_count() {
+            if self.has_stage(position, stage) {
+                if only.is_some() {
+                    return Err(ChoiceError::Several);
+                }
+                only = Some(position);
+            }
+        }
+        only.ok_or(ChoiceError::Absent)
+    }
+}
+
+// The entry point that a stage means where no name is given, by its position.
+#[tactic(auto, using(crate::proofs::ReadsChoice::pack_refused, crate::proofs::ReadsChoice::stage_refused, crate::proofs::ReadsChoice::stage_chosen, crate::proofs::ReadsChoice::few_entries))]
+pub fn finalize_entry_point_name(pack: &[u32], stage: u32) -> Result<u32, Refusal>
+    ensures { answer_with result ≡ finalize_name (decode pack.now) stage }
 {
     let mut offsets: [u16; 128] = [0; 128];
     let mut heads: [u16; 16] = [0; 16];
-    let refusal = index_pack(pack, &mut offsets, &mut heads);
-    if refusal != 0 {
-        return Answer::refused(refusal);
-    }
+    index_pack(pack, &mut offsets, &mut heads)?;
     if 4 < stage {
-        return Answer::refused(numbers::BAD_CALL);
+        return Err(Refusal::plain(Number::BadCall));
     }
-    let chosen = only_entry_point(pack, &heads, stage_at(stage));
-    only_answer(chosen)
+    let module = Module {
+        pack,
+        heads: &heads,
+    };
+    let position = module.only_entry_point(stage_at(stage))?;
+    Ok(position as u32)
 }

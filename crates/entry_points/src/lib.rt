@@ -2,4 +2,5 @@
 #![tactic(auto)]
 
 pub mod choose;
+pub mod module;
 pub mod names;

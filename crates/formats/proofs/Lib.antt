@@ -1,1 +1,1 @@
-pub mod FormatAnswers
+pub mod FormatLaws

@@ -1,9 +1,10 @@
 -- The ways of the functions that walk from record to record.
-use Prim.Native.Nat.{ℕ, zero, suc, ◌+◌, ◌-◌, ◌/◌, ◌%◌, ◌^◌, ◌<◌, ◌≤◌}
+use Prim.Native.Nat.{ℕ, zero, suc, ◌+◌, ◌-◌, ◌/◌, ◌^◌, ◌<◌, ◌≤◌}
 use native.Mathlib.Omega.{arith}
+use native.Mathlib.Numerals.{add-one}
 use mathlib.Core.Path.{◌≡◌, refl, sym, ap, ◌∙◌}
 use mathlib.Core.List.{List, [], ◌∷◌}
-use borrow.Author.Tests.{eq-eqb, ne_eqb, ltb-true, ltb-false}
+use borrow.Author.Tests.{ltb-true, ltb-false}
 use lib.Dec.{eqb, ltb}
 use lib.ListN.{length, drop, get_or-eq_default}
 use Rattle.word.specs.Choice.{pick}
@@ -14,27 +15,19 @@ use Rattle.interface.specs.Format.{name_words, decode, decoded_number, interface
 use Rattle.interface.specs.Inner.Reads.{varying_width, standing}
 use Rattle.interface.specs.Inner.Parts.{records_from, end_from, varying_end, varyings_end, resource_end, counts_at, inputs_at, parts_at, entry_end, entry_point_at, entries_at, resource_count, entry_count, head_at, Placed, Heads, workgroup_at}
 use Rattle.interface.specs.declared.types.EntryParts.{EntryParts}
-use Rattle.interface.proofs.ReadsRecords.{end_left, end_none, records_length}
+use Rattle.interface.proofs.ReadsRecords.{end_left, records_length}
 use Rattle.interface.proofs.ReadsPack.{accepted}
 use Rattle.interface.proofs.ReadsWays.{width_there}
 
 -- ---- the position behind as many records
 
-pub end_onward : (after : ℕ → ℕ) (n at next goal : ℕ) → goal ≡ end_from after n at → (n ≡ 0 → ⊥) → next ≡ after at → goal ≡ end_from after (n - 1) next
-end_onward after n at next goal inv h e = rw e (inv ∙ end_left after n at h)
+end_suc : (after : ℕ → ℕ) (n at : ℕ) → end_from after (suc n) at ≡ after (end_from after n at)
+unfolding end_from
+end_suc after zero at = refl
+end_suc after (suc n) at = end_suc after n (after at)
 
-pub end_begins : (after : ℕ → ℕ) (n left at start : ℕ) → left ≡ n → start ≡ at → end_from after n at ≡ end_from after left start
-end_begins after n left at start e f = rw (e, f)
-
-pub end_ended : (after : ℕ → ℕ) (n at goal : ℕ) → goal ≡ end_from after n at → n ≡ 0 → at ≡ goal
-end_ended after n at goal inv h = sym (inv ∙ end_none after n at h)
-
-module _ (ws : List ℕ) (at w : ℕ) (hw : w ≡ word_at ws (at + 1)) where
-  pub resource_buffer : w / 8388608 % 16 ≡ 0 → at + 3 ≡ resource_end ws at
-  resource_buffer h = rw (← hw, eq-eqb (w / 8388608 % 16) 0 h)
-
-  pub resource_other : (w / 8388608 % 16 ≡ 0 → ⊥) → at + 2 ≡ resource_end ws at
-  resource_other h = rw (← hw, ne_eqb (w / 8388608 % 16) 0 h)
+pub end_more : (after : ℕ → ℕ) (n at : ℕ) → end_from after (n + 1) at ≡ after (end_from after n at)
+end_more after n at = rw add-one (end_suc after n at)
 
 -- ---- an entry point
 
@@ -103,19 +96,14 @@ pub varyings_start : (ws : List ℕ) (n at : ℕ) → varyings_end ws n at < len
 varyings_start ws n at i = omega (arith, varyings_past ws n at)
 
 -- a step of a walk over varyings that end before the pack does
-module _ (ws : List ℕ) (n at w width : ℕ) (h : n ≡ 0 → ⊥) (e : w ≡ word_at ws at) (x : width ≡ varying_width (w ∷ [])) where
-  here : width ≡ varying_width (drop at ws)
-  here = x ∙ width_there ws at w e
+module _ (ws : List ℕ) (n from k at w width : ℕ) (inv : at ≡ varyings_end ws k from) (e : w ≡ word_at ws at) (x : width ≡ varying_width (w ∷ [])) where
+  pub varyings_more : at + width ≡ varyings_end ws (k + 1) from
+  varyings_more =
+      let here : width ≡ varying_width (drop at ws) = x ∙ width_there ws at w e in
+      rw here (rw inv (sym (end_more (varying_end ws) k from)))
 
-  module _ (i : varyings_end ws n at < length ws) where
-    pub varyings_inside : varyings_end ws (n - 1) (at + width) < length ws
-    varyings_inside = varyings_left ws n at i h width here
-
-    pub next_inside : at + width < length ws
-    next_inside = varyings_start ws (n - 1) (at + width) varyings_inside
-
-  pub varyings_onward : (goal : ℕ) → goal ≡ varyings_end ws n at → goal ≡ varyings_end ws (n - 1) (at + width)
-  varyings_onward goal inv = rw here (inv ∙ end_left (varying_end ws) n at h)
+  pub next_inside : varyings_end ws n from < length ws → k < n → at + width < length ws
+  next_inside i h = rw (varyings_more, end_more (varying_end ws) k from) (omega (arith, within (varying_end ws) (λ at. omega arith) k n from h))
 
 -- an entry point's parts rise from its first word to its end
 module _ (ws : List ℕ) (head : ℕ) where

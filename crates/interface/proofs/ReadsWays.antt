@@ -1,14 +1,10 @@
 -- The ways of the functions that read what stands in a pack.
-use Prim.Native.Nat.{ℕ, ◌+◌, ◌/◌, ◌%◌, ◌<◌, ◌≤◌}
-use native.Mathlib.Omega.{arith}
+use Prim.Native.Nat.{ℕ, ◌+◌, ◌/◌, ◌%◌, ◌≤◌}
 use mathlib.Core.Path.{◌≡◌, sym, ap, ◌∙◌}
-use mathlib.Core.Bool.{true}
 use mathlib.Core.List.{List, [], ◌∷◌}
-use borrow.Author.Tests.{eq-eqb, ne_eqb, ltb-true}
-use lib.Dec.{ltb}
 use lib.ListN.{length, drop}
 use lib.Seq.{get_or-drop}
-use Rattle.word.specs.Words.{word_at, kind_of, content_of}
+use Rattle.word.specs.Words.{word_at, content_of}
 use Rattle.word.proofs.Parse.{first_of}
 use Rattle.interface.specs.Format.{decode, decoded_number, limits_by, limits_of, interface_of}
 use Rattle.interface.specs.Inner.Reads.{varying_width}
@@ -17,13 +13,6 @@ use Rattle.bindings.specs.Format.{resource_at}
 use Rattle.interface.specs.declared.types.Limits.{Limits}
 use Rattle.interface.proofs.ReadsRecords.{records_length}
 use Rattle.interface.proofs.ReadsPack.{accepted}
-
-module _ (w k : ℕ) (hk : k ≡ kind_of w) where
-  pub width_local : k ≡ 12 → 2 ≡ varying_width (w ∷ [])
-  width_local h = rw (← hk, eq-eqb k 12 h)
-
-  pub width_built_in : (k ≡ 12 → ⊥) → 1 ≡ varying_width (w ∷ [])
-  width_built_in h = rw (← hk, ne_eqb k 12 h)
 
 pub width_there : (ws : List ℕ) (at w : ℕ) → w ≡ word_at ws at → varying_width (w ∷ []) ≡ varying_width (drop at ws)
 width_there ws at w e = rw (first_of ws at, ← e)
@@ -42,8 +31,8 @@ limits_drop ws =
     rw (t 0, t 1, t 2, t 3, t 4, t 5, t 6, t 7, t 8, t 9, t 10, t 11, t 12)
 
 module _ (ws : List ℕ) (h : decoded_number (decode ws) ≡ 0) where
-  pub word_there : (at : ℕ) → ltb at 16 ≡ true → at < length ws
-  word_there at l = omega (arith, ltb-true at 16 l, (accepted ws h).long)
+  pub long_pack : 16 ≤ length ws
+  long_pack = (accepted ws h).long
 
   pub limits_read : (a b c d e f g i j k l m n : ℕ) → a ≡ limit ws 2 → b ≡ limit ws 3 → c ≡ limit ws 4 → d ≡ limit ws 5 → e ≡ limit ws 6 → f ≡ limit ws 7 → g ≡ limit ws 8
       → i ≡ limit ws 9 → j ≡ limit ws 10 → k ≡ limit ws 11 → l ≡ limit ws 12 → m ≡ limit ws 13 → n ≡ limit ws 14

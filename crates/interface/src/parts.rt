@@ -22,52 +22,74 @@ fn mesh_width(head: u32) -> usize
     ensures value { result ≡ pick (eqb (bit 1 head) 1) 3 0 }
     ensures upper_bound { result ≤ 3 }
 {
-    if head / 2 % 2 == 1 {
-        return 3;
-    }
-    0
+    if head / 2 % 2 == 1 { 3 } else { 0 }
 }
 
-// The four counts of a word of kind 15.
+// What a word of kind 15 counts: the parts of an entry point's lists.
+#[derive(Clone, Copy, Debug, PartialEq, Eq)]
+pub struct Counts {
+    pub resources: usize,
+    pub pairs: usize,
+    pub inputs: usize,
+    pub outputs: usize,
+}
+
+impl Counts {
+    // The counts that a word holds, 6 bits each from bit 23 down.
+    pub fn of(w: u32) -> Self
+        ensures resources { result.resources ≡ bits 23 18 w }
+        ensures pairs { result.pairs ≡ bits 17 12 w }
+        ensures inputs { result.inputs ≡ bits 11 6 w }
+        ensures outputs { result.outputs ≡ bits 5 0 w }
+    {
+        Counts {
+            resources: (w / 0x4_0000 % 64) as usize,
+            pairs: (w / 0x1000 % 64) as usize,
+            inputs: (w / 64 % 64) as usize,
+            outputs: (w % 64) as usize,
+        }
+    }
+}
+
 pub fn resources_counted(counts: u32) -> usize
     ensures { result ≡ bits 23 18 counts }
 {
-    (counts / 0x4_0000 % 64) as usize
+    Counts::of(counts).resources
 }
 
 pub fn pairs_counted(counts: u32) -> usize
     ensures { result ≡ bits 17 12 counts }
 {
-    (counts / 0x1000 % 64) as usize
+    Counts::of(counts).pairs
 }
 
 pub fn inputs_counted(counts: u32) -> usize
     ensures { result ≡ bits 11 6 counts }
 {
-    (counts / 64 % 64) as usize
+    Counts::of(counts).inputs
 }
 
 pub fn outputs_counted(counts: u32) -> usize
     ensures { result ≡ bits 5 0 counts }
 {
-    (counts % 64) as usize
+    Counts::of(counts).outputs
 }
 
 // The position behind as many varyings.
+#[tactic(auto, using(crate::proofs::ReadsParts::varyings_start, crate::proofs::ReadsParts::next_inside, crate::proofs::ReadsParts::varyings_more), unfolding(crate::specs::Inner::Parts::end_from))]
 fn varyings_end(pack: &[u32], from: usize, n: usize) -> usize
     requires { (varyings_end pack.now n from < length pack.now) × (length pack.now ≤ 4096) }
     ensures { result ≡ varyings_end pack.now n from }
 {
     let mut at = from;
-    let mut left = n;
-    while left != 0 {
+    for _ in 0..n {
         at += varying_width(pack[at]);
-        left -= 1;
     }
     at
 }
 
 // The parts of the entry point that begins at a position.
+#[tactic(auto, using(crate::proofs::ReadsParts::counts_there, crate::proofs::ReadsParts::inputs_there, crate::proofs::ReadsParts::parts_read))]
 pub(crate) fn parts_at(pack: &[u32], head: usize) -> EntryParts
     requires { (head < length pack.now) × (entry_end pack.now head < length pack.now) × (length pack.now ≤ 4096) }
     ensures { result ≡ parts_at pack.now head }
@@ -75,10 +97,10 @@ pub(crate) fn parts_at(pack: &[u32], head: usize) -> EntryParts
     let first = pack[head];
     let workgroup = head + 1 + name_words(first);
     let counts = workgroup + 4 + mesh_width(first);
-    let numbers = pack[counts];
-    let pairs = counts + 1 + resources_counted(numbers);
-    let inputs = pairs + pairs_counted(numbers);
-    let outputs = varyings_end(pack, inputs, inputs_counted(numbers));
+    let counted = Counts::of(pack[counts]);
+    let pairs = counts + 1 + counted.resources;
+    let inputs = pairs + counted.pairs;
+    let outputs = varyings_end(pack, inputs, counted.inputs);
     EntryParts {
         head,
         workgroup,
@@ -91,39 +113,40 @@ pub(crate) fn parts_at(pack: &[u32], head: usize) -> EntryParts
 }
 
 // The position behind the entry point that begins at a position.
+#[tactic(auto, using(crate::proofs::ReadsParts::counts_placed, crate::proofs::ReadsParts::outputs_placed, crate::proofs::ReadsParts::entry_end_read))]
 pub fn entry_end(pack: &[u32], head: usize) -> usize
     requires { (head < length pack.now) × (entry_end pack.now head < length pack.now) × (length pack.now ≤ 4096) }
     ensures { result ≡ entry_end pack.now head }
 {
     let parts = parts_at(pack, head);
-    let counts = parts.counts;
-    let numbers = pack[counts];
-    varyings_end(pack, parts.outputs, outputs_counted(numbers))
+    let counted = Counts::of(pack[parts.counts]);
+    varyings_end(pack, parts.outputs, counted.outputs)
 }
 
 // The position behind the resource that begins at a position.
+#[tactic(auto, using(word::proofs::Tests::tests))]
 fn resource_end(pack: &[u32], at: usize) -> usize
     requires { at < 2 ^ 60 }
     ensures value { result ≡ resource_end pack.now at }
     ensures upper_bound { result ≤ at + 3 }
 {
     if word(pack, at + 1) / 0x80_0000 % 16 == 0 {
-        return at + 3;
+        at + 3
+    } else {
+        at + 2
     }
-    at + 2
 }
 
 // Where the first entry point of an accepted pack begins.
+#[tactic(auto, using(crate::proofs::ReadsParts::end_more), unfolding(crate::specs::Inner::Parts::end_from))]
 pub fn entries_at(pack: &[u32]) -> usize
     requires { decoded_number (decode pack.now) ≡ 0 }
     ensures value { result ≡ entries_at pack.now }
     ensures upper_bound { result ≤ 400 }
 {
-    let mut at: usize = 15;
-    let mut left = resource_count(pack);
-    while left != 0 {
+    let mut at = 15;
+    for _ in 0..resource_count(pack) {
         at = resource_end(pack, at);
-        left -= 1;
     }
     at
 }

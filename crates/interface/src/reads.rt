@@ -10,74 +10,50 @@ use crate::parts::parts_at;
 use crate::types::{BuiltIn, EntryParts, Limits, PrimitiveTopology, SamplingPair, ShaderStage};
 use word::{content, kind};
 
+// The stage that a code means; a pack's codes are those below 5.
 pub fn stage_at(code: u32) -> ShaderStage
     ensures { result ≡ stage_at code }
 {
-    if code == 0 {
-        return ShaderStage::Vertex;
+    match code {
+        0 => ShaderStage::Vertex,
+        1 => ShaderStage::Fragment,
+        2 => ShaderStage::Compute,
+        3 => ShaderStage::Task,
+        _ => ShaderStage::Mesh,
     }
-    if code == 1 {
-        return ShaderStage::Fragment;
-    }
-    if code == 2 {
-        return ShaderStage::Compute;
-    }
-    if code == 3 {
-        return ShaderStage::Task;
-    }
-    ShaderStage::Mesh
 }
 
 pub fn stage_code(stage: ShaderStage) -> u32
     ensures value { result ≡ stage_code stage }
     ensures upper_bound { result < 5 }
 {
-    match stage {
-        ShaderStage::Vertex => 0,
-        ShaderStage::Fragment => 1,
-        ShaderStage::Compute => 2,
-        ShaderStage::Task => 3,
-        ShaderStage::Mesh => 4,
-    }
+    stage as u32
 }
 
+// The topology that a code means; a pack's codes are those below 5.
 pub fn topology_at(code: u32) -> PrimitiveTopology
     ensures { result ≡ topology_at code }
 {
-    if code == 0 {
-        return PrimitiveTopology::PointList;
+    match code {
+        0 => PrimitiveTopology::PointList,
+        1 => PrimitiveTopology::LineList,
+        2 => PrimitiveTopology::LineStrip,
+        3 => PrimitiveTopology::TriangleList,
+        _ => PrimitiveTopology::TriangleStrip,
     }
-    if code == 1 {
-        return PrimitiveTopology::LineList;
-    }
-    if code == 2 {
-        return PrimitiveTopology::LineStrip;
-    }
-    if code == 3 {
-        return PrimitiveTopology::TriangleList;
-    }
-    PrimitiveTopology::TriangleStrip
 }
 
 // The built-in that a word of kind 14 means.
 pub fn built_in_of(w: u32) -> BuiltIn
     ensures { result ≡ built_in_of w }
 {
-    let code = w / 0x100_0000 % 8;
-    if code == 0 {
-        return BuiltIn::Other { places: w % 256 };
-    }
-    if code == 1 {
-        return BuiltIn::PrimitiveIndex { places: w % 256 };
-    }
-    if code == 2 {
-        return BuiltIn::DrawIndex { places: w % 256 };
-    }
-    if code == 3 {
-        return BuiltIn::FragDepth { places: w % 256 };
-    }
-    BuiltIn::ClipDistances {
-        array_size: w % 256,
+    let size = w % 256;
+    match w / 0x100_0000 % 8 {
+        0 => BuiltIn::Other { places: size },
+        1 => BuiltIn::PrimitiveIndex { places: size },
+        2 => BuiltIn::DrawIndex { places: size },
+        3 => BuiltIn::FragDepth { places: size },
+        _ => BuiltIn::ClipDistances { array_size: size },
     }
 }
 
@@ -86,16 +62,13 @@ pub fn varying_width(w: u32) -> usize
     ensures value { result ≡ varying_width (w ∷ []) }
     ensures upper_bound { result ≤ 2 }
 {
-    if kind(w) == 12 {
-        return 2;
-    }
-    1
+    if kind(w) == 12 { 2 } else { 1 }
 }
 
 // The sampling pair that a word means.
 pub fn pair_of(w: u32) -> SamplingPair
     ensures value { result ≡ pair_of w }
-    ensures texture_bound { (result.texture < 256) × (result.sampler < 256) }
+    ensures below_256 { (result.texture < 256) × (result.sampler < 256) }
 {
     SamplingPair {
         texture: w / 256 % 256,
@@ -112,6 +85,7 @@ fn limit(pack: &[u32], at: usize) -> u32
 }
 
 // The limits of an accepted pack.
+#[tactic(auto, using(crate::proofs::ReadsWays::long_pack, crate::proofs::ReadsWays::limits_read))]
 pub fn limits(pack: &[u32]) -> Limits
     requires { decoded_number (decode pack.now) ≡ 0 }
     ensures { result ≡ (interface_of (decode pack.now)).limits }
@@ -134,20 +108,22 @@ pub fn limits(pack: &[u32]) -> Limits
 }
 
 // How many entry points an accepted pack has.
+#[tactic(auto, using(crate::proofs::ReadsWays::long_pack, crate::proofs::ReadsWays::entries_counted, crate::proofs::ReadsWays::entries_few))]
 pub fn entry_count(pack: &[u32]) -> usize
     requires { decoded_number (decode pack.now) ≡ 0 }
     ensures value { result ≡ length (interface_of (decode pack.now)).entries }
-    ensures value_2 { result ≡ entry_count pack.now }
+    ensures counted { result ≡ entry_count pack.now }
     ensures upper_bound { result ≤ 16 }
 {
     (pack[1] % 0x1_0000) as usize
 }
 
 // How many resources an accepted pack has.
+#[tactic(auto, using(crate::proofs::ReadsWays::long_pack, crate::proofs::ReadsWays::resources_counted, crate::proofs::ReadsWays::resources_few))]
 pub(crate) fn resource_count(pack: &[u32]) -> usize
     requires { decoded_number (decode pack.now) ≡ 0 }
     ensures value { result ≡ length (interface_of (decode pack.now)).resources }
-    ensures value_2 { result ≡ resource_count pack.now }
+    ensures counted { result ≡ resource_count pack.now }
     ensures upper_bound { result ≤ 128 }
 {
     (pack[1] / 0x1_0000 % 0x800) as usize
@@ -162,12 +138,13 @@ pub fn position_at(table: &[u16], index: usize) -> u16
 }
 
 // The parts of the entry point at a place among those of an accepted pack.
+#[tactic(auto, using(crate::proofs::ReadsParts::heads_there, crate::proofs::ReadsParts::head_inside, crate::proofs::ReadsParts::entry_inside, crate::proofs::ReadsParts::pack_short, crate::proofs::ReadsParts::nth_read, crate::proofs::ReadsParts::nth_parts))]
 pub fn entry_parts(pack: &[u32], heads: &[u16], position: usize) -> EntryParts
-    requires pack_value { (decoded_number (decode pack.now) ≡ 0) × Heads pack.now heads.now }
+    requires accepted { (decoded_number (decode pack.now) ≡ 0) × Heads pack.now heads.now }
     requires position_in_bounds { position < length (interface_of (decode pack.now)).entries }
-    ensures result_value { standing pack.now result ≡ entry_point_nth (interface_of (decode pack.now)).entries position }
+    ensures stands { standing pack.now result ≡ entry_point_nth (interface_of (decode pack.now)).entries position }
     ensures placed { Placed pack.now result }
-    ensures value { result ≡ parts_at pack.now (head_at pack.now position) }
+    ensures parts { result ≡ parts_at pack.now (head_at pack.now position) }
 {
     parts_at(pack, position_at(heads, position) as usize)
 }

@@ -11,16 +11,13 @@ use Rattle.word.specs.Parse.{Parsed, fault, got}
 use Rattle.word.specs.Answers.{refused}
 use Rattle.word.specs.declared.answer.Answer.{Answer}
 use Rattle.word.proofs.Truth.{by_test, never}
-use Rattle.numeric.specs.Types.{fits, is_fit}
+use Rattle.std.specs.Prelude.{⊤, Option, Some, None, Result, Ok, Err}
+use Rattle.numeric.specs.Types.{fits}
 use Rattle.numeric.specs.TypeWords.{subtype_number}
-use Rattle.numeric.specs.declared.type_words.Compared.{Compared}
-use Rattle.numeric.specs.declared.type_words.Compared.TheVariants as C
+use Rattle.numeric.specs.declared.types.Misfit.{Misfit}
 use Rattle.numeric.specs.declared.types.NumericType.{NumericType}
-use Rattle.numeric.specs.declared.type_words.TypeRead.{TypeRead}
-use Rattle.numeric.specs.declared.type_words.TypeRead.TheVariants.{Numeric, Bad}
-use Rattle.formats.specs.Formats.{below, float_vertex_format, vertex_format, texture_format, format_answer, check_type, check_texture_format}
-use Rattle.formats.specs.declared.formats.FormatType.{FormatType}
-use Rattle.formats.specs.declared.formats.FormatType.TheVariants.{Known, NoColour, Unknown}
+use Rattle.formats.specs.Formats.{FormatType, below, float_vertex_format, vertex_format, texture_format, format_answer, check_type, check_texture_format}
+use Rattle.formats.specs.declared.formats.FormatError.TheVariants.{NoColour, Unknown}
 use Rattle.bindings.specs.Rules.{check_binding_use, use_number, derive_binding_type}
 use Rattle.bindings.specs.Format.{read_resource, entry_well_formed, entry_of}
 use Rattle.bindings.specs.Answers.{binding_answer, only_resource, only_entry, check_words, derived_answer, derive_words}
@@ -34,8 +31,9 @@ use Rattle.bindings.proofs.DerivedTypes.{derived_refused}
 use Rattle.bindings.proofs.UseErrors.{gives, use_gives}
 use Rattle.interface.specs.Format.{Decoded, Damaged, Malformed, Pack, decoded_number, stage_at}
 use Rattle.entry_points.specs.Rules.{only_entry_point, only_answer, finalize_name}
-use Rattle.entry_points.specs.declared.choose.Chosen.{Chosen}
-use Rattle.entry_points.specs.declared.choose.Chosen.TheVariants as Ch
+use Rattle.std.specs.Prelude.{Result, Ok, Err}
+use Rattle.entry_points.specs.declared.choose.ChoiceError.{ChoiceError}
+use Rattle.entry_points.specs.declared.choose.ChoiceError.TheVariants.{Absent, Several}
 use Rattle.refusals.specs.Table.{early, stage_numbers, pack_numbers, subtype_numbers, name_numbers, vertex_format_numbers, texture_format_numbers, format_use_numbers, words_use_numbers, derivation_numbers, populate_numbers, table, answered}
 use Rattle.refusals.proofs.Known.{either}
 
@@ -55,11 +53,11 @@ pack_answered (Pack i) = refl
 
 -- ---- the choice of a name: acceptance names the position
 
-chosen_answered : (x : Chosen) → answered name_numbers 1 (only_answer x) ≡ true
+chosen_answered : (x : Result ℕ ChoiceError) → answered name_numbers 1 (only_answer x) ≡ true
 unfolding answered every among
-chosen_answered (Ch.At i) = refl
-chosen_answered Ch.Absent = refl
-chosen_answered Ch.Several = refl
+chosen_answered (Ok i) = refl
+chosen_answered (Err Absent) = refl
+chosen_answered (Err Several) = refl
 
 pub name_answered : (d : Decoded) (stage : ℕ) → answered name_numbers 1 (finalize_name d stage) ≡ true
 unfolding answered every among finalize_name
@@ -73,9 +71,9 @@ name_answered (Pack i) stage =
 
 texture_answered : (f : FormatType) → answered texture_format_numbers 1 (format_answer f) ≡ true
 unfolding answered every among
-texture_answered (Known t) = refl
-texture_answered NoColour = refl
-texture_answered Unknown = refl
+texture_answered (Ok t) = refl
+texture_answered (Err NoColour) = refl
+texture_answered (Err Unknown) = refl
 
 pub texture_format_answered : (code : ℕ) → answered texture_format_numbers 1 (format_answer (texture_format code)) ≡ true
 texture_format_answered code = texture_answered (texture_format code)
@@ -87,11 +85,11 @@ data Vertex (f : FormatType) : Type 0 where
 row : (end : ℕ) (f : FormatType) (rest : ℕ → FormatType) → Vertex f → ((code : ℕ) → Vertex (rest code)) → (code : ℕ) → Vertex (below end f rest code)
 row end f rest p q code = either Vertex (ltb code end) f (rest code) p (q code)
 
-has_type : (t : NumericType) → Vertex (Known t)
+has_type : (t : NumericType) → Vertex (Ok t)
 unfolding answered every among
 has_type t = type refl
 
-no_type : Vertex Unknown
+no_type : Vertex (Err Unknown)
 unfolding answered every among
 no_type = type refl
 
@@ -133,20 +131,21 @@ type_answered : (t output : NumericType) → answered format_use_numbers 0 (chec
 unfolding answered every among
 type_answered t output = by_test (fits t output) (λ y. rw y) (λ n. rw n)
 
-pub format_use_answered : (f : FormatType) (output : TypeRead) → answered format_use_numbers 0 (check_texture_format f output) ≡ true
+pub format_use_answered : (f : FormatType) (output : Option NumericType) → answered format_use_numbers 0 (check_texture_format f output) ≡ true
 unfolding answered every among check_texture_format
-format_use_answered Unknown output = refl
-format_use_answered NoColour Bad = refl
-format_use_answered (Known t) Bad = refl
-format_use_answered NoColour (Numeric output) = refl
-format_use_answered (Known t) (Numeric output) = type_answered t output
+format_use_answered (Err Unknown) output = refl
+format_use_answered (Err NoColour) None = refl
+format_use_answered (Ok t) None = refl
+format_use_answered (Err NoColour) (Some output) = refl
+format_use_answered (Ok t) (Some output) = type_answered t output
 
 -- ---- whether a type is below another
 
-pub subtype_answered : (c : Compared) → among subtype_numbers (subtype_number c) ≡ true
+pub subtype_answered : (c : Option (Result ⊤ Misfit)) → among subtype_numbers (subtype_number c) ≡ true
 unfolding among
-subtype_answered (C.Types fit) = by_test (is_fit fit) (λ y. rw y) (λ n. rw n)
-subtype_answered C.Unknown = refl
+subtype_answered (Some (Ok u)) = refl
+subtype_answered (Some (Err reason)) = refl
+subtype_answered None = refl
 
 -- ---- words of a resource against those of an entry: acceptance names nothing
 

@@ -27,7 +27,7 @@ use word_rules::uses::words_use;
 #[tactic(auto, unfolding(crate::specs::Resources::record_size, bindings::specs::Format::resource_type_of))]
 fn record_buffer(
     words: ResourceWords,
-    next: &mut [u16; 1],
+    next: &mut usize,
     sizes: &mut [u32],
 ) -> Result<(), Refusal>
     requires well_formed { sizes_well_formed sizes.old ≡ true }
@@ -98,7 +98,7 @@ fn provide_step(
     near: usize,
     stage: ShaderStage,
     entries: &mut [u8; 128],
-    next: &mut [u16; 1],
+    next: &mut usize,
     layout: &[u32],
     sizes: &mut [u32],
 ) -> Result<(), Refusal>
@@ -133,7 +133,7 @@ pub fn provide_steps(
         ≡ provide_notes stage (decode_layout layout.now) resources.now (contents listed.now) (decode_sizes sizes.old) entries.old }
 {
     let mut near: usize = 0;
-    let mut next: [u16; 1] = [0; 1];
+    let mut next = 0;
     for (passed, w) in listed.iter().enumerate() {
         let i = content(*w);
         if let Err(refusal) = provide_step(

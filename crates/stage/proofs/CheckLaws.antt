@@ -7,6 +7,7 @@ use mathlib.Core.List.{List}
 use lib.Dec.{eqb}
 use lib.ListN.{length, take, drop}
 use borrow.Author.Tests.{eq-eqb, ne_eqb, lt-ltb, le-ltb, ltb-true}
+use Rattle.std.specs.Prelude.{Option, Some, None, IfSome}
 use Rattle.word.specs.Words.{word_at, bits}
 use Rattle.word.specs.Answers.{accepted, refused}
 use Rattle.word.specs.declared.answer.Answer.{Answer}
@@ -23,9 +24,6 @@ use Rattle.interface.specs.Format.{decode, decoded_number, stage_at, contents, p
 use Rattle.interface.specs.Inner.Reads.{standing}
 use Rattle.interface.specs.Inner.Parts.{Placed, Offsets}
 use Rattle.entry_points.specs.Rules.{find_entry_point}
-use Rattle.entry_points.specs.Inner.Walk.{chosen_in}
-use Rattle.entry_points.specs.declared.choose.Chosen.{Chosen}
-use Rattle.entry_points.specs.declared.choose.Chosen.TheVariants as Ch
 use Rattle.interface.specs.declared.types.EntryParts.{EntryParts}
 use Rattle.interface.specs.declared.types.ShaderStage.{ShaderStage}
 use Rattle.output_steps.specs.Inner.Summary.{summary_of}
@@ -143,25 +141,22 @@ module _ (derived : Bool) (q : Request) (t : Lent) (i : Interface) (e : EntryPoi
 pub room_enough : (ws : List ℕ) (p : EntryParts) (s : Summary) (l : ℕ) → Summed ws p s → 2 + 2 * s.locals ≤ l → out_words (standing ws p) ≤ l
 room_enough ws p s l g h = rw (← out_words_lem ws p s g) h
 
-module _ (c : Call) (i : Interface) (s : ShaderStage) (chosen : Chosen) (es : s ≡ (request_of c.codes).stage) (ec : chosen ≡ find_entry_point s c.name i.entries) where
+module _ (c : Call) (i : Interface) (s : ShaderStage) (chosen : Option ℕ) (es : s ≡ (request_of c.codes).stage) (ec : chosen ≡ find_entry_point s c.name i.entries) where
   on_found : (x : Outcome) → x ≡ on_chosen (derived_of c.codes) (request_of c.codes) c.lent i chosen → x ≡ on_named c i
   on_found x h =
       let f : chosen ≡ find_entry_point (request_of c.codes).stage c.name i.entries = ec ∙ rw es in
       h ∙ ap (on_chosen (derived_of c.codes) (request_of c.codes) c.lent i) f
 
-  pub chosen_at : (k : ℕ) (x : Outcome) → chosen ≡ Ch.At k
+  pub chosen_at : (k : ℕ) (x : Outcome) → chosen ≡ Some k
       → x ≡ on_entry_point (derived_of c.codes) (request_of c.codes) c.lent i (entry_point_nth i.entries k) → x ≡ on_named c i
   chosen_at k x e ex = on_found x (rw e ex)
 
   module _ (a : Answer) (l z o : List ℕ) (el : l ≡ c.lent.layout) (ez : z ≡ c.lent.sizes) (eo : o ≡ c.lent.out) (ea : a ≡ refused 10) where
-    pub chosen_absent : chosen ≡ Ch.Absent → outcome a l z o ≡ on_named c i
+    pub chosen_absent : chosen ≡ None → outcome a l z o ≡ on_named c i
     chosen_absent e = on_found (outcome a l z o) (rw (e, ea, el, ez, eo))
 
-    pub chosen_several : chosen ≡ Ch.Several → outcome a l z o ≡ on_named c i
-    chosen_several e = on_found (outcome a l z o) (rw (e, ea, el, ez, eo))
-
-pub chosen_below : (chosen : Chosen) (k n : ℕ) → chosen ≡ Ch.At k → chosen_in chosen n ≡ true → k < n
-chosen_below chosen k n ec h = ltb-true k n (rw ec at h)
+pub chosen_below : (chosen : Option ℕ) (k n : ℕ) → chosen ≡ Some k → IfSome chosen (λ i. i < n) → k < n
+chosen_below chosen k n ec h = rw ec at h
 
 -- ---- the call
 

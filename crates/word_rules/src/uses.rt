@@ -26,9 +26,10 @@ fn size_use(size: u64, least: u64) -> Result<(), BindingError>
     ensures { result ≡ size_use size least }
 {
     if least != 0 && least < size {
-        return Err(BindingError::WrongBufferSize);
+        Err(BindingError::WrongBufferSize)
+    } else {
+        Ok(())
     }
-    Ok(())
 }
 
 // Whether an entry serves a buffer.
@@ -75,8 +76,9 @@ fn acceleration_use(w: u32, entry: u32) -> Result<(), BindingError>
     }
 }
 
-// Whether an entry serves a resource, by the type words and the sizes of both.
+// Whether an entry serves a resource, by the type words and the sizes of both. Out of line: inlined, it takes a register from the search loops of a stage check.
 #[tactic(auto, unfolding(bindings::specs::Rules::check_binding_use, bindings::specs::Format::resource_type_of))]
+#[inline(never)]
 pub fn words_use(w: u32, size: u64, entry: u32, least: u64) -> Result<(), BindingError>
     ensures { result ≡ check_binding_use (resource_type_of w size) (binding_type_of entry least) }
 {

@@ -1,14 +1,10 @@
-use Rattle.entry_points.proofs.ReadsChoice.{few_in, pack_refused, stage_refused, stage_chosen}
+use Rattle.std.proofs.Common.{refl}
+use Rattle.std.proofs.lemmas.Result.{err_from_is_err_and}
+use Rattle.interface.specs.Format.{decode}
+use Rattle.entry_points.proofs.ReadsChoice.{pack_refused}
 use Rattle.entry_points.proofs.choose.finalize_entry_point_name.Goals as goal
 
-pub returns-then-refusal-ne0 : goal.returns-then-refusal-ne0
-returns-then-refusal-ne0 c = search pack_refused
-
-pub returns-then-stage-gt4 : goal.returns-then-stage-gt4
-returns-then-stage-gt4 c = search stage_refused
-
-pub only_answer-requires : goal.only_answer-requires
-only_answer-requires c = search few_in
-
-pub returns : goal.returns
-returns c = search stage_chosen
+pub returns-in_err-index_pack : goal.returns-in_err-index_pack
+returns-in_err-index_pack c =
+    let p = err_from_is_err_and c.from_residual.result c.from_residual.ensures.1 in
+    rw (p.1, p.2) (pack_refused (decode c.args.pack.now) c.args.stage _ c.in_err-index_pack.ensures.number _ _ refl refl)
