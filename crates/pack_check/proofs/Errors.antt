@@ -1,6 +1,7 @@
 -- Laws of the numbers of refused packs.
 use Rattle.std.proofs.Common.{◌≡◌, refl, arith}
 use Rattle.word.specs.Answers.{refused}
+use Rattle.word.specs.Numbers.{number_of}
 use Rattle.word.specs.Refusals.{refusal_answer}
 use Rattle.pack_check.specs.Errors.{error_number, pack_refusal}
 use Rattle.pack_check.specs.declared.check_pack.PackError.{PackError}
@@ -13,3 +14,7 @@ error_some Malformed z = omega arith
 pub refusal_number : (error : PackError) → refusal_answer (pack_refusal error) ≡ refused (error_number error)
 refusal_number Damaged = refl
 refusal_number Malformed = refl
+
+pub refusal_code : (error : PackError) → number_of (pack_refusal error).number ≡ error_number error
+refusal_code Damaged = refl
+refusal_code Malformed = refl
