@@ -152,3 +152,11 @@ module _ (d : Decoded) (stage n : ℕ) (e : n ≡ decoded_number d) where
 
 pub few_entries : (ws : List ℕ) → decoded_number (decode ws) ≡ 0 → length (interface_of (decode ws)).entries ≤ 16
 few_entries ws h = rw ((accepted ws h).entries, records_length (entry_point_at ws) (entry_end ws) (entry_count ws) (entries_at ws)) (accepted ws h).few_entries
+
+-- ---- what the functions of src/choose.rt use
+
+pub ruleset found_first = (find_here, find_onward, find_ended)
+
+pub ruleset found_only = (only_other, only_first, only_second, only_ended)
+
+pub ruleset chosen_by_stage = (damaged_refused, malformed_refused, stage_refused, stage_chosen, few_entries)
