@@ -92,17 +92,11 @@ impl Module<'_> {
     }
 
     // The entry point of a stage and a name.
-    #[tactic(auto, using(crate::proofs::ReadsChoice::found_first))]
     pub fn find_entry_point(&self, stage: ShaderStage, name: &[u8]) -> Option<usize>
         ensures value { result ≡ find_entry_point stage name.now (entries_in self.now.pack.now) }
         ensures in_bounds { IfSome result (λ i. i < length (entries_in self.now.pack.now)) }
     {
-        for position in 0..self.entry_count() {
-            if self.is_named(position, stage, name) {
-                return Some(position);
-            }
-        }
-        None
+        (0..self.entry_count()).find(|position| self.is_named(*position, stage, name))
     }
 
     // A stage's one entry point.
