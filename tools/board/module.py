@@ -18,7 +18,7 @@ TYPED = rf'(?:ptr {VALUE}|{NUMBER} {OPERAND})'
 # two numbers that a function returns: on both processors each lies at a multiple of its own width
 PAIR = r'\{ (?:i8|i16|i32|i64|float|double), (?:i8|i16|i32|i64|float|double) \}'
 RESULT = rf'(?:void|{NUMBER}|{PAIR})'
-NAME = r'(?:"[\w:.<>, &]+"|bokwingi_\w+)'
+NAME = r'(?:"[\w:.<>(), &\'#{}]+"|bokwingi_\w+)'
 PARAMETER = rf'{TYPE} (?:noundef )?(?:zeroext |signext )?{VALUE}'
 ARGUMENT = rf'(?:ptr|{NUMBER}) (?:noundef )?(?:zeroext |signext )?{OPERAND}'
 COMPARISON = r'(?:icmp (?:eq|ne|[us](?:lt|le|gt|ge))|fcmp (?:o|u)(?:eq|ne|lt|le|gt|ge))'
@@ -28,7 +28,7 @@ CONVERSION = r'(?:zext(?: nneg)?|sext|trunc(?: nuw)?(?: nsw)?|bitcast|fpext|fptr
 
 # the attributes of functions: those that hold on any processor, and those of x86-64, which are left out for the board
 ANYWHERE = ['nounwind', 'nocallback', 'nofree', 'willreturn', 'noreturn', 'cold', 'memory(argmem: readwrite)', 'memory(argmem: write)',
-            'memory(inaccessiblemem: write)']
+            'memory(inaccessiblemem: write)', 'noinline']
 OF_X86_64 = ['"probe-stack"="inline-asm"', '"stack-probe-size"="3072"', '"target-cpu"="x86-64"']
 ATTRIBUTE = '(?:%s)' % '|'.join(map(re.escape, ANYWHERE + OF_X86_64))
 
@@ -41,7 +41,7 @@ FORMS = {
     'head': rf'define (?P<internal>internal )?(?:noundef )?(?:zeroext |signext )?(?P<result>{RESULT}) @(?P<name>{NAME})'
             rf'\((?P<parameters>(?:{PARAMETER}(?:, {PARAMETER})*)?)\) #\d+ {{',
     'end': r'}',
-    'label': r'(?P<label>[\w.]+):(?: +; preds = .*)?',
+    'label': r'(?P<label>[\w.]+):(?: +; (?:preds = .*|No predecessors!))?',
     'alloca': rf'  (?P<to>{VALUE}) = alloca (?:{TYPE}|\[(?P<bytes>\d+) x i8\]), align [1248]',
     'load': rf'  (?P<to>{VALUE}) = load (?P<type>{TYPE}), ptr (?P<at>{VALUE}), align [1248](?:, !range !\d+)?(?:, !noundef !\d+)?',
     'load pair': rf'  {VALUE} = load (?P<type>{PAIR}), ptr (?P<at>{VALUE}), align [1248]',

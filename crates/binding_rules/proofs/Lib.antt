@@ -1,4 +1,3 @@
 pub mod AnswerLaws
-pub mod DeriveLaws
 pub mod Examples
-pub mod UseLaws
+pub mod SameLaws

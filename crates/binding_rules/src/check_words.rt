@@ -10,26 +10,21 @@ ghost use Rattle.bindings.specs.declared.types.Resource.{Resource};
 ghost use Rattle.bindings.specs.declared.types.BindGroupLayoutEntry.{BindGroupLayoutEntry};
 
 use crate::derives::derive_binding_type;
-use crate::uses::{check_binding_use, use_number};
+use crate::uses::check_binding_use;
 use bindings::answers::binding_answer;
 use bindings::binding_codes::{binding_word, least_word};
 use bindings::entry_words::{entry_at, entry_well_formed};
 use bindings::resource_words::{resource_at, resource_next};
-use bindings::types::Derived;
 use word::answer::Answer;
 use word::numbers;
 
 // Whether the words are a resource and nothing more.
 fn resource_alone(ws: &[u32]) -> bool
-    ensures k_value { (k : Resource → Answer) → only_resource (read_resource ws.now) k
+    ensures meaning { (k : Resource → Answer) → only_resource (read_resource ws.now) k
         ≡ pick result (k (resource_at ws.now 0)) (refused malformed_pack) }
-    ensures ws_value { result ≡ true → resource_encodable (resource_at ws.now 0) ≡ true }
+    ensures encodable { result ≡ true → resource_encodable (resource_at ws.now 0) ≡ true }
 {
-    let end = resource_next(ws, 0);
-    if end == 0 {
-        return false;
-    }
-    end == ws.len()
+    resource_next(ws, 0) == Some(ws.len())
 }
 
 // Whether the words are an entry and nothing more.
@@ -37,10 +32,7 @@ fn entry_alone(ws: &[u32]) -> bool
     ensures { (k : BindGroupLayoutEntry → Answer) → only_entry ws.now k
         ≡ pick result (k (entry_at ws.now 0)) (refused bad_call) }
 {
-    if ws.len() != 4 {
-        return false;
-    }
-    entry_well_formed(ws, 0)
+    ws.len() == 4 && entry_well_formed(ws, 0)
 }
 
 // Whether an entry serves a resource.
@@ -55,10 +47,10 @@ pub fn check_words(resource: &[u32], entry: &[u32]) -> Answer
     }
     let r = resource_at(resource, 0);
     let e = entry_at(entry, 0);
-    let ty = r.ty;
-    let bind = r.bind;
-    let provided = e.ty;
-    binding_answer(use_number(check_binding_use(ty, provided)), bind)
+    match check_binding_use(r.ty, e.ty) {
+        Ok(()) => Answer::accepted(),
+        Err(error) => binding_answer(error.number(), r.bind),
+    }
 }
 
 // The type word and the least-size word of the entry that a resource asks for.
@@ -69,15 +61,8 @@ pub fn derive_words(resource: &[u32], named: bool) -> Answer
         return Answer::refused(numbers::MALFORMED_PACK);
     }
     let r = resource_at(resource, 0);
-    let ty = r.ty;
-    let bind = r.bind;
-    match derive_binding_type(ty, named) {
-        Derived::Binding { ty: derived } => {
-            Answer::new(0, binding_word(derived), least_word(derived), 0)
-        }
-        Derived::WrongBufferAddressSpace => binding_answer(
-            numbers::WRONG_BUFFER_ADDRESS_SPACE,
-            bind,
-        ),
+    match derive_binding_type(r.ty, named) {
+        Ok(ty) => Answer::new(0, binding_word(ty), least_word(ty), 0),
+        Err(error) => binding_answer(error.number(), r.bind),
     }
 }

@@ -5,29 +5,22 @@ ghost use Rattle.word.specs.Choice.{pick, yes};
 ghost use Rattle.bindings.specs.declared.types.SamplerBindingType.TheVariants as Samp;
 
 use bindings::types::{
-    AddressSpace, BindingType, BufferBindingType, Derived, ImageClass, ImageDimension,
+    AddressSpace, BindingError, BindingType, BufferBindingType, ImageClass, ImageDimension,
     ResourceType, SampleKind, SamplerBindingType, StorageTextureAccess, TextureSampleType,
     TextureViewDimension,
 };
 
+#[tactic(auto, unfolding(word::specs::Choice::yes))]
 fn view_dimension(dim: ImageDimension, arrayed: bool) -> TextureViewDimension
     ensures { result ≡ derived_view dim arrayed }
 {
-    match dim {
-        ImageDimension::D1 => TextureViewDimension::D1,
-        ImageDimension::D2 => {
-            if arrayed {
-                return TextureViewDimension::D2Array;
-            }
-            TextureViewDimension::D2
-        }
-        ImageDimension::D3 => TextureViewDimension::D3,
-        ImageDimension::Cube => {
-            if arrayed {
-                return TextureViewDimension::CubeArray;
-            }
-            TextureViewDimension::Cube
-        }
+    match (dim, arrayed) {
+        (ImageDimension::D1, _) => TextureViewDimension::D1,
+        (ImageDimension::D2, false) => TextureViewDimension::D2,
+        (ImageDimension::D2, true) => TextureViewDimension::D2Array,
+        (ImageDimension::D3, _) => TextureViewDimension::D3,
+        (ImageDimension::Cube, false) => TextureViewDimension::Cube,
+        (ImageDimension::Cube, true) => TextureViewDimension::CubeArray,
     }
 }
 
@@ -45,18 +38,15 @@ fn sample_type(kind: SampleKind, named: bool) -> TextureSampleType
 fn storage_access(access: u32) -> StorageTextureAccess
     ensures { result ≡ derived_access access }
 {
-    if access == 1 {
-        return StorageTextureAccess::ReadOnly;
+    match access {
+        1 => StorageTextureAccess::ReadOnly,
+        2 => StorageTextureAccess::WriteOnly,
+        3 => StorageTextureAccess::ReadWrite,
+        _ => StorageTextureAccess::Atomic,
     }
-    if access == 2 {
-        return StorageTextureAccess::WriteOnly;
-    }
-    if access == 3 {
-        return StorageTextureAccess::ReadWrite;
-    }
-    StorageTextureAccess::Atomic
 }
 
+#[tactic(auto, unfolding(bindings::specs::Rules::derived_texture))]
 fn texture_type(class: ImageClass, view_dimension: TextureViewDimension, named: bool) -> BindingType
     ensures { result ≡ derived_texture class view_dimension named }
 {
@@ -81,30 +71,24 @@ fn texture_type(class: ImageClass, view_dimension: TextureViewDimension, named: 
 }
 
 // Storage of load alone is read-only.
-fn buffer_type(size: u64, space: AddressSpace) -> Derived
+fn buffer_type(size: u64, space: AddressSpace) -> Result<BindingType, BindingError>
     ensures { result ≡ derived_buffer size space }
 {
-    match space {
-        AddressSpace::Uniform => Derived::Binding {
-            ty: BindingType::Buffer {
-                ty: BufferBindingType::Uniform,
-                has_dynamic_offset: false,
-                min_binding_size: size,
-            },
+    let ty = match space {
+        AddressSpace::Uniform => BufferBindingType::Uniform,
+        AddressSpace::Storage { access } => BufferBindingType::Storage {
+            read_only: access == 1,
         },
-        AddressSpace::Storage { access } => Derived::Binding {
-            ty: BindingType::Buffer {
-                ty: BufferBindingType::Storage {
-                    read_only: access == 1,
-                },
-                has_dynamic_offset: false,
-                min_binding_size: size,
-            },
-        },
-        AddressSpace::Other => Derived::WrongBufferAddressSpace,
-    }
+        AddressSpace::Other => return Err(BindingError::WrongBufferAddressSpace),
+    };
+    Ok(BindingType::Buffer {
+        ty,
+        has_dynamic_offset: false,
+        min_binding_size: size,
+    })
 }
 
+#[tactic(auto, unfolding(word::specs::Choice::yes))]
 fn sampler_type(comparison: bool) -> SamplerBindingType
     ensures { result ≡ pick (yes comparison) Samp.Comparison Samp.Filtering }
 {
@@ -114,26 +98,23 @@ fn sampler_type(comparison: bool) -> SamplerBindingType
     SamplerBindingType::Filtering
 }
 
-// The binding type, or that there is none for the address space.
-pub fn derive_binding_type(ty: ResourceType, named: bool) -> Derived
+// The binding type; a buffer of an address space that is neither uniform nor storage has none.
+#[tactic(auto, unfolding(bindings::specs::Rules::derive_binding_type))]
+pub fn derive_binding_type(ty: ResourceType, named: bool) -> Result<BindingType, BindingError>
     ensures { result ≡ derive_binding_type ty named }
 {
     match ty {
         ResourceType::Buffer { size, space } => buffer_type(size, space),
-        ResourceType::Sampler { comparison } => Derived::Binding {
-            ty: BindingType::Sampler {
-                ty: sampler_type(comparison),
-            },
-        },
+        ResourceType::Sampler { comparison } => Ok(BindingType::Sampler {
+            ty: sampler_type(comparison),
+        }),
         ResourceType::Texture {
             dim,
             arrayed,
             class,
-        } => Derived::Binding {
-            ty: texture_type(class, view_dimension(dim, arrayed), named),
-        },
-        ResourceType::AccelerationStructure { vertex_return } => Derived::Binding {
-            ty: BindingType::AccelerationStructure { vertex_return },
-        },
+        } => Ok(texture_type(class, view_dimension(dim, arrayed), named)),
+        ResourceType::AccelerationStructure { vertex_return } => {
+            Ok(BindingType::AccelerationStructure { vertex_return })
+        }
     }
 }

@@ -1,37 +1,43 @@
 // Whether a layout entry serves a shader's texture.
 ghost use Rattle.std.specs.Prelude.{◌≡◌};
 ghost use Rattle.word.specs.Choice.{pick};
-ghost use Rattle.bindings.specs.Rules.{storable, sample_kind_code, view_fits, class_of, sampled_fits, storage_fits, access_of, is_external, class_use, texture_use};
-ghost use Rattle.bindings.specs.declared.types.BindingUse.TheVariants as Use;
+ghost use Rattle.bindings.specs.Rules.{storable, view_fits, class_of, sampled_fits, storage_fits, access_of, is_external, class_use, texture_use};
+ghost use Rattle.bindings.specs.declared.types.BindingError.TheVariants as Error;
 
-use bindings::binding_codes::view_code;
-use bindings::flags::same_bool;
 use bindings::resource_words::storable;
 use bindings::types::{
-    BindingType, BindingUse, ImageClass, ImageDimension, SampleKind, StorageTextureAccess,
+    BindingError, BindingType, ImageClass, ImageDimension, SampleKind, StorageTextureAccess,
     TextureSampleType, TextureViewDimension,
 };
 
 // Arrayed textures are 2D or cube.
+#[tactic(auto, unfolding(bindings::specs::Rules::view_fits, word::specs::Choice::yes))]
 fn view_fits(dim: ImageDimension, arrayed: bool, view: TextureViewDimension) -> bool
     ensures { result ≡ view_fits dim arrayed view }
 {
-    let code = view_code(view);
-    if arrayed {
-        match dim {
-            ImageDimension::D2 => code == 2,
-            ImageDimension::Cube => code == 4,
-            ImageDimension::D1 => false,
-            ImageDimension::D3 => false,
-        }
-    } else {
-        match dim {
-            ImageDimension::D1 => code == 0,
-            ImageDimension::D2 => code == 1,
-            ImageDimension::D3 => code == 5,
-            ImageDimension::Cube => code == 3,
-        }
+    match (dim, arrayed) {
+        (ImageDimension::D1, false) => view == TextureViewDimension::D1,
+        (ImageDimension::D2, false) => view == TextureViewDimension::D2,
+        (ImageDimension::D2, true) => view == TextureViewDimension::D2Array,
+        (ImageDimension::D3, false) => view == TextureViewDimension::D3,
+        (ImageDimension::Cube, false) => view == TextureViewDimension::Cube,
+        (ImageDimension::Cube, true) => view == TextureViewDimension::CubeArray,
+        _ => false,
     }
+}
+
+// A texture in another view has the wrong view dimension.
+fn view_use(
+    dim: ImageDimension,
+    arrayed: bool,
+    view: TextureViewDimension,
+) -> Result<(), BindingError>
+    ensures { result ≡ pick (view_fits dim arrayed view) (Ok tt) (Err Error.WrongTextureViewDimension) }
+{
+    if view_fits(dim, arrayed, view) {
+        return Ok(());
+    }
+    Err(BindingError::WrongTextureViewDimension)
 }
 
 // The class that a sampled entry stands for.
@@ -55,44 +61,6 @@ fn class_of(sample_type: TextureSampleType, multi: bool) -> ImageClass
     }
 }
 
-// The number of a sample kind.
-fn kind_code(kind: SampleKind) -> u32
-    ensures { result ≡ sample_kind_code kind }
-{
-    match kind {
-        SampleKind::Float => 0,
-        SampleKind::Sint => 1,
-        SampleKind::Uint => 2,
-    }
-}
-
-// Whether a shader's class is that of a sampled entry.
-fn sampled_fits(class: ImageClass, binding_class: ImageClass) -> bool
-    ensures { result ≡ sampled_fits class binding_class }
-{
-    match class {
-        ImageClass::Sampled { kind, multi } => match binding_class {
-            ImageClass::Sampled {
-                kind: binding_kind,
-                multi: binding_multi,
-            } => kind_code(kind) == kind_code(binding_kind) && same_bool(multi, binding_multi),
-            ImageClass::Depth { .. } => false,
-            ImageClass::Storage { .. } => false,
-            ImageClass::External => false,
-        },
-        ImageClass::Depth { multi } => match binding_class {
-            ImageClass::Depth {
-                multi: binding_multi,
-            } => same_bool(multi, binding_multi),
-            ImageClass::Sampled { .. } => false,
-            ImageClass::Storage { .. } => false,
-            ImageClass::External => false,
-        },
-        ImageClass::Storage { .. } => false,
-        ImageClass::External => false,
-    }
-}
-
 // Access as a sum: an atomic entry is load and store too.
 fn access_of(access: StorageTextureAccess) -> u32
     ensures { result ≡ access_of access }
@@ -106,6 +74,7 @@ fn access_of(access: StorageTextureAccess) -> u32
 }
 
 // Formats match exactly. A store-only shader is served by an entry of load and store.
+#[tactic(auto, unfolding(bindings::specs::Rules::storage_fits))]
 fn storage_fits(class: ImageClass, format: u32, binding_access: u32) -> bool
     ensures { result ≡ storage_fits class format binding_access }
 {
@@ -117,54 +86,57 @@ fn storage_fits(class: ImageClass, format: u32, binding_access: u32) -> bool
             shader_format == format
                 && (access == binding_access || (access == 2 && binding_access == 3))
         }
-        ImageClass::Sampled { .. } => false,
-        ImageClass::Depth { .. } => false,
-        ImageClass::External => false,
+        _ => false,
     }
 }
 
-fn is_external(class: ImageClass) -> bool
-    ensures { result ≡ is_external class }
-{
-    match class {
-        ImageClass::Sampled { .. } => false,
-        ImageClass::Depth { .. } => false,
-        ImageClass::Storage { .. } => false,
-        ImageClass::External => true,
-    }
-}
-
-fn class_use(fits: bool) -> BindingUse
+fn class_use(fits: bool) -> Result<(), BindingError>
     ensures { result ≡ class_use fits }
 {
     if fits {
-        return BindingUse::Accepted;
+        return Ok(());
     }
-    BindingUse::WrongTextureClass
+    Err(BindingError::WrongTextureClass)
 }
 
-fn sampled_use(class: ImageClass, sample_type: TextureSampleType, multi: bool) -> BindingUse
+#[tactic(auto, using(crate::proofs::SameLaws::class_same))]
+fn sampled_use(
+    class: ImageClass,
+    sample_type: TextureSampleType,
+    multi: bool,
+) -> Result<(), BindingError>
     ensures { result ≡ class_use (sampled_fits class (class_of sample_type multi)) }
 {
-    class_use(sampled_fits(class, class_of(sample_type, multi)))
+    class_use(class == class_of(sample_type, multi))
 }
 
-fn storage_use(class: ImageClass, access: StorageTextureAccess, format: u32) -> BindingUse
-    ensures { result ≡ pick (storable format) (class_use (storage_fits class format (access_of access))) Use.BadStorageFormat }
+fn storage_use(
+    class: ImageClass,
+    access: StorageTextureAccess,
+    format: u32,
+) -> Result<(), BindingError>
+    ensures { result ≡ pick (storable format) (class_use (storage_fits class format (access_of access))) (Err Error.BadStorageFormat) }
 {
-    if storable(format) {
-        return class_use(storage_fits(class, format, access_of(access)));
+    if !storable(format) {
+        return Err(BindingError::BadStorageFormat);
     }
-    BindingUse::BadStorageFormat
+    class_use(storage_fits(class, format, access_of(access)))
 }
 
-// A texture on an entry that is none, or in another view, has the wrong view dimension.
+fn external_use(class: ImageClass) -> Result<(), BindingError>
+    ensures { result ≡ class_use (is_external class) }
+{
+    class_use(class == ImageClass::External)
+}
+
+// A texture on an entry that is none has the wrong view dimension.
+#[tactic(auto, unfolding(bindings::specs::Rules::texture_use))]
 pub(crate) fn texture_use(
     dim: ImageDimension,
     arrayed: bool,
     class: ImageClass,
     entry: BindingType,
-) -> BindingUse
+) -> Result<(), BindingError>
     ensures { result ≡ texture_use dim arrayed class entry }
 {
     match entry {
@@ -173,29 +145,21 @@ pub(crate) fn texture_use(
             view_dimension,
             multisampled,
         } => {
-            if view_fits(dim, arrayed, view_dimension) {
-                return sampled_use(class, sample_type, multisampled);
-            }
-            BindingUse::WrongTextureViewDimension
+            view_use(dim, arrayed, view_dimension)?;
+            sampled_use(class, sample_type, multisampled)
         }
         BindingType::StorageTexture {
             access,
             format,
             view_dimension,
         } => {
-            if view_fits(dim, arrayed, view_dimension) {
-                return storage_use(class, access, format);
-            }
-            BindingUse::WrongTextureViewDimension
+            view_use(dim, arrayed, view_dimension)?;
+            storage_use(class, access, format)
         }
         BindingType::ExternalTexture => {
-            if view_fits(dim, arrayed, TextureViewDimension::D2) {
-                return class_use(is_external(class));
-            }
-            BindingUse::WrongTextureViewDimension
+            view_use(dim, arrayed, TextureViewDimension::D2)?;
+            external_use(class)
         }
-        BindingType::Buffer { .. } => BindingUse::WrongTextureViewDimension,
-        BindingType::Sampler { .. } => BindingUse::WrongTextureViewDimension,
-        BindingType::AccelerationStructure { .. } => { BindingUse::WrongTextureViewDimension }
+        _ => Err(BindingError::WrongTextureViewDimension),
     }
 }

@@ -1,64 +1,35 @@
 // Whether a layout entry serves a shader's resource.
 ghost use Rattle.std.specs.Prelude.{◌≡◌};
-ghost use Rattle.bindings.specs.Rules.{space_of, same_space, size_use, buffer_use, comparing, sampler_use, acceleration_use, check_binding_use, use_number};
+ghost use Rattle.bindings.specs.Rules.{space_of, size_use, buffer_use, sampler_use, acceleration_use, check_binding_use};
 
 use crate::texture_uses::texture_use;
-use bindings::flags::same_bool;
 use bindings::types::{
-    AddressSpace, BindingType, BindingUse, BufferBindingType, ResourceType, SamplerBindingType,
+    AddressSpace, BindingError, BindingType, BufferBindingType, ResourceType, SamplerBindingType,
 };
-use word::numbers;
 
 // The address space that a buffer entry stands for.
+#[tactic(auto, unfolding(word::specs::Choice::yes))]
 fn space_of(ty: BufferBindingType) -> AddressSpace
     ensures { result ≡ space_of ty }
 {
     match ty {
         BufferBindingType::Uniform => AddressSpace::Uniform,
-        BufferBindingType::Storage { read_only } => {
-            if read_only {
-                return AddressSpace::Storage { access: 1 };
-            }
-            AddressSpace::Storage { access: 3 }
-        }
+        BufferBindingType::Storage { read_only: true } => AddressSpace::Storage { access: 1 },
+        BufferBindingType::Storage { read_only: false } => AddressSpace::Storage { access: 3 },
     }
 }
 
-fn same_space(a: AddressSpace, b: AddressSpace) -> bool
-    ensures { result ≡ same_space a b }
-{
-    match a {
-        AddressSpace::Uniform => match b {
-            AddressSpace::Uniform => true,
-            AddressSpace::Storage { .. } => false,
-            AddressSpace::Other => false,
-        },
-        AddressSpace::Storage { access: first } => match b {
-            AddressSpace::Uniform => false,
-            AddressSpace::Storage { access: second } => first == second,
-            AddressSpace::Other => false,
-        },
-        AddressSpace::Other => match b {
-            AddressSpace::Uniform => false,
-            AddressSpace::Storage { .. } => false,
-            AddressSpace::Other => true,
-        },
-    }
-}
-
-fn size_use(size: u64, min_size: u64) -> BindingUse
+fn size_use(size: u64, min_size: u64) -> Result<(), BindingError>
     ensures { result ≡ size_use size min_size }
 {
-    if min_size == 0 {
-        return BindingUse::Accepted;
+    if min_size != 0 && min_size < size {
+        return Err(BindingError::WrongBufferSize);
     }
-    if min_size < size {
-        return BindingUse::WrongBufferSize;
-    }
-    BindingUse::Accepted
+    Ok(())
 }
 
-fn buffer_use(size: u64, space: AddressSpace, entry: BindingType) -> BindingUse
+#[tactic(auto, using(crate::proofs::SameLaws::space_same), unfolding(bindings::specs::Rules::buffer_use))]
+fn buffer_use(size: u64, space: AddressSpace, entry: BindingType) -> Result<(), BindingError>
     ensures { result ≡ buffer_use size space entry }
 {
     match entry {
@@ -67,69 +38,43 @@ fn buffer_use(size: u64, space: AddressSpace, entry: BindingType) -> BindingUse
             min_binding_size,
             ..
         } => {
-            if same_space(space, space_of(ty)) {
-                return size_use(size, min_binding_size);
+            if space != space_of(ty) {
+                return Err(BindingError::WrongAddressSpace);
             }
-            BindingUse::WrongAddressSpace
+            size_use(size, min_binding_size)
         }
-        BindingType::Sampler { .. } => BindingUse::WrongType,
-        BindingType::Texture { .. } => BindingUse::WrongType,
-        BindingType::StorageTexture { .. } => BindingUse::WrongType,
-        BindingType::ExternalTexture => BindingUse::WrongType,
-        BindingType::AccelerationStructure { .. } => BindingUse::WrongType,
+        _ => Err(BindingError::WrongType),
     }
 }
 
-fn comparing(ty: SamplerBindingType) -> bool
-    ensures { result ≡ comparing ty }
-{
-    match ty {
-        SamplerBindingType::Filtering => false,
-        SamplerBindingType::NonFiltering => false,
-        SamplerBindingType::Comparison => true,
-    }
-}
-
-fn sampler_use(comparison: bool, entry: BindingType) -> BindingUse
+#[tactic(auto, unfolding(bindings::specs::Rules::sampler_use, word::specs::Choice::yes))]
+fn sampler_use(comparison: bool, entry: BindingType) -> Result<(), BindingError>
     ensures { result ≡ sampler_use comparison entry }
 {
     match entry {
         BindingType::Sampler { ty } => {
-            if same_bool(comparison, comparing(ty)) {
-                return BindingUse::Accepted;
+            if comparison != (ty == SamplerBindingType::Comparison) {
+                return Err(BindingError::WrongSamplerComparison);
             }
-            BindingUse::WrongSamplerComparison
+            Ok(())
         }
-        BindingType::Buffer { .. } => BindingUse::WrongType,
-        BindingType::Texture { .. } => BindingUse::WrongType,
-        BindingType::StorageTexture { .. } => BindingUse::WrongType,
-        BindingType::ExternalTexture => BindingUse::WrongType,
-        BindingType::AccelerationStructure { .. } => BindingUse::WrongType,
+        _ => Err(BindingError::WrongType),
     }
 }
 
-fn acceleration_use(vertex_return: bool, entry: BindingType) -> BindingUse
+#[tactic(auto, unfolding(bindings::specs::Rules::acceleration_use, word::specs::Choice::yes))]
+fn acceleration_use(vertex_return: bool, entry: BindingType) -> Result<(), BindingError>
     ensures { result ≡ acceleration_use vertex_return entry }
 {
-    match entry {
-        BindingType::AccelerationStructure {
-            vertex_return: entry_vertex_return,
-        } => {
-            if same_bool(vertex_return, entry_vertex_return) {
-                return BindingUse::Accepted;
-            }
-            BindingUse::WrongType
-        }
-        BindingType::Buffer { .. } => BindingUse::WrongType,
-        BindingType::Sampler { .. } => BindingUse::WrongType,
-        BindingType::Texture { .. } => BindingUse::WrongType,
-        BindingType::StorageTexture { .. } => BindingUse::WrongType,
-        BindingType::ExternalTexture => BindingUse::WrongType,
+    if entry == (BindingType::AccelerationStructure { vertex_return }) {
+        return Ok(());
     }
+    Err(BindingError::WrongType)
 }
 
 // Whether a layout entry serves a resource, and if not, why.
-pub fn check_binding_use(ty: ResourceType, entry: BindingType) -> BindingUse
+#[tactic(auto, unfolding(bindings::specs::Rules::check_binding_use))]
+pub fn check_binding_use(ty: ResourceType, entry: BindingType) -> Result<(), BindingError>
     ensures { result ≡ check_binding_use ty entry }
 {
     match ty {
@@ -143,21 +88,5 @@ pub fn check_binding_use(ty: ResourceType, entry: BindingType) -> BindingUse
         ResourceType::AccelerationStructure { vertex_return } => {
             acceleration_use(vertex_return, entry)
         }
-    }
-}
-
-// The number of an answer.
-pub(crate) fn use_number(binding_use: BindingUse) -> u32
-    ensures { result ≡ use_number binding_use }
-{
-    match binding_use {
-        BindingUse::Accepted => 0,
-        BindingUse::WrongType => numbers::WRONG_TYPE,
-        BindingUse::WrongAddressSpace => numbers::WRONG_ADDRESS_SPACE,
-        BindingUse::WrongBufferSize => numbers::WRONG_BUFFER_SIZE,
-        BindingUse::WrongTextureViewDimension => numbers::WRONG_TEXTURE_VIEW_DIMENSION,
-        BindingUse::WrongTextureClass => numbers::WRONG_TEXTURE_CLASS,
-        BindingUse::WrongSamplerComparison => numbers::WRONG_SAMPLER_COMPARISON,
-        BindingUse::BadStorageFormat => numbers::BAD_STORAGE_FORMAT,
     }
 }

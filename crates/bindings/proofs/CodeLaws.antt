@@ -1,5 +1,6 @@
 -- The code's ways to the numbers of binding types, and their ranges.
-use Rattle.std.proofs.Common.{◌≡◌, ℕ, ◌+◌, ◌*◌, ◌^◌, ◌<◌, ◌≤◌, Bool, true, false, arith, ltb-true}
+use Rattle.std.proofs.Common.{◌≡◌, ℕ, ◌^◌, ◌<◌, ◌≤◌, Bool, true, false, refl, arith, ltb-true}
+use mir.Val.{bool_byte}
 use Rattle.word.specs.Choice.{pick, yes}
 use Rattle.bindings.specs.Rules.{view_code}
 use Rattle.bindings.specs.Format.{flag, buffer_code, sampler_code, sample_code, access_code, binding_code, least_size_of, format_encodable, size_limit}
@@ -18,36 +19,15 @@ use Rattle.bindings.specs.declared.types.BindingType.TheVariants as Bind
 
 -- ---- the code's ways
 
-pub buffer_code_lem : (x : ℕ) (ty : BufferBindingType) (ro : Bool) → ty ≡ Buf.Storage ro → x ≡ flag ro → 1 + 2 * x ≡ buffer_code ty
-buffer_code_lem x ty ro e h = rw (e, h)
+-- what `u64::from` makes of a truth value
+pub flag_byte : (b : Bool) → bool_byte b ≡ flag b
+unfolding yes
+flag_byte true = refl
+flag_byte false = refl
 
-pub float_code : (x : ℕ) (sample : TextureSampleType) (filterable : Bool) → sample ≡ Sample.Float filterable → x ≡ pick (yes filterable) 0 1 → x ≡ sample_code sample
-float_code x sample filterable e h = rw e h
-
-module _ (ty : BindingType) (x y z : ℕ) where
-  pub code_buffer : (b : BufferBindingType) (dynamic : Bool) (least : ℕ) → ty ≡ Bind.Buffer b dynamic least → x ≡ buffer_code b → y ≡ flag dynamic
-      → x + 4 * y ≡ binding_code ty
-  unfolding binding_code
-  code_buffer b dynamic least e p q = rw (e, p, q)
-
-  pub code_texture : (sample : TextureSampleType) (view : TextureViewDimension) (multi : Bool) → ty ≡ Bind.Texture sample view multi
-      → x ≡ sample_code sample → y ≡ flag multi → z ≡ view_code view → 2 ^ 24 + (16 * x + 8 * y + z) ≡ binding_code ty
-  unfolding binding_code
-  code_texture sample view multi e p q r = rw (e, p, q, r)
-
-  pub code_storage : (access : StorageTextureAccess) (format : ℕ) (view : TextureViewDimension) → ty ≡ Bind.StorageTexture access format view
-      → x ≡ access_code access → z ≡ view_code view → 2 ^ 25 + (2 ^ 16 * x + 2 ^ 8 * format + z) ≡ binding_code ty
-  unfolding binding_code
-  code_storage access format view e p r = rw (e, p, r)
-
-module _ (ty : BindingType) (x : ℕ) where
-  pub code_sampler : (s : SamplerBindingType) → ty ≡ Bind.Sampler s → x ≡ sampler_code s → 2 ^ 23 + x ≡ binding_code ty
-  unfolding binding_code
-  code_sampler s e p = rw (e, p)
-
-  pub code_acceleration : (returns : Bool) → ty ≡ Bind.AccelerationStructure returns → x ≡ flag returns → 2 ^ 23 * 6 + x ≡ binding_code ty
-  unfolding binding_code
-  code_acceleration returns e p = rw (e, p)
+-- whether a float is filterable
+pub float_code : (sample : TextureSampleType) (b : Bool) (x : ℕ) → sample ≡ Sample.Float b → x ≡ pick (yes b) 0 1 → x ≡ sample_code sample
+float_code sample b x e h = rw e h
 
 -- ---- ranges
 

@@ -1,16 +1,16 @@
--- The binding type that a resource derives: words can hold it.
-use Rattle.std.proofs.Common.{◌≡◌, ℕ, ◌<◌, Bool, true, false, not, ◌&&◌, eqb, ltb, refl, arith, ltb-true, lt-ltb}
+-- The binding type that a resource derives: words can hold it, and where there is none it is for the address space.
+use Rattle.std.proofs.Common.{◌≡◌, ℕ, ◌<◌, Bool, true, false, not, ◌&&◌, eqb, ltb, refl, arith, ltb-true, lt-ltb, Result, Ok, Err}
 use Rattle.word.specs.Choice.{yes}
 use Rattle.bindings.specs.Rules.{storable, same_bool}
-use Rattle.bindings.specs.Rules.{derived_texture, derive_binding_type}
+use Rattle.bindings.specs.Rules.{error_number, derived_texture, derive_binding_type}
 use Rattle.bindings.specs.Format.{type_encodable, format_encodable, size_limit}
 use Rattle.bindings.specs.declared.types.AddressSpace.TheVariants as Space
 use Rattle.bindings.specs.declared.types.ImageClass.TheVariants as Class
 use Rattle.bindings.specs.declared.types.ResourceType.{ResourceType}
 use Rattle.bindings.specs.declared.types.ResourceType.TheVariants as Res
 use Rattle.bindings.specs.declared.types.BindingType.{BindingType}
-use Rattle.bindings.specs.declared.types.Derived.{Derived}
-use Rattle.bindings.specs.declared.types.Derived.TheVariants as Der
+use Rattle.bindings.specs.declared.types.BindingError.{BindingError}
+use Rattle.bindings.specs.declared.types.BindingError.TheVariants as Error
 use Rattle.word.proofs.Truth.{first, second}
 
 -- ---- ranges
@@ -18,9 +18,9 @@ use Rattle.word.proofs.Truth.{first, second}
 storable_encodable : (format : ℕ) → storable format ≡ true → ltb format 77 ≡ true
 storable_encodable format h = let l : format < 43 = search (ltb-true, first) in lt-ltb format 77 (omega arith)
 
-abbrev encodable_type : Derived → Bool
-encodable_type (Der.Binding ty) = format_encodable ty
-encodable_type Der.WrongBufferAddressSpace = true
+abbrev encodable_type : Result BindingType BindingError → Bool
+encodable_type (Ok ty) = format_encodable ty
+encodable_type (Err e) = true
 
 encodable_type_lem : (r : ResourceType) (named : Bool) → type_encodable r ≡ true → encodable_type (derive_binding_type r named) ≡ true
 unfolding type_encodable derive_binding_type derived_texture
@@ -37,7 +37,7 @@ encodable_type_lem (Res.Texture dim arrayed Class.External) named h = refl
 encodable_type_lem (Res.AccelerationStructure returns) named h = refl
 
 -- a derived type of an encodable resource type can be encoded
-pub derived_encodable : (r : ResourceType) (named : Bool) (ty : BindingType) → type_encodable r ≡ true → derive_binding_type r named ≡ Der.Binding ty → format_encodable ty ≡ true
+pub derived_encodable : (r : ResourceType) (named : Bool) (ty : BindingType) → type_encodable r ≡ true → derive_binding_type r named ≡ Ok ty → format_encodable ty ≡ true
 derived_encodable r named ty h d = rw d at (encodable_type_lem r named h)
 
 -- a truth value is the same as itself
@@ -45,3 +45,34 @@ pub same_bool_lem : (b : Bool) → same_bool b b ≡ true
 unfolding yes
 same_bool_lem true = refl
 same_bool_lem false = refl
+
+-- ---- refusals
+
+-- no refusal has the number of acceptance
+pub error_some : (e : BindingError) → error_number e ≡ 0 → ⊥
+error_some Error.WrongType z = omega arith
+error_some Error.WrongAddressSpace z = omega arith
+error_some Error.WrongBufferAddressSpace z = omega arith
+error_some Error.WrongBufferSize z = omega arith
+error_some Error.WrongTextureViewDimension z = omega arith
+error_some Error.WrongTextureClass z = omega arith
+error_some Error.WrongSamplerComparison z = omega arith
+error_some Error.BadStorageFormat z = omega arith
+
+-- what deriving can be refused for
+abbrev space_refused : Result BindingType BindingError → Type 0
+space_refused (Ok ty) = Unit {0}
+space_refused (Err e) = e ≡ Error.WrongBufferAddressSpace
+
+space_refused_lem : (r : ResourceType) (named : Bool) → space_refused (derive_binding_type r named)
+unfolding derive_binding_type
+space_refused_lem (Res.Buffer size Space.Uniform) named = tt
+space_refused_lem (Res.Buffer size (Space.Storage access)) named = tt
+space_refused_lem (Res.Buffer size Space.Other) named = refl
+space_refused_lem (Res.Sampler comparison) named = tt
+space_refused_lem (Res.Texture dim arrayed class) named = tt
+space_refused_lem (Res.AccelerationStructure returns) named = tt
+
+-- deriving is refused for the address space alone
+pub derived_refused : (r : ResourceType) (named : Bool) (e : BindingError) → derive_binding_type r named ≡ Err e → e ≡ Error.WrongBufferAddressSpace
+derived_refused r named e d = rw d at (space_refused_lem r named)

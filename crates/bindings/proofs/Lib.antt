@@ -6,3 +6,4 @@ pub mod DerivedTypes
 pub mod EntryFormat
 pub mod ResourceFormat
 pub mod SameBinding
+pub mod UseErrors

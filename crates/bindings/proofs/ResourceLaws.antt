@@ -1,39 +1,17 @@
 -- The code's ways through the reader of resources.
-use Rattle.std.proofs.Common.{◌≡◌, ℕ, zero, suc, ◌+◌, ◌-◌, ◌<◌, ◌≤◌, Bool, true, false, not, ◌&&◌, eqb, ltb, List, [], ◌∷◌, length, drop, refl, ◌∙◌, add-one, arith, drop_of_length-le, drop-cons, ltb-false, ltb-true, eq-eqb, ne_eqb}
+use Rattle.std.proofs.Common.{◌≡◌, ℕ, zero, suc, ◌+◌, ◌-◌, ◌<◌, ◌≤◌, Bool, true, false, not, ltb, List, [], ◌∷◌, length, drop, refl, ◌∙◌, add-one, arith, drop_of_length-le, drop-cons, ltb-false, ltb-true}
 use native.Mathlib.Numerals.{add-two}
 use lib.ListN.{get_or-eq_default}
 use borrow.Author.Tests.{not-true, not-false}
-use Rattle.word.specs.Choice.{pick, yes}
-use Rattle.word.specs.Words.{word_at, content_of, bits, bit}
-use Rattle.word.specs.Parse.{Parsed, fault, got, next, one, nowhere, from, behind, rest_at}
-use Rattle.bindings.specs.Rules.{storable}
-use Rattle.bindings.specs.Format.{place_well_formed, place_of, type_code, space_at, sample_kind_at, storage_well_formed, resource_word_well_formed}
-use Rattle.bindings.specs.Format.{size_well_formed, bit_set, texture, resource_type_of, is_buffer_word, resource, read_resource, resource_at}
+use Rattle.word.specs.Choice.{pick}
+use Rattle.word.specs.Words.{word_at, content_of}
+use Rattle.word.specs.Parse.{Parsed, fault, got, next, one, Rest, nowhere, from, behind}
+use Rattle.bindings.specs.Format.{place_well_formed, place_of, resource_word_well_formed}
+use Rattle.bindings.specs.Format.{size_well_formed, resource_type_of, is_buffer_word, resource, read_resource, resource_at}
 use Rattle.bindings.specs.declared.types.ResourceBinding.{ResourceBinding}
-use Rattle.bindings.specs.declared.types.AddressSpace.{AddressSpace}
-use Rattle.bindings.specs.declared.types.SampleKind.{SampleKind}
-use Rattle.bindings.specs.declared.types.ImageClass.TheVariants as Class
 use Rattle.bindings.specs.declared.types.ResourceType.{ResourceType}
-use Rattle.bindings.specs.declared.types.ResourceType.TheVariants as Res
 use Rattle.bindings.specs.declared.types.Resource.{Resource}
 use Rattle.word.proofs.Truth.{by_test}
-
--- ---- types
-
-pub storage_bits : (w : ℕ) (x b : Bool) → b ≡ storable (bits 14 8 w)
-    → x ≡ (eqb (bits 22 19 w) 0 && (eqb (bit 15 w) 0 && (eqb (bits 7 3 w) 0 && (yes b && not (eqb (bits 18 16 w) 0))))) → x ≡ storage_well_formed w
-unfolding yes
-storage_bits w x b e h = rw (← e) h
-
-module _ (w size : ℕ) where
-  pub type_buffer : (space : AddressSpace) → type_code w ≡ 0 → space ≡ space_at (bits 4 3 w) (bits 2 0 w) → Res.Buffer size space ≡ resource_type_of w size
-  unfolding resource_type_of
-  type_buffer space z e = rw (eq-eqb (type_code w) 0 z, e)
-
-  pub type_sampled : (x : ResourceType) (kind : SampleKind) → (type_code w ≡ 0 → ⊥) → (type_code w ≡ 1 → ⊥) → type_code w ≡ 2 → kind ≡ sample_kind_at (bits 5 4 w)
-      → x ≡ texture w (Class.Sampled kind (bit_set 3 w)) → x ≡ resource_type_of w size
-  unfolding resource_type_of
-  type_sampled x kind m n z e h = rw (ne_eqb (type_code w) 0 m, ne_eqb (type_code w) 1 n, eq-eqb (type_code w) 2 z, ← e) h
 
 -- ---- the words of a resource at a position
 
@@ -43,25 +21,6 @@ sized : (b : Bool) (size : Parsed ℕ) (rest : List ℕ) (k : ℕ → Resource) 
 sized true fault rest k r = refl
 sized true (got s rest') rest k r = refl
 sized false size rest k r = refl
-
-at_from : (ws : List ℕ) (at : ℕ) → 0 < at → rest_at ws at ≡ from (drop at ws)
-at_from ws zero h = absurd (omega arith)
-at_from ws (suc n) h = refl
-
--- the size that a buffer has
-module _ (ws : List ℕ) (at w : ℕ) (b : Bool) (be : b ≡ is_buffer_word w) where
-  pub size_none : 0 < at → not b ≡ true → rest_at ws at ≡ pick (is_buffer_word w) (behind (one size_well_formed (drop at ws))) (from (drop at ws))
-  size_none h n = rw (← be, not-true b n) (at_from ws at h)
-
-  pub size_past : not b ≡ false → length ws ≤ at → nowhere ≡ pick (is_buffer_word w) (behind (one size_well_formed (drop at ws))) (from (drop at ws))
-  size_past n h = rw (← be, not-false b n, drop_of_length-le ws h)
-
-  module _ (s : ℕ) (g : Bool) (n : not b ≡ false) (h : at < length ws) (se : s ≡ word_at ws at) (ge : g ≡ size_well_formed s) where
-    pub size_bad : not g ≡ true → nowhere ≡ pick (is_buffer_word w) (behind (one size_well_formed (drop at ws))) (from (drop at ws))
-    size_bad m = rw (← be, not-false b n, drop-cons ws at 0 h, ← se, ← ge, not-true g m)
-
-    pub size_good_lem : not g ≡ false → rest_at ws (at + 1) ≡ pick (is_buffer_word w) (behind (one size_well_formed (drop at ws))) (from (drop at ws))
-    size_good_lem m = rw (← be, not-false b n, drop-cons ws at 0 h, ← se, ← ge, not-false g m, add-one)
 
 module _ (ws : List ℕ) (at : ℕ) where
   none_left : length ws ≤ at → drop at ws ≡ []
@@ -90,16 +49,13 @@ module _ (ws : List ℕ) (at : ℕ) where
       unfolding read_resource
       next_no_type n = rw (two_left h, ← pe, ← be, not-false b bt, ← te, ← ce, not-true c n)
 
-      pub next_sized : (r : ℕ) → not c ≡ false
-          → rest_at ws r ≡ pick (is_buffer_word t) (behind (one size_well_formed (drop (at + 2) ws))) (from (drop (at + 2) ws))
-          → rest_at ws r ≡ behind (read_resource (drop at ws))
+      pub next_sized : (r : Rest) → not c ≡ false
+          → r ≡ pick (is_buffer_word t) (behind (one size_well_formed (drop (at + 2) ws))) (from (drop (at + 2) ws))
+          → r ≡ behind (read_resource (drop at ws))
       unfolding read_resource
       next_sized r n e =
           let behind_size = sized (is_buffer_word t) (one size_well_formed (drop (at + 2) ws)) (drop (at + 2) ws) (λ s. resource p t (content_of s)) (resource p t 0) in
           rw (two_left h, ← pe, ← be, not-false b bt, ← te, ← ce, not-false c n) (e ∙ behind_size)
-
-pub next_later : (at r : ℕ) → ((r ≡ 0 → ⊥) → at + 2 ≤ r) → (r ≡ 0 → ⊥) → at < r
-next_later at r h n = omega (arith, h n)
 
 pub resource_parts : (place w size : ℕ) (bind : ResourceBinding) (ty : ResourceType) → bind ≡ place_of place → ty ≡ resource_type_of w size
     → record { bind = bind; ty = ty } ≡ resource place w size

@@ -1,18 +1,18 @@
 -- The answers of the functions over words.
-use Rattle.std.specs.Prelude.{ℕ, Bool, List, [], ◌∷◌, ◌==◌}
+use Rattle.std.specs.Prelude.{ℕ, Bool, List, [], ◌∷◌, ◌==◌, Result, Ok, Err}
 use Rattle.word.specs.Choice.{pick}
 use Rattle.word.specs.Numbers as Number
 use Rattle.word.specs.Words.{of_kind}
 use Rattle.word.specs.Parse.{Parsed, fault, got}
 use Rattle.word.specs.Answers.{answer, accepted, refused}
 use Rattle.word.specs.declared.answer.Answer.{Answer}
-use Rattle.bindings.specs.Rules.{check_binding_use, use_number, derive_binding_type, derived_number}
+use Rattle.bindings.specs.Rules.{check_binding_use, use_number, error_number, derive_binding_type}
 use Rattle.bindings.specs.Format.{read_resource, entry_well_formed, entry_of, binding_code, least_size_of, size_word}
 use Rattle.bindings.specs.declared.types.ResourceBinding.{ResourceBinding}
 use Rattle.bindings.specs.declared.types.Resource.{Resource}
 use Rattle.bindings.specs.declared.types.BindGroupLayoutEntry.{BindGroupLayoutEntry}
-use Rattle.bindings.specs.declared.types.Derived.{Derived}
-use Rattle.bindings.specs.declared.types.Derived.TheVariants as Der
+use Rattle.bindings.specs.declared.types.BindingType.{BindingType}
+use Rattle.bindings.specs.declared.types.BindingError.{BindingError}
 
 -- '5 and 20–30 group, binding'
 abbrev pub binding_answer : ℕ → ResourceBinding → Answer
@@ -41,15 +41,15 @@ check_words resource entry =
     only_entry entry λ e.
     binding_answer (use_number (check_binding_use r.ty e.ty)) r.bind
 
--- the type word of a derivation, 0 where there is none
-abbrev pub derived_word : Derived → ℕ
-derived_word (Der.Binding ty) = of_kind 18 (binding_code ty)
-derived_word Der.WrongBufferAddressSpace = 0
+-- the type word of a derivation
+abbrev pub derived_word : Result BindingType BindingError → Result ℕ BindingError
+derived_word (Ok ty) = Ok (of_kind 18 (binding_code ty))
+derived_word (Err e) = Err e
 
 -- the type word and the least-size word that a resource derives, as the first two details, or 24
-abbrev pub derived_answer : Derived → ResourceBinding → Answer
-derived_answer (Der.Binding ty) bind = answer 0 (of_kind 18 (binding_code ty)) (size_word (least_size_of ty)) 0
-derived_answer Der.WrongBufferAddressSpace bind = binding_answer (derived_number Der.WrongBufferAddressSpace) bind
+abbrev pub derived_answer : Result BindingType BindingError → ResourceBinding → Answer
+derived_answer (Ok ty) bind = answer 0 (of_kind 18 (binding_code ty)) (size_word (least_size_of ty)) 0
+derived_answer (Err e) bind = binding_answer (error_number e) bind
 
 unfoldable pub derive_words : List ℕ → Bool → Answer
 derive_words resource named = only_resource (read_resource resource) λ r. derived_answer (derive_binding_type r.ty named) r.bind

@@ -1,6 +1,6 @@
 -- When a layout entry serves a shader's resource, and the entry that a resource asks for
 -- (WebGPU, 'validating shader binding' and 'default pipeline layout'; document 01, refusals 22 to 30).
-use Rattle.std.specs.Prelude.{ℕ, Bool, true, false, not, ◌&&◌, ◌||◌, ◌==◌, nat_lt}
+use Rattle.std.specs.Prelude.{ℕ, Bool, true, false, not, ◌&&◌, ◌||◌, ◌==◌, nat_lt, Result, Ok, Err}
 use Rattle.word.specs.Choice.{pick, yes}
 use Rattle.word.specs.Numbers as Number
 use Rattle.bindings.specs.declared.types.AddressSpace.{AddressSpace}
@@ -25,10 +25,31 @@ use Rattle.bindings.specs.declared.types.StorageTextureAccess.{StorageTextureAcc
 use Rattle.bindings.specs.declared.types.StorageTextureAccess.TheVariants as Acc
 use Rattle.bindings.specs.declared.types.BindingType.{BindingType}
 use Rattle.bindings.specs.declared.types.BindingType.TheVariants as Bind
-use Rattle.bindings.specs.declared.types.BindingUse.{BindingUse}
-use Rattle.bindings.specs.declared.types.BindingUse.TheVariants as Use
-use Rattle.bindings.specs.declared.types.Derived.{Derived}
-use Rattle.bindings.specs.declared.types.Derived.TheVariants as Der
+use Rattle.bindings.specs.declared.types.BindingError.{BindingError}
+use Rattle.bindings.specs.declared.types.BindingError.TheVariants as Error
+
+-- ---- numbers of refusals
+
+-- document 01's number of each
+abbrev pub error_number : BindingError → ℕ
+error_number Error.WrongType = Number.wrong_type
+error_number Error.WrongAddressSpace = Number.wrong_address_space
+error_number Error.WrongBufferAddressSpace = Number.wrong_buffer_address_space
+error_number Error.WrongBufferSize = Number.wrong_buffer_size
+error_number Error.WrongTextureViewDimension = Number.wrong_texture_view_dimension
+error_number Error.WrongTextureClass = Number.wrong_texture_class
+error_number Error.WrongSamplerComparison = Number.wrong_sampler_comparison
+error_number Error.BadStorageFormat = Number.bad_storage_format
+
+-- the number of a use: 0, or that of its refusal
+abbrev pub use_number : Result Unit BindingError → ℕ
+use_number (Ok served) = 0
+use_number (Err e) = error_number e
+
+-- the number of a derivation
+abbrev pub derived_number : Result BindingType BindingError → ℕ
+derived_number (Ok ty) = 0
+derived_number (Err e) = error_number e
 
 -- ---- numbers of the enums that are compared (document 01's codes)
 
@@ -78,16 +99,16 @@ same_space Space.Other (Space.Storage b) = false
 same_space Space.Other Space.Other = true
 
 -- a least size that is set and smaller than the shader's is 25
-abbrev pub size_use : ℕ → ℕ → BindingUse
-size_use size least = pick (least == 0) Use.Accepted (pick (nat_lt least size) Use.WrongBufferSize Use.Accepted)
+abbrev pub size_use : ℕ → ℕ → Result Unit BindingError
+size_use size least = pick (least == 0) (Ok tt) (pick (nat_lt least size) (Err Error.WrongBufferSize) (Ok tt))
 
-unfoldable pub buffer_use : ℕ → AddressSpace → BindingType → BindingUse
-buffer_use size space (Bind.Buffer ty dynamic least) = pick (same_space space (space_of ty)) (size_use size least) Use.WrongAddressSpace
-buffer_use size space (Bind.Sampler ty) = Use.WrongType
-buffer_use size space (Bind.Texture sample view multi) = Use.WrongType
-buffer_use size space (Bind.StorageTexture access format view) = Use.WrongType
-buffer_use size space Bind.ExternalTexture = Use.WrongType
-buffer_use size space (Bind.AccelerationStructure returns) = Use.WrongType
+unfoldable pub buffer_use : ℕ → AddressSpace → BindingType → Result Unit BindingError
+buffer_use size space (Bind.Buffer ty dynamic least) = pick (same_space space (space_of ty)) (size_use size least) (Err Error.WrongAddressSpace)
+buffer_use size space (Bind.Sampler ty) = Err Error.WrongType
+buffer_use size space (Bind.Texture sample view multi) = Err Error.WrongType
+buffer_use size space (Bind.StorageTexture access format view) = Err Error.WrongType
+buffer_use size space Bind.ExternalTexture = Err Error.WrongType
+buffer_use size space (Bind.AccelerationStructure returns) = Err Error.WrongType
 
 -- ---- samplers
 
@@ -96,13 +117,13 @@ comparing Samp.Filtering = false
 comparing Samp.NonFiltering = false
 comparing Samp.Comparison = true
 
-unfoldable pub sampler_use : Bool → BindingType → BindingUse
-sampler_use comparison (Bind.Sampler ty) = pick (same_bool comparison (comparing ty)) Use.Accepted Use.WrongSamplerComparison
-sampler_use comparison (Bind.Buffer ty dynamic least) = Use.WrongType
-sampler_use comparison (Bind.Texture sample view multi) = Use.WrongType
-sampler_use comparison (Bind.StorageTexture access format view) = Use.WrongType
-sampler_use comparison Bind.ExternalTexture = Use.WrongType
-sampler_use comparison (Bind.AccelerationStructure returns) = Use.WrongType
+unfoldable pub sampler_use : Bool → BindingType → Result Unit BindingError
+sampler_use comparison (Bind.Sampler ty) = pick (same_bool comparison (comparing ty)) (Ok tt) (Err Error.WrongSamplerComparison)
+sampler_use comparison (Bind.Buffer ty dynamic least) = Err Error.WrongType
+sampler_use comparison (Bind.Texture sample view multi) = Err Error.WrongType
+sampler_use comparison (Bind.StorageTexture access format view) = Err Error.WrongType
+sampler_use comparison Bind.ExternalTexture = Err Error.WrongType
+sampler_use comparison (Bind.AccelerationStructure returns) = Err Error.WrongType
 
 -- ---- textures
 
@@ -149,49 +170,38 @@ is_external (Class.Depth multi) = false
 is_external (Class.Storage format access) = false
 is_external Class.External = true
 
-abbrev pub class_use : Bool → BindingUse
-class_use fits = pick fits Use.Accepted Use.WrongTextureClass
+abbrev pub class_use : Bool → Result Unit BindingError
+class_use fits = pick fits (Ok tt) (Err Error.WrongTextureClass)
 
 -- a texture on an entry that is none is 26, as is a view of another dimension; a format that can't be stored is 30; else the classes
-unfoldable pub texture_use : ImageDimension → Bool → ImageClass → BindingType → BindingUse
+unfoldable pub texture_use : ImageDimension → Bool → ImageClass → BindingType → Result Unit BindingError
 texture_use dim arrayed class (Bind.Texture sample view multi) =
-    pick (view_fits dim arrayed view) (class_use (sampled_fits class (class_of sample multi))) Use.WrongTextureViewDimension
+    pick (view_fits dim arrayed view) (class_use (sampled_fits class (class_of sample multi))) (Err Error.WrongTextureViewDimension)
 texture_use dim arrayed class (Bind.StorageTexture access format view) =
-    pick (view_fits dim arrayed view) (pick (storable format) (class_use (storage_fits class format (access_of access))) Use.BadStorageFormat)
-    Use.WrongTextureViewDimension
+    pick (view_fits dim arrayed view) (pick (storable format) (class_use (storage_fits class format (access_of access))) (Err Error.BadStorageFormat))
+    (Err Error.WrongTextureViewDimension)
 texture_use dim arrayed class Bind.ExternalTexture =
-    pick (view_fits dim arrayed View.D2) (class_use (is_external class)) Use.WrongTextureViewDimension
-texture_use dim arrayed class (Bind.Buffer ty dynamic least) = Use.WrongTextureViewDimension
-texture_use dim arrayed class (Bind.Sampler ty) = Use.WrongTextureViewDimension
-texture_use dim arrayed class (Bind.AccelerationStructure returns) = Use.WrongTextureViewDimension
+    pick (view_fits dim arrayed View.D2) (class_use (is_external class)) (Err Error.WrongTextureViewDimension)
+texture_use dim arrayed class (Bind.Buffer ty dynamic least) = Err Error.WrongTextureViewDimension
+texture_use dim arrayed class (Bind.Sampler ty) = Err Error.WrongTextureViewDimension
+texture_use dim arrayed class (Bind.AccelerationStructure returns) = Err Error.WrongTextureViewDimension
 
 -- ---- any resource
 
-unfoldable pub acceleration_use : Bool → BindingType → BindingUse
-acceleration_use returns (Bind.AccelerationStructure r) = pick (same_bool returns r) Use.Accepted Use.WrongType
-acceleration_use returns (Bind.Buffer ty dynamic least) = Use.WrongType
-acceleration_use returns (Bind.Sampler ty) = Use.WrongType
-acceleration_use returns (Bind.Texture sample view multi) = Use.WrongType
-acceleration_use returns (Bind.StorageTexture access format view) = Use.WrongType
-acceleration_use returns Bind.ExternalTexture = Use.WrongType
+unfoldable pub acceleration_use : Bool → BindingType → Result Unit BindingError
+acceleration_use returns (Bind.AccelerationStructure r) = pick (same_bool returns r) (Ok tt) (Err Error.WrongType)
+acceleration_use returns (Bind.Buffer ty dynamic least) = Err Error.WrongType
+acceleration_use returns (Bind.Sampler ty) = Err Error.WrongType
+acceleration_use returns (Bind.Texture sample view multi) = Err Error.WrongType
+acceleration_use returns (Bind.StorageTexture access format view) = Err Error.WrongType
+acceleration_use returns Bind.ExternalTexture = Err Error.WrongType
 
 -- whether a layout entry serves a resource
-unfoldable pub check_binding_use : ResourceType → BindingType → BindingUse
+unfoldable pub check_binding_use : ResourceType → BindingType → Result Unit BindingError
 check_binding_use (Res.Buffer size space) entry = buffer_use size space entry
 check_binding_use (Res.Sampler comparison) entry = sampler_use comparison entry
 check_binding_use (Res.Texture dim arrayed class) entry = texture_use dim arrayed class entry
 check_binding_use (Res.AccelerationStructure returns) entry = acceleration_use returns entry
-
--- document 01's number of each answer
-abbrev pub use_number : BindingUse → ℕ
-use_number Use.Accepted = 0
-use_number Use.WrongType = Number.wrong_type
-use_number Use.WrongAddressSpace = Number.wrong_address_space
-use_number Use.WrongBufferSize = Number.wrong_buffer_size
-use_number Use.WrongTextureViewDimension = Number.wrong_texture_view_dimension
-use_number Use.WrongTextureClass = Number.wrong_texture_class
-use_number Use.WrongSamplerComparison = Number.wrong_sampler_comparison
-use_number Use.BadStorageFormat = Number.bad_storage_format
 
 -- ---- when two entries are of one type: the same case, and the same in each part
 
@@ -316,18 +326,13 @@ derived_texture (Class.Storage format access) view named = Bind.StorageTexture (
 derived_texture Class.External view named = Bind.ExternalTexture
 
 -- storage of load alone is read-only; a space that is neither uniform nor storage is 24
-abbrev pub derived_buffer : ℕ → AddressSpace → Derived
-derived_buffer size Space.Uniform = Der.Binding (Bind.Buffer Buf.Uniform false size)
-derived_buffer size (Space.Storage access) = Der.Binding (Bind.Buffer (Buf.Storage (access == 1)) false size)
-derived_buffer size Space.Other = Der.WrongBufferAddressSpace
+abbrev pub derived_buffer : ℕ → AddressSpace → Result BindingType BindingError
+derived_buffer size Space.Uniform = Ok (Bind.Buffer Buf.Uniform false size)
+derived_buffer size (Space.Storage access) = Ok (Bind.Buffer (Buf.Storage (access == 1)) false size)
+derived_buffer size Space.Other = Err Error.WrongBufferAddressSpace
 
-unfoldable pub derive_binding_type : ResourceType → Bool → Derived
+unfoldable pub derive_binding_type : ResourceType → Bool → Result BindingType BindingError
 derive_binding_type (Res.Buffer size space) named = derived_buffer size space
-derive_binding_type (Res.Sampler comparison) named = Der.Binding (Bind.Sampler (pick (yes comparison) Samp.Comparison Samp.Filtering))
-derive_binding_type (Res.Texture dim arrayed class) named = Der.Binding (derived_texture class (derived_view dim arrayed) named)
-derive_binding_type (Res.AccelerationStructure returns) named = Der.Binding (Bind.AccelerationStructure returns)
-
--- document 01's number of each derivation
-abbrev pub derived_number : Derived → ℕ
-derived_number (Der.Binding ty) = 0
-derived_number Der.WrongBufferAddressSpace = Number.wrong_buffer_address_space
+derive_binding_type (Res.Sampler comparison) named = Ok (Bind.Sampler (pick (yes comparison) Samp.Comparison Samp.Filtering))
+derive_binding_type (Res.Texture dim arrayed class) named = Ok (derived_texture class (derived_view dim arrayed) named)
+derive_binding_type (Res.AccelerationStructure returns) named = Ok (Bind.AccelerationStructure returns)

@@ -1,90 +1,39 @@
 // The numbers that words give to binding types.
 ghost use Rattle.std.specs.Prelude.{◌≡◌, ◌≤◌, true};
 ghost use Rattle.word.specs.Words.{of_kind};
-ghost use Rattle.bindings.specs.Rules.{view_code};
-ghost use Rattle.bindings.specs.Format.{flag, buffer_code, sampler_code, sample_code, access_code, binding_code, least_size_of, format_encodable, size_word};
+ghost use Rattle.bindings.specs.Format.{buffer_code, sample_code, binding_code, least_size_of, format_encodable, size_word};
 
 use crate::sizes::size_word;
-use crate::types::{
-    BindingType, BufferBindingType, SamplerBindingType, StorageTextureAccess, TextureSampleType,
-    TextureViewDimension,
-};
+use crate::types::{BindingType, BufferBindingType, TextureSampleType};
 
-fn flag(b: bool) -> u64
-    ensures value { result ≡ flag b }
-    ensures upper_bound { result ≤ 1 }
-{
-    if b { 1 } else { 0 }
-}
-
+#[tactic(auto, using(crate::proofs::CodeLaws::flag_byte))]
 fn buffer_code(ty: BufferBindingType) -> u64
-    ensures value { result ≡ buffer_code ty }
+    ensures meaning { result ≡ buffer_code ty }
     ensures upper_bound { result ≤ 3 }
 {
     match ty {
         BufferBindingType::Uniform => 0,
-        BufferBindingType::Storage { read_only } => 1 + 2 * flag(read_only),
-    }
-}
-
-fn sampler_code(ty: SamplerBindingType) -> u64
-    ensures value { result ≡ sampler_code ty }
-    ensures upper_bound { result ≤ 2 }
-{
-    match ty {
-        SamplerBindingType::Filtering => 0,
-        SamplerBindingType::NonFiltering => 1,
-        SamplerBindingType::Comparison => 2,
+        BufferBindingType::Storage { read_only } => 1 + 2 * u64::from(read_only),
     }
 }
 
 fn sample_code(sample_type: TextureSampleType) -> u64
-    ensures value { result ≡ sample_code sample_type }
+    ensures meaning { result ≡ sample_code sample_type }
     ensures upper_bound { result ≤ 4 }
 {
     match sample_type {
-        TextureSampleType::Float { filterable } => {
-            if filterable {
-                return 0;
-            }
-            1
-        }
+        TextureSampleType::Float { filterable: true } => 0,
+        TextureSampleType::Float { filterable: false } => 1,
         TextureSampleType::Depth => 2,
         TextureSampleType::Sint => 3,
         TextureSampleType::Uint => 4,
     }
 }
 
-// The number of a view dimension.
-pub fn view_code(view: TextureViewDimension) -> u64
-    ensures value { result ≡ view_code view }
-    ensures upper_bound { result ≤ 5 }
-{
-    match view {
-        TextureViewDimension::D1 => 0,
-        TextureViewDimension::D2 => 1,
-        TextureViewDimension::D2Array => 2,
-        TextureViewDimension::Cube => 3,
-        TextureViewDimension::CubeArray => 4,
-        TextureViewDimension::D3 => 5,
-    }
-}
-
-fn access_code(access: StorageTextureAccess) -> u64
-    ensures value { result ≡ access_code access }
-    ensures upper_bound { result ≤ 3 }
-{
-    match access {
-        StorageTextureAccess::ReadOnly => 0,
-        StorageTextureAccess::WriteOnly => 1,
-        StorageTextureAccess::ReadWrite => 2,
-        StorageTextureAccess::Atomic => 3,
-    }
-}
-
 // The type's bits of a binding type.
+#[tactic(auto, using(crate::proofs::CodeLaws::flag_byte), unfolding(crate::specs::Format::binding_code))]
 pub fn binding_code(ty: BindingType) -> u64
-    ensures value { result ≡ binding_code ty }
+    ensures meaning { result ≡ binding_code ty }
     ensures upper_bound { result ≤ 0x200_0000_0000 }
 {
     match ty {
@@ -92,8 +41,8 @@ pub fn binding_code(ty: BindingType) -> u64
             ty: buffer_type,
             has_dynamic_offset,
             ..
-        } => buffer_code(buffer_type) + 4 * flag(has_dynamic_offset),
-        BindingType::Sampler { ty: sampler_type } => 0x80_0000 + sampler_code(sampler_type),
+        } => buffer_code(buffer_type) + 4 * u64::from(has_dynamic_offset),
+        BindingType::Sampler { ty: sampler_type } => 0x80_0000 + sampler_type as u64,
         BindingType::Texture {
             sample_type,
             view_dimension,
@@ -101,19 +50,19 @@ pub fn binding_code(ty: BindingType) -> u64
         } => {
             0x100_0000
                 + (16 * sample_code(sample_type)
-                    + 8 * flag(multisampled)
-                    + view_code(view_dimension))
+                    + 8 * u64::from(multisampled)
+                    + view_dimension as u64)
         }
         BindingType::StorageTexture {
             access,
             format,
             view_dimension,
         } => {
-            0x200_0000
-                + (0x1_0000 * access_code(access) + 256 * format as u64 + view_code(view_dimension))
+            0x200_0000 + (0x1_0000 * access as u64 + 256 * format as u64 + view_dimension as u64)
         }
         BindingType::ExternalTexture => 0x280_0000,
-        BindingType::AccelerationStructure { vertex_return } => 0x300_0000 + flag(vertex_return),
+        BindingType::AccelerationStructure { vertex_return } => 0x300_0000
+            + u64::from(vertex_return),
     }
 }
 
@@ -126,11 +75,7 @@ pub fn least_size(ty: BindingType) -> u64
             min_binding_size,
             ..
         } => min_binding_size,
-        BindingType::Sampler { .. } => 0,
-        BindingType::Texture { .. } => 0,
-        BindingType::StorageTexture { .. } => 0,
-        BindingType::ExternalTexture => 0,
-        BindingType::AccelerationStructure { .. } => 0,
+        _ => 0,
     }
 }
 

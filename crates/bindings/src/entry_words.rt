@@ -14,67 +14,47 @@ use word::word;
 fn view_at(code: u32) -> TextureViewDimension
     ensures { result ≡ view_at code }
 {
-    if code == 0 {
-        return TextureViewDimension::D1;
+    match code {
+        0 => TextureViewDimension::D1,
+        1 => TextureViewDimension::D2,
+        2 => TextureViewDimension::D2Array,
+        3 => TextureViewDimension::Cube,
+        4 => TextureViewDimension::CubeArray,
+        _ => TextureViewDimension::D3,
     }
-    if code == 1 {
-        return TextureViewDimension::D2;
-    }
-    if code == 2 {
-        return TextureViewDimension::D2Array;
-    }
-    if code == 3 {
-        return TextureViewDimension::Cube;
-    }
-    if code == 4 {
-        return TextureViewDimension::CubeArray;
-    }
-    TextureViewDimension::D3
 }
 
 fn sample_at(code: u32) -> TextureSampleType
     ensures { result ≡ sample_at code }
 {
-    if code == 0 {
-        return TextureSampleType::Float { filterable: true };
+    match code {
+        0 => TextureSampleType::Float { filterable: true },
+        1 => TextureSampleType::Float { filterable: false },
+        2 => TextureSampleType::Depth,
+        3 => TextureSampleType::Sint,
+        _ => TextureSampleType::Uint,
     }
-    if code == 1 {
-        return TextureSampleType::Float { filterable: false };
-    }
-    if code == 2 {
-        return TextureSampleType::Depth;
-    }
-    if code == 3 {
-        return TextureSampleType::Sint;
-    }
-    TextureSampleType::Uint
 }
 
 fn access_at(code: u32) -> StorageTextureAccess
     ensures { result ≡ access_at code }
 {
-    if code == 0 {
-        return StorageTextureAccess::ReadOnly;
+    match code {
+        0 => StorageTextureAccess::ReadOnly,
+        1 => StorageTextureAccess::WriteOnly,
+        2 => StorageTextureAccess::ReadWrite,
+        _ => StorageTextureAccess::Atomic,
     }
-    if code == 1 {
-        return StorageTextureAccess::WriteOnly;
-    }
-    if code == 2 {
-        return StorageTextureAccess::ReadWrite;
-    }
-    StorageTextureAccess::Atomic
 }
 
 fn sampler_at(code: u32) -> SamplerBindingType
     ensures { result ≡ sampler_at code }
 {
-    if code == 0 {
-        return SamplerBindingType::Filtering;
+    match code {
+        0 => SamplerBindingType::Filtering,
+        1 => SamplerBindingType::NonFiltering,
+        _ => SamplerBindingType::Comparison,
     }
-    if code == 1 {
-        return SamplerBindingType::NonFiltering;
-    }
-    SamplerBindingType::Comparison
 }
 
 fn buffer_at(w: u32) -> BufferBindingType
@@ -92,64 +72,51 @@ fn buffer_at(w: u32) -> BufferBindingType
 fn fields_well_formed(code: u32, w: u32) -> bool
     ensures { result ≡ fields_well_formed code w }
 {
-    if code == 0 {
-        return w / 8 % 0x10_0000 == 0 && (w / 2 % 2 == 0 || w % 2 == 1);
+    match code {
+        0 => w / 8 % 0x10_0000 == 0 && (w / 2 % 2 == 0 || w % 2 == 1),
+        1 => w % 0x80_0000 < 3,
+        2 => w / 128 % 0x1_0000 == 0 && w % 8 < 6 && w / 16 % 8 < 5,
+        4 => {
+            w / 0x4_0000 % 32 == 0
+                && w / 0x8000 % 2 == 0
+                && w / 8 % 32 == 0
+                && w % 8 < 6
+                && w / 256 % 128 < 77
+        }
+        5 => w % 0x80_0000 == 0,
+        6 => w / 2 % 0x40_0000 == 0,
+        _ => false,
     }
-    if code == 1 {
-        return w % 0x80_0000 < 3;
-    }
-    if code == 2 {
-        return w / 128 % 0x1_0000 == 0 && (w % 8 < 6 && w / 16 % 8 < 5);
-    }
-    if code == 4 {
-        return w / 0x4_0000 % 32 == 0
-            && (w / 0x8000 % 2 == 0 && (w / 8 % 32 == 0 && (w % 8 < 6 && w / 256 % 128 < 77)));
-    }
-    if code == 5 {
-        return w % 0x80_0000 == 0;
-    }
-    if code == 6 {
-        return w / 2 % 0x40_0000 == 0;
-    }
-    false
 }
 
 // What a type word and a least size mean.
+#[tactic(auto, unfolding(crate::specs::Format::binding_type_of))]
 pub fn binding_type_of(w: u32, least: u64) -> BindingType
     ensures { result ≡ binding_type_of w least }
 {
-    let code = w / 0x80_0000 % 16;
-    if code == 0 {
-        return BindingType::Buffer {
+    match w / 0x80_0000 % 16 {
+        0 => BindingType::Buffer {
             ty: buffer_at(w),
             has_dynamic_offset: w / 4 % 2 == 1,
             min_binding_size: least,
-        };
-    }
-    if code == 1 {
-        return BindingType::Sampler {
+        },
+        1 => BindingType::Sampler {
             ty: sampler_at(w % 0x80_0000),
-        };
-    }
-    if code == 2 {
-        return BindingType::Texture {
+        },
+        2 => BindingType::Texture {
             sample_type: sample_at(w / 16 % 8),
             view_dimension: view_at(w % 8),
             multisampled: w / 8 % 2 == 1,
-        };
-    }
-    if code == 4 {
-        return BindingType::StorageTexture {
+        },
+        4 => BindingType::StorageTexture {
             access: access_at(w / 0x1_0000 % 4),
             format: w / 256 % 128,
             view_dimension: view_at(w % 8),
-        };
-    }
-    if code == 5 {
-        return BindingType::ExternalTexture;
-    }
-    BindingType::AccelerationStructure {
-        vertex_return: w % 2 == 1,
+        },
+        5 => BindingType::ExternalTexture,
+        _ => BindingType::AccelerationStructure {
+            vertex_return: w % 2 == 1,
+        },
     }
 }
 
@@ -163,16 +130,9 @@ fn visibility_well_formed(w: u32) -> bool
 fn least_well_formed(w: u32, least: u32, visibility: u32) -> bool
     ensures { result ≡ (kind_of least == 6 && ((is_buffer_word w || content_of least == 0) && (kind_of visibility == 19 && nat_lt (content_of visibility) 32))) }
 {
-    if least / 0x800_0000 != 6 {
-        return false;
-    }
-    if w / 0x80_0000 % 16 == 0 {
-        return visibility_well_formed(visibility);
-    }
-    if least % 0x800_0000 == 0 {
-        return visibility_well_formed(visibility);
-    }
-    false
+    least / 0x800_0000 == 6
+        && (w / 0x80_0000 % 16 == 0 || least % 0x800_0000 == 0)
+        && visibility_well_formed(visibility)
 }
 
 // Whether a word tells a binding type: its kind and its code stand side by side, and are tested as one.
@@ -183,22 +143,17 @@ fn type_well_formed(w: u32) -> bool
 }
 
 // Whether four words are an entry.
+#[tactic(auto, unfolding(crate::specs::Format::entry_well_formed))]
 pub fn words_well_formed(place: u32, w: u32, least: u32, visibility: u32) -> bool
     ensures { result ≡ entry_well_formed place w least visibility }
 {
-    if place / 0x800_0000 != 4 {
-        return false;
-    }
-    if type_well_formed(w) {
-        return least_well_formed(w, least, visibility);
-    }
-    false
+    place / 0x800_0000 == 4 && type_well_formed(w) && least_well_formed(w, least, visibility)
 }
 
 // The entry that four words mean.
 pub fn entry_of(place: u32, w: u32, least: u32, visibility: u32) -> BindGroupLayoutEntry
-    ensures value { result ≡ entry_of place w least visibility }
-    ensures bind_value { place_encodable result.bind ≡ true }
+    ensures meaning { result ≡ entry_of place w least visibility }
+    ensures place_encodable { place_encodable result.bind ≡ true }
     ensures visibility_bound { result.visibility < 2 ^ 27 }
 {
     let bind = place_of(place);
@@ -227,8 +182,8 @@ pub fn entry_well_formed(l: &[u32], at: usize) -> bool
 
 // The entry that stands at a position, read without asking whether it is one.
 pub fn entry_at(l: &[u32], at: usize) -> BindGroupLayoutEntry
-    ensures value { result ≡ entry_at l.now at }
-    ensures bind_value { place_encodable result.bind ≡ true }
+    ensures meaning { result ≡ entry_at l.now at }
+    ensures place_encodable { place_encodable result.bind ≡ true }
     ensures visibility_bound { result.visibility < 2 ^ 27 }
 {
     if l.len() <= at {

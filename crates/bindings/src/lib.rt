@@ -4,7 +4,6 @@
 pub mod answers;
 pub mod binding_codes;
 pub mod entry_words;
-pub mod flags;
 pub mod resource_words;
 pub mod sizes;
 pub mod types;

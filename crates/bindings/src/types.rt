@@ -1,37 +1,38 @@
-// What a shader's resource is, and what a bind group layout provides.
+// What a shader's resource is, and what a bind group layout provides. Enums without fields have their codes in words as values.
+ghost use Rattle.std.specs.Prelude.{◌≡◌};
 
 // A place in a pipeline layout.
-#[derive(Clone, Copy)]
+#[derive(Clone, Copy, Debug, PartialEq, Eq)]
 pub struct ResourceBinding {
     pub group: u32,
     pub binding: u32,
 }
 
 // Where a buffer lives. Access is the sum of 1 load, 2 store and 4 atomic.
-#[derive(Clone, Copy)]
+#[derive(Clone, Copy, Debug, PartialEq, Eq)]
 pub enum AddressSpace {
     Uniform,
     Storage { access: u32 },
     Other,
 }
 
-#[derive(Clone, Copy)]
+#[derive(Clone, Copy, Debug, PartialEq, Eq)]
 pub enum ImageDimension {
-    D1,
-    D2,
-    D3,
-    Cube,
+    D1 = 0,
+    D2 = 1,
+    D3 = 2,
+    Cube = 3,
 }
 
 // What sampling a texture gives.
-#[derive(Clone, Copy)]
+#[derive(Clone, Copy, Debug, PartialEq, Eq)]
 pub enum SampleKind {
-    Float,
-    Sint,
-    Uint,
+    Float = 0,
+    Sint = 1,
+    Uint = 2,
 }
 
-#[derive(Clone, Copy)]
+#[derive(Clone, Copy, Debug, PartialEq, Eq)]
 pub enum ImageClass {
     Sampled { kind: SampleKind, multi: bool },
     Depth { multi: bool },
@@ -39,7 +40,7 @@ pub enum ImageClass {
     External,
 }
 
-#[derive(Clone, Copy)]
+#[derive(Clone, Copy, Debug, PartialEq, Eq)]
 pub enum ResourceType {
     Buffer {
         size: u64,
@@ -58,26 +59,26 @@ pub enum ResourceType {
     },
 }
 
-#[derive(Clone, Copy)]
+#[derive(Clone, Copy, Debug, PartialEq, Eq)]
 pub struct Resource {
     pub bind: ResourceBinding,
     pub ty: ResourceType,
 }
 
-#[derive(Clone, Copy)]
+#[derive(Clone, Copy, Debug, PartialEq, Eq)]
 pub enum BufferBindingType {
     Uniform,
     Storage { read_only: bool },
 }
 
-#[derive(Clone, Copy)]
+#[derive(Clone, Copy, Debug, PartialEq, Eq)]
 pub enum SamplerBindingType {
-    Filtering,
-    NonFiltering,
-    Comparison,
+    Filtering = 0,
+    NonFiltering = 1,
+    Comparison = 2,
 }
 
-#[derive(Clone, Copy)]
+#[derive(Clone, Copy, Debug, PartialEq, Eq)]
 pub enum TextureSampleType {
     Float { filterable: bool },
     Depth,
@@ -85,26 +86,26 @@ pub enum TextureSampleType {
     Uint,
 }
 
-#[derive(Clone, Copy)]
+#[derive(Clone, Copy, Debug, PartialEq, Eq)]
 pub enum TextureViewDimension {
-    D1,
-    D2,
-    D2Array,
-    Cube,
-    CubeArray,
-    D3,
+    D1 = 0,
+    D2 = 1,
+    D2Array = 2,
+    Cube = 3,
+    CubeArray = 4,
+    D3 = 5,
 }
 
-#[derive(Clone, Copy)]
+#[derive(Clone, Copy, Debug, PartialEq, Eq)]
 pub enum StorageTextureAccess {
-    ReadOnly,
-    WriteOnly,
-    ReadWrite,
-    Atomic,
+    ReadOnly = 0,
+    WriteOnly = 1,
+    ReadWrite = 2,
+    Atomic = 3,
 }
 
 // What a layout entry provides. A least size of 0 is none.
-#[derive(Clone, Copy)]
+#[derive(Clone, Copy, Debug, PartialEq, Eq)]
 pub enum BindingType {
     Buffer {
         ty: BufferBindingType,
@@ -131,29 +132,32 @@ pub enum BindingType {
 }
 
 // An entry of a layout: visibility is the sum of 2 to the power of each stage's number.
-#[derive(Clone, Copy)]
+#[derive(Clone, Copy, Debug, PartialEq, Eq)]
 pub struct BindGroupLayoutEntry {
     pub bind: ResourceBinding,
     pub ty: BindingType,
     pub visibility: u32,
 }
 
-// Whether a layout entry serves a resource, and if not, why.
-#[derive(Clone, Copy)]
-pub enum BindingUse {
-    Accepted,
-    WrongType,
-    WrongAddressSpace,
-    WrongBufferSize,
-    WrongTextureViewDimension,
-    WrongTextureClass,
-    WrongSamplerComparison,
-    BadStorageFormat,
+// Why a layout entry does not serve a resource, or none can be derived for it: the values are the numbers of the table of refusals.
+#[derive(Clone, Copy, Debug, PartialEq, Eq)]
+pub enum BindingError {
+    WrongType = 22,
+    WrongAddressSpace = 23,
+    WrongBufferAddressSpace = 24,
+    WrongBufferSize = 25,
+    WrongTextureViewDimension = 26,
+    WrongTextureClass = 27,
+    WrongSamplerComparison = 28,
+    BadStorageFormat = 30,
 }
 
-// The binding type that a resource asks for, or that its address space has none.
-#[derive(Clone, Copy)]
-pub enum Derived {
-    Binding { ty: BindingType },
-    WrongBufferAddressSpace,
+impl BindingError {
+    ghost use Rattle.bindings.specs.Rules.{error_number};
+
+    pub fn number(self) -> u32
+        ensures { result ≡ error_number self }
+    {
+        self as u32
+    }
 }

@@ -5,8 +5,6 @@ use mathlib.Core.List.{List, [], ◌∷◌}
 use native.Mathlib.Omega.{arith}
 use lib.ListN.{length, set, length-set}
 use Rattle.word.specs.declared.answer.Answer.{Answer}
-use Rattle.numeric.specs.TypeWords.{subtype_number}
-use Rattle.numeric.specs.declared.type_words.Compared.{Compared}
 use Rattle.stage.specs.Meaning.{Outcome, outcome}
 use Rattle.bokwingi.specs.Details.{with_details, Handed}
 
@@ -73,8 +71,3 @@ module _ (a : Answer) (out : List ℕ) (x : Answer × List ℕ) (e : (a, out) �
 
   pub pair_out : out ≡ x.1
   pair_out = ap (λ (y : Answer × List ℕ). y.1) e
-
--- ---- two types compared
-
-pub compared_number : (compared which : Compared) (r : ℕ) → compared ≡ which → r ≡ subtype_number compared → r ≡ subtype_number which
-compared_number compared which r e h = rw (← e) h

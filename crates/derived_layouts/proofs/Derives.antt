@@ -1,6 +1,6 @@
 -- The resources of an entry point in derived mode: whatever the answer, the layout stays good and loses nothing; where they are accepted, every
 -- resource's place has an entry of the type that it derives, and the stage sees it.
-use Rattle.std.proofs.Common.{Option, Some, None}
+use Rattle.std.proofs.Common.{Option, Some, None, Result, Ok, Err}
 use Prim.Native.Nat.{ℕ, ◌^◌, ◌<◌}
 use native.Mathlib.Omega.{arith}
 use mathlib.Core.Path.{◌≡◌, refl, sym, ◌∙◌}
@@ -8,17 +8,17 @@ use mathlib.Core.Bool.{Bool, true, false}
 use mathlib.Core.List.{List, [], ◌∷◌}
 use lib.Dec.{eqb, ltb}
 use lib.ListN.{length, length-append}
-use borrow.Author.Tests.{eqb-true, leb-true, lt-ltb}
+use borrow.Author.Tests.{eqb-true, leb-true, lt-ltb, ne_eqb}
 use Rattle.word.specs.Answers.{accepted}
 use Rattle.word.specs.declared.answer.Answer.{Answer}
 use Rattle.word.specs.Lists.{among}
-use Rattle.bindings.specs.Rules.{same_binding, derive_binding_type}
+use Rattle.bindings.specs.Rules.{error_number, same_binding, derive_binding_type}
 use Rattle.bindings.specs.Format.{place_encodable, type_encodable, resource_encodable, entry_width}
 use Rattle.bindings.specs.Answers.{binding_answer}
 use Rattle.bindings.specs.declared.types.Resource.{Resource}
 use Rattle.bindings.specs.declared.types.BindingType.{BindingType}
-use Rattle.bindings.specs.declared.types.Derived.{Derived}
-use Rattle.bindings.specs.declared.types.Derived.TheVariants as Der
+use Rattle.bindings.specs.declared.types.BindingError.{BindingError}
+use Rattle.bindings.proofs.DerivedTypes.{error_some}
 use Rattle.bindings.proofs.SameBinding.{same_binding_eq}
 use Rattle.bindings.proofs.DerivedTypes.{derived_encodable}
 use Rattle.word.proofs.Truth.{first, second, by_test, never}
@@ -58,7 +58,7 @@ bit_seen Stage.Mesh = refl
 
 pub record HasEntry (stage : ShaderStage) (named : Bool) (r : Resource) (M : Layout) : Type 0 where
   pub type : BindingType
-  pub derived : derive_binding_type r.ty named ≡ Der.Binding type
+  pub derived : derive_binding_type r.ty named ≡ Ok type
   pub at : ℕ
   pub there : at < length M.entries
   pub place : same_place (entry_nth M.entries at).bind r.bind ≡ true
@@ -90,7 +90,7 @@ module _ (stage : ShaderStage) (named : Bool) (r : Resource) (L : Layout) (g : l
   refuses : (a : Answer) → eqb a.number 0 ≡ false → Stepped stage named r L (layout_after a L)
   refuses a f = record { good = g; grows = grows_refl L; placed = λ t. never (eqb a.number 0) t f }
 
-  module _ (ty : BindingType) (e : derive_binding_type r.ty named ≡ Der.Binding ty) (h : resource_encodable r ≡ true) where
+  module _ (ty : BindingType) (e : derive_binding_type r.ty named ≡ Ok ty) (h : resource_encodable r ≡ true) where
     below : (i : ℕ) → find_entry r.bind L ≡ Some i → i < length L.entries
     below i q = let f = find_sound r.bind L.entries 0 i q in omega (arith, f.sum, f.there)
 
@@ -158,10 +158,12 @@ module _ (stage : ShaderStage) (named : Bool) (r : Resource) (L : Layout) (g : l
         }))
         (λ n. rw n (refuses (binding_answer 5 r.bind) refl))
 
-  derived_step_lem : resource_encodable r ≡ true → ltb r.bind.group L.groups ≡ true → (d : Derived) → derive_binding_type r.ty named ≡ d
+  derived_step_lem : resource_encodable r ≡ true → ltb r.bind.group L.groups ≡ true → (d : Result BindingType BindingError) → derive_binding_type r.ty named ≡ d
       → Stepped stage named r L (derived_step stage r.bind d L)
-  derived_step_lem h l (Der.Binding ty) e = place_step_lem ty e h l (find_entry r.bind L) refl
-  derived_step_lem h l Der.WrongBufferAddressSpace e = refuses (binding_answer 24 r.bind) refl
+  derived_step_lem h l (Ok ty) e = place_step_lem ty e h l (find_entry r.bind L) refl
+  derived_step_lem h l (Err error) e =
+      let n : eqb (error_number error) 0 ≡ false = ne_eqb (error_number error) 0 (error_some error) in
+      refuses (binding_answer (error_number error) r.bind) (rw n n)
 
   pub derive_step_lem : resource_encodable r ≡ true → Stepped stage named r L (derive_step stage named r L)
   unfolding derive_step

@@ -1,4 +1,5 @@
 -- The pairs of textures and samplers over a layout that serves them with the types that they derive.
+use Rattle.std.proofs.Common.{Result, Ok, Err}
 use Prim.Native.Nat.{ℕ, zero, suc}
 use mathlib.Core.Path.{◌≡◌, refl}
 use mathlib.Core.Bool.{Bool, true, false, not, ◌&&◌}
@@ -14,8 +15,8 @@ use Rattle.bindings.specs.declared.types.ImageClass.TheVariants as Class
 use Rattle.bindings.specs.declared.types.Resource.{Resource}
 use Rattle.bindings.specs.declared.types.ResourceType.{ResourceType}
 use Rattle.bindings.specs.declared.types.ResourceType.TheVariants as Res
-use Rattle.bindings.specs.declared.types.Derived.{Derived}
-use Rattle.bindings.specs.declared.types.Derived.TheVariants as Der
+use Rattle.bindings.specs.declared.types.BindingType.{BindingType}
+use Rattle.bindings.specs.declared.types.BindingError.{BindingError}
 use Rattle.word.proofs.Truth.{first, second, by_test, never}
 use Rattle.layouts.specs.Meaning.{Layout, distinct_entries}
 use Rattle.word.proofs.Lists.{first_passes, rest_passes}
@@ -29,10 +30,10 @@ use Rattle.derived_layouts.proofs.Provides.{placed_found}
 
 -- ---- one pair
 
-abbrev number_in : Derived → Derived → ℕ
-number_in (Der.Binding texture) (Der.Binding sampler) = pair_number texture sampler
-number_in (Der.Binding texture) Der.WrongBufferAddressSpace = 0
-number_in Der.WrongBufferAddressSpace sampler = 0
+abbrev number_in : Result BindingType BindingError → Result BindingType BindingError → ℕ
+number_in (Ok texture) (Ok sampler) = pair_number texture sampler
+number_in (Ok texture) (Err e) = 0
+number_in (Err e) sampler = 0
 
 number_in_lem : (t s : ResourceType) (n : Bool) → is_texture t ≡ true → is_sampler s ≡ true → not (integer t && not (comparison s)) ≡ true
     → number_in (derive_binding_type t true) (derive_binding_type s n) ≡ 0

@@ -1,4 +1,5 @@
 -- Under demand 3's conditions the binding type that a resource derives serves it.
+use Rattle.std.proofs.Common.{Result, Ok, Err}
 use Prim.Native.Nat.{ℕ, ◌<◌}
 use native.Mathlib.Omega.{arith}
 use mathlib.Core.Path.{◌≡◌, refl}
@@ -25,20 +26,17 @@ use Rattle.bindings.specs.declared.types.SamplerBindingType.TheVariants as Samp
 use Rattle.bindings.specs.declared.types.TextureViewDimension.TheVariants as View
 use Rattle.bindings.specs.declared.types.BindingType.{BindingType}
 use Rattle.bindings.specs.declared.types.BindingType.TheVariants as Bind
-use Rattle.bindings.specs.declared.types.BindingUse.{BindingUse}
-use Rattle.bindings.specs.declared.types.BindingUse.TheVariants as Use
-use Rattle.bindings.specs.declared.types.Derived.{Derived}
-use Rattle.bindings.specs.declared.types.Derived.TheVariants as Der
+use Rattle.bindings.specs.declared.types.BindingError.{BindingError}
 use Rattle.word.proofs.Truth.{first, second, by_test, never}
 
-size_serves : (size : ℕ) → size_use size size ≡ Use.Accepted
+size_serves : (size : ℕ) → size_use size size ≡ Ok tt
 size_serves size = by_test (eqb size 0) (λ t. rw t) (λ n. rw (n, le-ltb size size (omega arith)))
 
 space_serves : (access : ℕ) → eqb access 1 || eqb access 3 ≡ true → same_space (Space.Storage access) (space_of (Buf.Storage (eqb access 1))) ≡ true
 unfolding same_space yes
 space_serves access h = by_test (eqb access 1) (λ t. rw (t, t)) (λ n. rw n (rw n at h))
 
-sampler_serves : (comparison : Bool) → sampler_use comparison (Bind.Sampler (pick (yes comparison) Samp.Comparison Samp.Filtering)) ≡ Use.Accepted
+sampler_serves : (comparison : Bool) → sampler_use comparison (Bind.Sampler (pick (yes comparison) Samp.Comparison Samp.Filtering)) ≡ Ok tt
 unfolding sampler_use yes
 sampler_serves true = refl
 sampler_serves false = refl
@@ -89,11 +87,11 @@ storage_serves : (format access : ℕ) → ltb access 8 && not (eqb access 0) �
 unfolding storage_fits
 storage_serves format access h k = rw (eq-eqb format format refl, access_serves access (second (ltb access 8) (not (eqb access 0)) h) k)
 
-abbrev used_type : ResourceType → Derived → BindingUse
-used_type r (Der.Binding ty) = check_binding_use r ty
-used_type r Der.WrongBufferAddressSpace = Use.Accepted
+abbrev used_type : ResourceType → Result BindingType BindingError → Result Unit BindingError
+used_type r (Ok ty) = check_binding_use r ty
+used_type r (Err e) = Ok tt
 
-used_type_lem : (r : ResourceType) (named : Bool) → type_encodable r ≡ true → resource_reusable r ≡ true → used_type r (derive_binding_type r named) ≡ Use.Accepted
+used_type_lem : (r : ResourceType) (named : Bool) → type_encodable r ≡ true → resource_reusable r ≡ true → used_type r (derive_binding_type r named) ≡ Ok tt
 unfolding type_encodable resource_reusable derive_binding_type derived_texture check_binding_use buffer_use sampler_use texture_use acceleration_use same_space
 used_type_lem (Res.Buffer size Space.Uniform) named h k = size_serves size
 used_type_lem (Res.Buffer size (Space.Storage access)) named h k = rw (space_serves access k) (size_serves size)
@@ -113,7 +111,7 @@ used_type_lem (Res.AccelerationStructure returns) named h k = rw (same_bool_lem 
 
 -- a resource that meets demand 3's conditions is served by the type that it derives
 pub derived_accepted : (r : ResourceType) (named : Bool) (ty : BindingType) → type_encodable r ≡ true → resource_reusable r ≡ true
-    → derive_binding_type r named ≡ Der.Binding ty → check_binding_use r ty ≡ Use.Accepted
+    → derive_binding_type r named ≡ Ok ty → check_binding_use r ty ≡ Ok tt
 derived_accepted r named ty h k d = rw d at (used_type_lem r named h k)
 
 -- and without any of the conditions this fails: an encodable resource type that breaks one, and the number given on what it derives

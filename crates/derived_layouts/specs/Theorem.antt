@@ -1,5 +1,5 @@
 -- Demand 3: derived stage checks over a layout list, and their calls put again as provided over the finished list.
-use Rattle.std.specs.Prelude.{ℕ, suc, ◌+◌, ◌*◌, ◌<◌, ◌≡◌, Bool, true, false, not, ◌&&◌, List, [], ◌∷◌, ◌++◌, ltb, length, take}
+use Rattle.std.specs.Prelude.{ℕ, suc, ◌+◌, ◌*◌, ◌<◌, ◌≡◌, Bool, true, false, not, ◌&&◌, List, [], ◌∷◌, ◌++◌, ltb, length, take, Option, Some, None}
 use Rattle.word.specs.Choice.{pick}
 use Rattle.word.specs.Answers.{accepted}
 use Rattle.derived_layouts.specs.Reusable.{resource_reusable}
@@ -18,8 +18,6 @@ use Rattle.interface.specs.Meaning.{EntryPoint, Interface}
 use Rattle.interface.specs.Format.{decode, interface_of}
 use Rattle.interface.specs.Meaning as Packs
 use Rattle.entry_points.specs.Rules.{find_entry_point}
-use Rattle.entry_points.specs.declared.choose.Chosen.{Chosen}
-use Rattle.entry_points.specs.declared.choose.Chosen.TheVariants as Ch
 use Rattle.interface.specs.declared.types.SamplingPair.{SamplingPair}
 use Rattle.stage.specs.Meaning.{codes, lent, Call, call, Outcome}
 use Rattle.resource_steps.specs.Resources.{resource_nth}
@@ -103,10 +101,9 @@ pack_reusable i = resources_reusable i.resources && entry_points_reusable i.reso
 abbrev pub interface_of_call : Call → Interface
 interface_of_call c = interface_of (decode c.pack)
 
-abbrev pub chosen_entry : Interface → Chosen → EntryPoint
-chosen_entry i (Ch.At position) = Packs.entry_point_nth i.entries position
-chosen_entry i Ch.Absent = Packs.empty_entry_point
-chosen_entry i Ch.Several = Packs.empty_entry_point
+abbrev pub chosen_entry : Interface → Option ℕ → EntryPoint
+chosen_entry i (Some position) = Packs.entry_point_nth i.entries position
+chosen_entry i None = Packs.empty_entry_point
 
 -- the entry point that a call means
 abbrev pub entry_of_call : Call → EntryPoint

@@ -1,7 +1,8 @@
 -- Laws of stages and names compared.
-use Rattle.std.proofs.Common.{◌≡◌, ℕ, zero, suc, ◌+◌, ◌-◌, ◌*◌, ◌/◌, ◌%◌, ◌^◌, ◌<◌, ◌≤◌, Bool, true, false, not, eqb, List, [], ◌∷◌, ◌++◌, length, get_or, take, drop, sym, refl, ap, ◌∙◌, ap₂, add-one, arith, drop_of_length-le, length-take, take_all, drop-cons, eq-eqb, ne_eqb}
+use Rattle.std.proofs.Common.{◌≡◌, ℕ, zero, suc, ◌+◌, ◌-◌, ◌*◌, ◌/◌, ◌%◌, ◌^◌, ◌<◌, ◌≤◌, Bool, true, false, not, ◌||◌, eqb, List, [], ◌∷◌, ◌++◌, length, get_or, take, drop, sym, refl, ap, ◌∙◌, ap₂, add-one, arith, drop_of_length-le, length-take, length-drop, take_all, drop-cons, eq-eqb, ne_eqb}
 use native.Mathlib.Nat.{zero-sub, sub-zero, suc-sub-suc}
 use borrow.Author.Tests.{not-true, not-false}
+use Rattle.std.specs.List.{list_any}
 use Rattle.word.specs.Choice.{pick}
 use Rattle.word.specs.Words.{word_at}
 use Rattle.word.proofs.Parse.{first_of, others_of}
@@ -82,11 +83,6 @@ module _ (v w left : ℕ) where
             (w / 256 % 256 + 256 * (w / 65536 % 256 + 256 * (w / 16777216 % 256))) (omega arith) (omega arith),
       )))
 
-pub words_compared : (ws : List ℕ) (i j v w left : ℕ) (b : Bool) → v ≡ word_at ws i → w ≡ word_at ws j → b ≡ same_first left v w → b ≡ same_first left (word_at ws i) (word_at ws j)
-words_compared ws i j v w left b e f t = rw (← e, ← f) t
-
-pub ruleset same_words_lem = (same_1, same_2, same_3, same_4)
-
 -- ---- two names, word after word
 
 take_more : (k : ℕ) (xs ys : List ℕ) → take k (xs ++ ys) ≡ take k xs ++ take (k - length xs) ys
@@ -124,9 +120,9 @@ module _ (ws : List ℕ) (k i j : ℕ) (b goal : Bool) (inv : goal ≡ same_name
   pub names_differ : not b ≡ true → false ≡ goal
   names_differ n = sym (inv ∙ rw (same_more k h (drop i ws) (drop j ws), first_of ws i, first_of ws j, ← t, not-true b n))
 
-  pub names_agree : (left : ℕ) → not b ≡ false → left ≡ k - 4 → goal ≡ same_name left (drop (i + 1) ws) (drop (j + 1) ws)
-  names_agree left n l =
-      inv ∙ rw (same_more k h (drop i ws) (drop j ws), first_of ws i, first_of ws j, ← t, not-false b n, others_of ws i, others_of ws j, l)
+  pub names_agree : (left i' j' : ℕ) → not b ≡ false → left ≡ k - 4 → i' ≡ i + 1 → j' ≡ j + 1 → goal ≡ same_name left (drop i' ws) (drop j' ws)
+  names_agree left i' j' n l p q =
+      inv ∙ rw (same_more k h (drop i ws) (drop j ws), first_of ws i, first_of ws j, ← t, not-false b n, others_of ws i, others_of ws j, l, p, q)
 
 pub names_ended : (ws : List ℕ) (k i j : ℕ) (goal : Bool) → k ≡ 0 → goal ≡ same_name k (drop i ws) (drop j ws) → true ≡ goal
 unfolding same_name name_of same_bytes
@@ -172,29 +168,31 @@ module _ (ws : List ℕ) (g h v w : ℕ) (e : v ≡ word_at ws g) (f : w ≡ wor
     unfolding same_head same_name
     heads_compared b n x = rw (← e, ← f, eq-eqb (v / 16777216 % 8) (w / 16777216 % 8) s, ← n) x
 
-pub ruleset same_heads = (stages_differ, counts_differ, heads_compared)
-
-module _ (ws hs : List ℕ) (h i : ℕ) (b goal : Bool) (inv : goal ≡ has_head ws h (drop i hs)) where
-  pub head_found : i < length hs → b ≡ same_head ws (get_or hs i 0) h → b ≡ true → true ≡ goal
-  unfolding has_head
-  head_found k e t = sym (inv ∙ rw (drop-cons hs i 0 k, ← e, t))
-
-  pub head_missed : i < length hs → b ≡ same_head ws (get_or hs i 0) h → b ≡ false → goal ≡ has_head ws h (drop (i + 1) hs)
-  unfolding has_head
-  head_missed k e t = inv ∙ rw (drop-cons hs i 0 k, ← e, t, add-one i)
-
-pub heads_ended : (ws hs : List ℕ) (h i : ℕ) (goal : Bool) → goal ≡ has_head ws h (drop i hs) → length hs ≤ i → false ≡ goal
+pub heads_any : (ws : List ℕ) (h : ℕ) (hs : List ℕ) → list_any (λ g. same_head ws g h) hs ≡ has_head ws h hs
 unfolding has_head
-heads_ended ws hs h i goal inv k = sym (inv ∙ rw (drop_of_length-le hs k))
+heads_any ws h [] = refl
+heads_any ws h (g ∷ hs) = rw (heads_any ws h hs) (by (same_head ws g h))
+  where
+    by : (t : Bool) → (t || has_head ws h hs) ≡ pick t true (has_head ws h hs)
+    by true = refl
+    by false = refl
 
-module _ (ws hs : List ℕ) (i : ℕ) (b goal : Bool) (inv : goal ≡ distinct_heads ws (drop i hs)) where
-  pub head_twice : i < length hs → b ≡ has_head ws (get_or hs i 0) (drop (i + 1) hs) → b ≡ true → false ≡ goal
-  unfolding distinct_heads
-  head_twice k e t = sym (inv ∙ rw (drop-cons hs i 0 k, ← add-one i, ← e, t))
+-- the names behind one, as the code takes them
+others_all : (hs : List ℕ) (i : ℕ) → take (length hs - i) (drop i hs) ≡ drop i hs
+others_all hs i = take_all (length hs - i) (drop i hs) (omega (arith, length-drop i hs))
 
-  pub head_once : i < length hs → b ≡ has_head ws (get_or hs i 0) (drop (i + 1) hs) → b ≡ false → goal ≡ distinct_heads ws (drop (i + 1) hs)
+module _ (ws hs : List ℕ) (i : ℕ) (b goal : Bool) (inv : goal ≡ distinct_heads ws (drop i hs)) (k : i < length hs)
+    (e : b ≡ has_head ws (get_or hs i 0) (take (length hs - (i + 1)) (drop (i + 1) hs))) where
+  told : b ≡ has_head ws (get_or hs i 0) (drop (i + 1) hs)
+  told = rw (← others_all hs (i + 1)) e
+
+  pub head_twice : b ≡ true → false ≡ goal
   unfolding distinct_heads
-  head_once k e t = inv ∙ rw (drop-cons hs i 0 k, ← add-one i, ← e, t, add-one i)
+  head_twice t = sym (inv ∙ rw (drop-cons hs i 0 k, ← add-one i, ← told, t))
+
+  pub head_once : b ≡ false → goal ≡ distinct_heads ws (drop (i + 1) hs)
+  unfolding distinct_heads
+  head_once t = inv ∙ rw (drop-cons hs i 0 k, ← add-one i, ← told, t, add-one i)
 
 pub distinct_ended : (ws hs : List ℕ) (i : ℕ) (goal : Bool) → goal ≡ distinct_heads ws (drop i hs) → length hs ≤ i → true ≡ goal
 unfolding distinct_heads

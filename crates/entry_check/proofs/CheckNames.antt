@@ -5,8 +5,8 @@ use lib.Dec.{eqb-suc-zero}
 use borrow.Author.Tests.{not-true, not-false}
 use Rattle.word.specs.Choice.{pick}
 use Rattle.word.specs.Words.{word_at, sum_of}
-use Rattle.word.specs.Parse.{Parsed, fault, got, next, one, several, Rest, nowhere, behind, rest_at}
-use Rattle.word.proofs.Parse.{rest_from, first_of, others_of}
+use Rattle.word.specs.Parse.{Parsed, fault, got, next, one, several, Rest, nowhere, from, behind}
+use Rattle.word.proofs.Parse.{first_of, others_of}
 use Rattle.interface.specs.Format.{bytes_of, no_zero, all_zero, name_well_formed, name_words, read_name}
 use Rattle.entry_check.proofs.CheckCases.{same_behind}
 
@@ -157,16 +157,16 @@ module _ (k : ℕ) (h : k ≡ 0 → ⊥) where
 
 -- the walk over a name: a word that is not well formed, one that is, the end
 module _ (ws : List ℕ) (k at w : ℕ) (b : Bool) (h : k ≡ 0 → ⊥) (e : w ≡ word_at ws at) (t : b ≡ name_well_formed k (bytes_of (w ∷ []))) where
-  pub name_stops : (goal : Rest) → not b ≡ true → goal ≡ behind (read_name k (drop at ws)) → rest_at ws 0 ≡ goal
+  pub name_stops : (goal : Rest) → not b ≡ true → goal ≡ behind (read_name k (drop at ws)) → nowhere ≡ goal
   name_stops goal f inv = name_lacks k h (drop at ws) (rw (first_of ws at, ← e, ← t) (not-true b f)) ∙ sym inv
 
-  pub name_goes : (goal : Rest) (left : ℕ) → not b ≡ false → left ≡ k - 4 → goal ≡ behind (read_name k (drop at ws)) → goal ≡ behind (read_name left (drop (at + 1) ws))
-  name_goes goal left f l inv =
-      inv ∙ name_fits k h (drop at ws) (rw (first_of ws at, ← e, ← t) (not-false b f)) ∙ rw (others_of ws at, l)
+  pub name_goes : (goal : Rest) (left next : ℕ) → not b ≡ false → left ≡ k - 4 → next ≡ at + 1 → goal ≡ behind (read_name k (drop at ws)) → goal ≡ behind (read_name left (drop next ws))
+  name_goes goal left next f l n inv =
+      inv ∙ name_fits k h (drop at ws) (rw (first_of ws at, ← e, ← t) (not-false b f)) ∙ rw (others_of ws at, l, n)
 
   pub name_in : not b ≡ false → at + 1 ≤ length ws
   name_in f = omega (arith, name_holds k h (drop at ws) (rw (first_of ws at, ← e, ← t) (not-false b f)), length-drop at ws)
 
-pub name_ended : (ws : List ℕ) (k at : ℕ) (goal : Rest) → k ≡ 0 → 1 ≤ at → goal ≡ behind (read_name k (drop at ws)) → rest_at ws at ≡ goal
+pub name_ended : (ws : List ℕ) (k at : ℕ) (goal : Rest) → k ≡ 0 → goal ≡ behind (read_name k (drop at ws)) → from (drop at ws) ≡ goal
 unfolding read_name several no_zero all_zero bytes_of
-name_ended ws k at goal z h inv = rest_from ws at h ∙ sym (inv ∙ rw z)
+name_ended ws k at goal z inv = sym (inv ∙ rw z)

@@ -5,8 +5,8 @@ use native.Mathlib.Nat.{sub-zero}
 use borrow.Author.Tests.{not-true, not-false}
 use Rattle.word.specs.Choice.{pick}
 use Rattle.word.specs.Words.{word_at, kind_of, bits}
-use Rattle.word.specs.Parse.{fault, got, next, one, Rest, rest_at}
-use Rattle.word.proofs.Parse.{rest_from, first_of, others_of, one_fault, one_got, one_in, Yields, yields_next, yields_pick}
+use Rattle.word.specs.Parse.{fault, got, next, one, Rest, nowhere, from}
+use Rattle.word.proofs.Parse.{first_of, others_of, one_fault, one_got, one_in, Yields, yields_next, yields_pick}
 use Rattle.word.proofs.Truth.{first, second}
 use Rattle.varying.specs.Format.{location_well_formed, var_well_formed}
 use Rattle.interface.specs.Format.{built_in_well_formed, built_in_of, read_varying, local, is_clip}
@@ -127,22 +127,23 @@ module _ (ws : List ℕ) (at w : ℕ) (b d : Bool) (e : w ≡ word_at ws at) (f 
       local_at : read_varying codes (drop at ws) ≡ next (one var_well_formed (drop (at + 1) ws)) λ var rest. got (local w var) rest
       local_at = is_local_lem codes (drop at ws) (rw (first_of ws at, ← e, ← f) t) ∙ rw (first_of ws at, ← e, others_of ws at)
 
-      pub local_stop : not d ≡ true → rest_at ws 0 ≡ goal
+      pub local_stop : not d ≡ true → nowhere ≡ goal
       local_stop y =
           sym (inv ∙ rw (varyings_left k codes (drop at ws) h, local_at, one_fault var_well_formed ws (at + 1) v d i g (not-true d y)))
 
-      pub local_go : not d ≡ false → goal ≡ varyings_behind (k - 1) codes (drop (at + 2) ws)
-      local_go y =
+      pub local_go : (left : ℕ) → left ≡ k - 1 → not d ≡ false → goal ≡ varyings_behind left codes (drop (at + 2) ws)
+      local_go left l y =
           let x : at + 1 + 1 ≡ at + 2 = omega arith in
-          inv ∙ rw (varyings_left k codes (drop at ws) h, local_at, one_got var_well_formed ws (at + 1) v d i g (not-false d y) var_zero, x, sub-zero)
+          inv ∙ rw (varyings_left k codes (drop at ws) h, local_at, one_got var_well_formed ws (at + 1) v d i g (not-false d y) var_zero, x, sub-zero, l)
 
   module _ (t : b ≡ false) (codes k : ℕ) (goal : Rest) (inv : goal ≡ varyings_behind k codes (drop at ws)) (h : k ≡ 0 → ⊥) where
-    pub built_in_stop : not d ≡ true → d ≡ built_in_well_formed codes w → rest_at ws 0 ≡ goal
+    pub built_in_stop : not d ≡ true → d ≡ built_in_well_formed codes w → nowhere ≡ goal
     built_in_stop y g =
         sym (inv ∙ rw (varyings_left k codes (drop at ws) h, is_neither codes (drop at ws) (rw (first_of ws at, ← e, ← f) t) (rw (first_of ws at, ← e, ← g) (not-true d y))))
 
-    pub built_in_go : not d ≡ false → d ≡ built_in_well_formed codes w → codes ≤ 5 → goal ≡ varyings_behind (k - 1) (codes - w / 67108864 % 2) (drop (at + 1) ws)
-    built_in_go y g high =
+    pub built_in_go : (left : ℕ) → left ≡ k - 1 → not d ≡ false → d ≡ built_in_well_formed codes w → codes ≤ 5
+        → goal ≡ varyings_behind left (codes - w / 67108864 % 2) (drop (at + 1) ws)
+    built_in_go left l y g high =
         inv ∙ rw (
           varyings_left k codes (drop at ws) h,
           is_built_in codes (drop at ws) (rw (first_of ws at, ← e, ← f) t) (well_formed_at codes w d y g ws at e),
@@ -150,8 +151,9 @@ module _ (ws : List ℕ) (at w : ℕ) (b d : Bool) (e : w ≡ word_at ws at) (f 
           ← e,
           clip_bit w (omega (arith, code_at codes w d y g)),
           others_of ws at,
+          l,
         )
 
-pub varyings_ended : (ws : List ℕ) (k codes at : ℕ) (goal : Rest) → goal ≡ varyings_behind k codes (drop at ws) → k ≡ 0 → 1 ≤ at → rest_at ws at ≡ goal
+pub varyings_ended : (ws : List ℕ) (k codes at : ℕ) (goal : Rest) → goal ≡ varyings_behind k codes (drop at ws) → k ≡ 0 → from (drop at ws) ≡ goal
 unfolding varyings_behind
-varyings_ended ws k codes at goal inv z h = rest_from ws at h ∙ sym (inv ∙ rw z)
+varyings_ended ws k codes at goal inv z = sym (inv ∙ rw z)

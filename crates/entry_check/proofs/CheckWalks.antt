@@ -1,11 +1,11 @@
 -- The walk over an entry point joined to its reader.
 use Prim.{tt}
-use Rattle.std.proofs.Common.{◌≡◌, ℕ, zero, suc, ◌≤◌, Bool, true, false, not, eqb, leb, List, [], ◌∷◌, length, take, drop, sym, refl, ◌∙◌}
+use Rattle.std.proofs.Common.{◌≡◌, ℕ, zero, suc, Bool, true, false, not, eqb, leb, List, [], ◌∷◌, length, take, drop, sym, refl, ◌∙◌}
 use borrow.Author.Tests.{not-true, not-false}
 use Rattle.word.specs.Choice.{pick}
 use Rattle.word.specs.Words.{bits, bit}
-use Rattle.word.specs.Parse.{Parsed, fault, got, next, one, several, Rest, nowhere, from, behind, rest_at}
-use Rattle.word.proofs.Parse.{rest_from, Yields}
+use Rattle.word.specs.Parse.{Parsed, fault, got, next, one, several, Rest, nowhere, from, behind}
+use Rattle.word.proofs.Parse.{Yields}
 use Rattle.bindings.specs.declared.types.Resource.{Resource}
 use Rattle.varying.specs.Format.{payload_well_formed}
 use Rattle.interface.specs.Format.{of_word, topology_well_formed, read_varying, clips, read_name, head_well_formed, read_workgroup, read_mesh, counts_well_formed, index_well_formed, contents, pair_well_formed, read_entry_point}
@@ -62,9 +62,9 @@ mesh_walk l =
 
 -- the code's ways: no record is marked, one is
 module _ (ws : List ℕ) (at : ℕ) (m : Bool) where
-  pub mesh_absent : 1 ≤ at → not m ≡ true → rest_at ws at ≡ behind (read_mesh m (drop at ws))
+  pub mesh_absent : not m ≡ true → from (drop at ws) ≡ behind (read_mesh m (drop at ws))
   unfolding read_mesh
-  mesh_absent h t = rw (not-true m t) (rest_from ws at h)
+  mesh_absent t = rw (not-true m t)
 
   pub mesh_present : (x : Rest) → not m ≡ false → x ≡ onward (behind (several 2 (one (of_word 10)) (drop at ws))) (λ rest. word topology_well_formed rest λ topology rest. from rest)
       → x ≡ behind (read_mesh m (drop at ws))

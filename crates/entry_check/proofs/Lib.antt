@@ -6,4 +6,3 @@ pub mod CheckPairs
 pub mod CheckSteps
 pub mod CheckVaryings
 pub mod CheckWalks
-pub mod CheckWords

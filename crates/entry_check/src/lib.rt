@@ -4,3 +4,4 @@
 pub mod check_entry;
 pub mod check_names;
 pub mod check_varyings;
+pub mod role;

@@ -16,9 +16,11 @@ use lib.ListN.{length, drop, drop_of_length-le}
 use Rattle.word.specs.Choice.{pick}
 use Rattle.word.specs.Words.{word_at}
 use Rattle.word.specs.Answers.{refused}
-use Rattle.word.specs.Refusals.{refusal, refusal_answer}
+use Rattle.word.specs.Refusals.{refusal_answer}
 use Rattle.word.specs.declared.refusal.Refusal.{Refusal}
-use Rattle.word.specs.declared.refusal.Number.TheVariants.{DamagedPack, MalformedPack}
+use Rattle.pack_check.specs.Errors.{error_number}
+use Rattle.pack_check.specs.declared.check_pack.PackError.{PackError}
+use Rattle.pack_check.proofs.Errors.{error_some}
 use Rattle.word.specs.declared.answer.Answer.{Answer}
 use Rattle.interface.specs.Meaning.{EntryPoint, entry_point_nth}
 use Rattle.interface.specs.Format.{stage_at, named, Decoded, Damaged, Malformed, Pack, decode, decoded_number, interface_of}
@@ -122,24 +124,14 @@ module _ (stage : ShaderStage) (es : List EntryPoint) (i : ℕ) (only : Option �
 -- ---- where no name is given
 
 module _ (d : Decoded) (stage n : ℕ) (e : n ≡ decoded_number d) where
-  module _ (r : Refusal) where
-    pub damaged_refused : n ≡ 1 → r ≡ refusal DamagedPack 0 0 0 → refusal_answer r ≡ finalize_name d stage
-    unfolding finalize_name
-    damaged_refused k h = rw h (by d (sym e ∙ k))
-      where
-        by : (d : Decoded) → decoded_number d ≡ 1 → refusal_answer (refusal DamagedPack 0 0 0) ≡ finalize_name d stage
-        by Damaged k = refl
-        by Malformed k = absurd (omega arith)
-        by (Pack i) k = absurd (omega arith)
-
-    pub malformed_refused : (n ≡ 0 → ⊥) → (n ≡ 1 → ⊥) → r ≡ refusal MalformedPack 0 0 0 → refusal_answer r ≡ finalize_name d stage
-    unfolding finalize_name
-    malformed_refused z k h = rw h (by d e)
-      where
-        by : (d : Decoded) → n ≡ decoded_number d → refusal_answer (refusal MalformedPack 0 0 0) ≡ finalize_name d stage
-        by Damaged e = absurd (k e)
-        by Malformed e = refl
-        by (Pack i) e = absurd (z e)
+  pub pack_refused : (error : PackError) (r : Refusal) → n ≡ error_number error → refusal_answer r ≡ refused (error_number error) → refusal_answer r ≡ finalize_name d stage
+  unfolding finalize_name
+  pack_refused error r f h = h ∙ by d (sym f ∙ e)
+    where
+      by : (d : Decoded) → error_number error ≡ decoded_number d → refused (error_number error) ≡ finalize_name d stage
+      by Damaged g = rw g
+      by Malformed g = rw g
+      by (Pack i) g = absurd (error_some error g)
 
   module _ (z : n ≡ 0) (x : Answer) where
     accepted_answer : x ≡ pick (ltb stage 5) (only_answer (only_entry_point (stage_at stage) (interface_of d).entries)) (refused 3) → x ≡ finalize_name d stage
@@ -165,4 +157,4 @@ few_entries ws h = rw ((accepted ws h).entries, records_length (entry_point_at w
 
 pub ruleset found_only = (only_other, only_first, only_second, only_ended)
 
-pub ruleset chosen_by_stage = (damaged_refused, malformed_refused, stage_refused, stage_chosen, few_entries)
+pub ruleset chosen_by_stage = (pack_refused, stage_refused, stage_chosen, few_entries)

@@ -12,7 +12,6 @@ use crate::names::same_name;
 use interface::reads::{entry_count, entry_parts, position_at, stage_at};
 use interface::types::{EntryParts, ShaderStage};
 use pack_check::check_pack::index_pack;
-use word::numbers;
 use word::refusal::{Number, Refusal};
 
 // Why a stage alone chooses no entry point: it has none, or several.
@@ -125,11 +124,7 @@ pub fn finalize_entry_point_name(pack: &[u32], stage: u32) -> Result<u32, Refusa
 {
     let mut offsets: [u16; 128] = [0; 128];
     let mut heads: [u16; 16] = [0; 16];
-    match index_pack(pack, &mut offsets, &mut heads) {
-        0 => (),
-        numbers::DAMAGED_PACK => return Err(Refusal::plain(Number::DamagedPack)),
-        _ => return Err(Refusal::plain(Number::MalformedPack)),
-    }
+    index_pack(pack, &mut offsets, &mut heads)?;
     if 4 < stage {
         return Err(Refusal::plain(Number::BadCall));
     }

@@ -1,5 +1,5 @@
 -- The type of each vertex and texture format, and the answers given on them.
-use Rattle.std.specs.Prelude.{ℕ, ltb}
+use Rattle.std.specs.Prelude.{ℕ, ltb, Option, Some, None, Result, Ok, Err}
 use Rattle.word.specs.Choice.{pick}
 use Rattle.word.specs.Numbers as Number
 use Rattle.word.specs.Answers.{answer, accepted, refused}
@@ -12,14 +12,16 @@ use Rattle.numeric.specs.declared.types.VectorSize.TheVariants.{Bi, Tri, Quad}
 use Rattle.numeric.specs.declared.types.NumericDimension.{NumericDimension}
 use Rattle.numeric.specs.declared.types.NumericDimension.TheVariants as D
 use Rattle.numeric.specs.declared.types.NumericType.{NumericType}
-use Rattle.numeric.specs.declared.type_words.TypeRead.{TypeRead}
-use Rattle.numeric.specs.declared.type_words.TypeRead.TheVariants.{Numeric, Bad}
-use Rattle.formats.specs.declared.formats.FormatType.{FormatType}
-use Rattle.formats.specs.declared.formats.FormatType.TheVariants.{Known, NoColour, Unknown}
+use Rattle.formats.specs.declared.formats.FormatError.{FormatError}
+use Rattle.formats.specs.declared.formats.FormatError.TheVariants.{NoColour, Unknown}
+
+-- the type of a format's data, or why it has none
+abbrev pub FormatType : Type 0
+FormatType = Result NumericType FormatError
 
 -- a format whose data has a type
 abbrev pub known : NumericDimension → ScalarKind → ℕ → FormatType
-known dim kind width = Known (numeric dim kind width)
+known dim kind width = Ok (numeric dim kind width)
 
 -- the codes below a number that no earlier line has
 abbrev pub below : ℕ → FormatType → (ℕ → FormatType) → ℕ → FormatType
@@ -36,7 +38,7 @@ float_vertex_format =
     (below 43 (known (D.Vector Bi) K.Float 8)
     (below 44 (known (D.Vector Tri) K.Float 8)
     (below 45 (known (D.Vector Quad) K.Float 8)
-    (λ code. Unknown))))))))
+    (λ code. Err Unknown))))))))
 
 -- 'numbered from 0 as from_vertex_format (0–44) first names them'
 unfoldable pub vertex_format : ℕ → FormatType
@@ -54,14 +56,14 @@ vertex_format =
 -- depth, stencil and planar formats (43–50), which have no colour type, and shared-exponent and compressed ones
 unfoldable pub other_texture_format : ℕ → FormatType
 other_texture_format =
-    below 51 NoColour
+    below 51 (Err NoColour)
     (below 52 (known (D.Vector Tri) K.Float 4)
     (below 64 (known (D.Vector Quad) K.Float 4)
     (below 68 (known D.Scalar K.Float 4)
     (below 72 (known (D.Vector Bi) K.Float 4)
     (below 76 (known (D.Vector Tri) K.Float 4)
     (below 77 (known (D.Vector Quad) K.Float 4)
-    (λ code. Unknown)))))))
+    (λ code. Err Unknown)))))))
 
 -- 'and from_texture_format (0–76, Astc one code)'
 unfoldable pub texture_format : ℕ → FormatType
@@ -85,18 +87,18 @@ texture_format =
 
 -- 'one handed out is the first detail'; 80 and 82 where there is none
 abbrev pub format_answer : FormatType → Answer
-format_answer (Known t) = answer 0 (type_word t) 0 0
-format_answer NoColour = refused Number.no_colour_type
-format_answer Unknown = refused Number.unknown_code
+format_answer (Ok t) = answer 0 (type_word t) 0 0
+format_answer (Err NoColour) = refused Number.no_colour_type
+format_answer (Err Unknown) = refused Number.unknown_code
 
 -- a format's type must fit the type that is written, else 81 with it
 abbrev pub check_type : NumericType → NumericType → Answer
 check_type t output = pick (fits t output) accepted (answer Number.format_mismatch (type_word t) 0 0)
 
 -- a texture format against the type that a shader writes: 82 tried first, then 80, then 81 with the format's type
-unfoldable pub check_texture_format : FormatType → TypeRead → Answer
-check_texture_format Unknown output = format_answer Unknown
-check_texture_format NoColour Bad = refused (type_number Bad)
-check_texture_format (Known t) Bad = refused (type_number Bad)
-check_texture_format NoColour (Numeric output) = format_answer NoColour
-check_texture_format (Known t) (Numeric output) = check_type t output
+unfoldable pub check_texture_format : FormatType → Option NumericType → Answer
+check_texture_format (Err Unknown) output = format_answer (Err Unknown)
+check_texture_format (Err NoColour) None = refused (type_number None)
+check_texture_format (Ok t) None = refused (type_number None)
+check_texture_format (Err NoColour) (Some output) = format_answer (Err NoColour)
+check_texture_format (Ok t) (Some output) = check_type t output

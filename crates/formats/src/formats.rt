@@ -1,184 +1,85 @@
 // Vertex and texture formats, numbered as the functions below first name them.
 ghost use Rattle.std.specs.Prelude.{◌≡◌};
-ghost use Rattle.formats.specs.Formats.{known, vertex_format, float_vertex_format, texture_format, other_texture_format, format_answer, check_type, check_texture_format};
-ghost use Rattle.numeric.specs.declared.types.NumericDimension.TheVariants as D;
+ghost use Rattle.formats.specs.Formats.{vertex_format, texture_format, format_answer, check_type, check_texture_format};
 ghost use Rattle.numeric.specs.TypeWords.{read_type};
 
-use numeric::type_words::TypeRead;
-use numeric::types::{NumericDimension, NumericType, Scalar, ScalarKind, VectorSize};
+use numeric::type_words::{read_type, type_word};
+use numeric::types::{NumericDimension, NumericType, Scalar, VectorSize as Vs};
 use word::answer::Answer;
 use word::numbers;
 
-// The type of a format's data, as a shader sees it.
-#[derive(Clone, Copy)]
-pub enum FormatType {
-    Known(NumericType),
+// Why a format has no type.
+#[derive(Clone, Copy, Debug, PartialEq, Eq)]
+pub enum FormatError {
     NoColour,
     Unknown,
 }
 
-fn scalar(kind: ScalarKind, width: u8) -> FormatType
-    ensures { result ≡ known D.Scalar kind width }
-{
-    FormatType::Known(NumericType {
-        dim: NumericDimension::Scalar,
-        scalar: Scalar { kind, width },
-    })
-}
-
-fn vector(size: VectorSize, kind: ScalarKind, width: u8) -> FormatType
-    ensures { result ≡ known (D.Vector size) kind width }
-{
-    FormatType::Known(NumericType {
-        dim: NumericDimension::Vector(size),
-        scalar: Scalar { kind, width },
-    })
-}
-
-// The codes of a vertex format are 0 to 44.
-fn from_vertex_format(format: u32) -> FormatType
+// The type of a vertex format's data, as a shader sees it.
+fn from_vertex_format(format: u32) -> Result<NumericType, FormatError>
     ensures { result ≡ vertex_format format }
 {
-    if format < 3 {
-        return scalar(ScalarKind::Uint, 4);
-    }
-    if format < 6 {
-        return vector(VectorSize::Bi, ScalarKind::Uint, 4);
-    }
-    if format < 7 {
-        return vector(VectorSize::Tri, ScalarKind::Uint, 4);
-    }
-    if format < 10 {
-        return vector(VectorSize::Quad, ScalarKind::Uint, 4);
-    }
-    if format < 13 {
-        return scalar(ScalarKind::Sint, 4);
-    }
-    if format < 16 {
-        return vector(VectorSize::Bi, ScalarKind::Sint, 4);
-    }
-    if format < 17 {
-        return vector(VectorSize::Tri, ScalarKind::Sint, 4);
-    }
-    if format < 20 {
-        return vector(VectorSize::Quad, ScalarKind::Sint, 4);
-    }
-    float_vertex_format(format)
+    let (dim, scalar) = match format {
+        0..=2 => (NumericDimension::Scalar, Scalar::U32),
+        3..=5 => (NumericDimension::Vector(Vs::Bi), Scalar::U32),
+        6 => (NumericDimension::Vector(Vs::Tri), Scalar::U32),
+        7..=9 => (NumericDimension::Vector(Vs::Quad), Scalar::U32),
+        10..=12 => (NumericDimension::Scalar, Scalar::I32),
+        13..=15 => (NumericDimension::Vector(Vs::Bi), Scalar::I32),
+        16 => (NumericDimension::Vector(Vs::Tri), Scalar::I32),
+        17..=19 => (NumericDimension::Vector(Vs::Quad), Scalar::I32),
+        20..=25 => (NumericDimension::Scalar, Scalar::F32),
+        26..=31 => (NumericDimension::Vector(Vs::Bi), Scalar::F32),
+        32 => (NumericDimension::Vector(Vs::Tri), Scalar::F32),
+        33..=40 => (NumericDimension::Vector(Vs::Quad), Scalar::F32),
+        41 => (NumericDimension::Scalar, Scalar::F64),
+        42 => (NumericDimension::Vector(Vs::Bi), Scalar::F64),
+        43 => (NumericDimension::Vector(Vs::Tri), Scalar::F64),
+        44 => (NumericDimension::Vector(Vs::Quad), Scalar::F64),
+        _ => return Err(FormatError::Unknown),
+    };
+    Ok(NumericType { dim, scalar })
 }
 
-// The vertex formats of floats, normalized ones included.
-fn float_vertex_format(format: u32) -> FormatType
-    ensures { result ≡ float_vertex_format format }
-{
-    if format < 26 {
-        return scalar(ScalarKind::Float, 4);
-    }
-    if format < 32 {
-        return vector(VectorSize::Bi, ScalarKind::Float, 4);
-    }
-    if format < 33 {
-        return vector(VectorSize::Tri, ScalarKind::Float, 4);
-    }
-    if format < 41 {
-        return vector(VectorSize::Quad, ScalarKind::Float, 4);
-    }
-    if format < 42 {
-        return scalar(ScalarKind::Float, 8);
-    }
-    if format < 43 {
-        return vector(VectorSize::Bi, ScalarKind::Float, 8);
-    }
-    if format < 44 {
-        return vector(VectorSize::Tri, ScalarKind::Float, 8);
-    }
-    if format < 45 {
-        return vector(VectorSize::Quad, ScalarKind::Float, 8);
-    }
-    FormatType::Unknown
-}
-
-// The codes of a texture format are 0 to 76; all of Astc is one code.
-fn from_texture_format(format: u32) -> FormatType
+// The type of a texture format's colour; all of Astc is one code.
+fn from_texture_format(format: u32) -> Result<NumericType, FormatError>
     ensures { result ≡ texture_format format }
 {
-    if format < 4 {
-        return scalar(ScalarKind::Float, 4);
-    }
-    if format < 7 {
-        return scalar(ScalarKind::Uint, 4);
-    }
-    if format < 10 {
-        return scalar(ScalarKind::Sint, 4);
-    }
-    if format < 14 {
-        return vector(VectorSize::Bi, ScalarKind::Float, 4);
-    }
-    if format < 15 {
-        return scalar(ScalarKind::Uint, 8);
-    }
-    if format < 18 {
-        return vector(VectorSize::Bi, ScalarKind::Uint, 4);
-    }
-    if format < 21 {
-        return vector(VectorSize::Bi, ScalarKind::Sint, 4);
-    }
-    if format < 23 {
-        return scalar(ScalarKind::Float, 4);
-    }
-    if format < 25 {
-        return vector(VectorSize::Bi, ScalarKind::Float, 4);
-    }
-    if format < 35 {
-        return vector(VectorSize::Quad, ScalarKind::Float, 4);
-    }
-    if format < 39 {
-        return vector(VectorSize::Quad, ScalarKind::Uint, 4);
-    }
-    if format < 42 {
-        return vector(VectorSize::Quad, ScalarKind::Sint, 4);
-    }
-    if format < 43 {
-        return vector(VectorSize::Tri, ScalarKind::Float, 4);
-    }
-    other_texture_format(format)
-}
-
-// Depth, stencil and planar formats, which have no colour type, and shared-exponent and compressed ones.
-fn other_texture_format(format: u32) -> FormatType
-    ensures { result ≡ other_texture_format format }
-{
-    if format < 51 {
-        return FormatType::NoColour;
-    }
-    if format < 52 {
-        return vector(VectorSize::Tri, ScalarKind::Float, 4);
-    }
-    if format < 64 {
-        return vector(VectorSize::Quad, ScalarKind::Float, 4);
-    }
-    if format < 68 {
-        return scalar(ScalarKind::Float, 4);
-    }
-    if format < 72 {
-        return vector(VectorSize::Bi, ScalarKind::Float, 4);
-    }
-    if format < 76 {
-        return vector(VectorSize::Tri, ScalarKind::Float, 4);
-    }
-    if format < 77 {
-        return vector(VectorSize::Quad, ScalarKind::Float, 4);
-    }
-    FormatType::Unknown
+    let (dim, scalar) = match format {
+        0..=3 => (NumericDimension::Scalar, Scalar::F32),
+        4..=6 => (NumericDimension::Scalar, Scalar::U32),
+        7..=9 => (NumericDimension::Scalar, Scalar::I32),
+        10..=13 => (NumericDimension::Vector(Vs::Bi), Scalar::F32),
+        14 => (NumericDimension::Scalar, Scalar::U64),
+        15..=17 => (NumericDimension::Vector(Vs::Bi), Scalar::U32),
+        18..=20 => (NumericDimension::Vector(Vs::Bi), Scalar::I32),
+        21..=22 => (NumericDimension::Scalar, Scalar::F32),
+        23..=24 => (NumericDimension::Vector(Vs::Bi), Scalar::F32),
+        25..=34 => (NumericDimension::Vector(Vs::Quad), Scalar::F32),
+        35..=38 => (NumericDimension::Vector(Vs::Quad), Scalar::U32),
+        39..=41 => (NumericDimension::Vector(Vs::Quad), Scalar::I32),
+        42 => (NumericDimension::Vector(Vs::Tri), Scalar::F32),
+        // depth, stencil and planar formats
+        43..=50 => return Err(FormatError::NoColour),
+        51 => (NumericDimension::Vector(Vs::Tri), Scalar::F32),
+        52..=63 => (NumericDimension::Vector(Vs::Quad), Scalar::F32),
+        64..=67 => (NumericDimension::Scalar, Scalar::F32),
+        68..=71 => (NumericDimension::Vector(Vs::Bi), Scalar::F32),
+        72..=75 => (NumericDimension::Vector(Vs::Tri), Scalar::F32),
+        76 => (NumericDimension::Vector(Vs::Quad), Scalar::F32),
+        _ => return Err(FormatError::Unknown),
+    };
+    Ok(NumericType { dim, scalar })
 }
 
 // The answer that hands a format's type out as its first detail.
-fn format_answer(format_type: FormatType) -> Answer
+fn format_answer(format_type: Result<NumericType, FormatError>) -> Answer
     ensures { result ≡ format_answer format_type }
 {
     match format_type {
-        FormatType::Known(t) => Answer::new(0, numeric::type_words::type_word(t), 0, 0),
-        FormatType::NoColour => Answer::refused(numbers::NO_COLOUR_TYPE),
-        FormatType::Unknown => Answer::refused(numbers::UNKNOWN_CODE),
+        Ok(t) => Answer::new(0, type_word(t), 0, 0),
+        Err(FormatError::NoColour) => Answer::refused(numbers::NO_COLOUR_TYPE),
+        Err(FormatError::Unknown) => Answer::refused(numbers::UNKNOWN_CODE),
     }
 }
 
@@ -198,29 +99,18 @@ pub fn texture_format(format: u32) -> Answer
 pub fn check_texture_format(format: u32, output: u32) -> Answer
     ensures { result ≡ check_texture_format (texture_format format) (read_type output) }
 {
-    match from_texture_format(format) {
-        FormatType::Unknown => Answer::refused(numbers::UNKNOWN_CODE),
-        FormatType::NoColour => match numeric::type_words::read_type(output) {
-            TypeRead::Bad => Answer::refused(numbers::UNKNOWN_CODE),
-            TypeRead::Numeric(_) => Answer::refused(numbers::NO_COLOUR_TYPE),
-        },
-        FormatType::Known(t) => match numeric::type_words::read_type(output) {
-            TypeRead::Bad => Answer::refused(numbers::UNKNOWN_CODE),
-            TypeRead::Numeric(written) => check_type(t, written),
-        },
+    match (from_texture_format(format), read_type(output)) {
+        (Err(FormatError::Unknown), _) | (_, None) => Answer::refused(numbers::UNKNOWN_CODE),
+        (Err(FormatError::NoColour), Some(_)) => Answer::refused(numbers::NO_COLOUR_TYPE),
+        (Ok(t), Some(output)) => check_type(t, output),
     }
 }
 
-fn check_type(t: NumericType, written: NumericType) -> Answer
-    ensures { result ≡ check_type t written }
+fn check_type(t: NumericType, output: NumericType) -> Answer
+    ensures { result ≡ check_type t output }
 {
-    if t.fits(written) {
+    if t.fits(output) {
         return Answer::accepted();
     }
-    Answer::new(
-        numbers::FORMAT_MISMATCH,
-        numeric::type_words::type_word(t),
-        0,
-        0,
-    )
+    Answer::new(numbers::FORMAT_MISMATCH, type_word(t), 0, 0)
 }

@@ -1,6 +1,6 @@
 -- The ways through the inputs of an entry point.
-use Rattle.std.proofs.Common.{Option, Some, None}
-use Prim.Native.Nat.{ℕ, ◌+◌, ◌-◌, ◌/◌, ◌%◌, ◌≤◌}
+use Rattle.std.proofs.Common.{Option, Some, None, Result, Ok, Err}
+use Prim.Native.Nat.{ℕ, ◌+◌, ◌-◌, ◌/◌, ◌%◌, ◌^◌, ◌<◌, ◌≤◌}
 use native.Mathlib.Omega.{arith}
 use mathlib.Core.Path.{◌≡◌, refl, sym, ◌∙◌}
 use mathlib.Core.Bool.{Bool, true, false, ◌||◌}
@@ -31,10 +31,12 @@ use Rattle.interface.specs.declared.types.BuiltIn.{BuiltIn}
 use Rattle.interface.specs.declared.types.BuiltIn.TheVariants as In
 use Rattle.interface.specs.declared.types.Varying.{Varying}
 use Rattle.interface.specs.declared.types.Varying.TheVariants as Var
-use Rattle.input_steps.specs.Inputs.{vertex_input, fragment_input, input_number, met_local, met_built_in, walked, input_step, input_steps}
+use Rattle.input_steps.specs.Inputs.{Walked, vertex_input, fragment_input, input_number, local_step, met_local, met_built_in, walked, input_step, input_steps}
 use Rattle.input_steps.specs.declared.types.InputWalk.{InputWalk}
-use Rattle.input_steps.specs.declared.types.Walked.{Walked}
-use Rattle.input_steps.proofs.VaryingLaws.{varyings_left, varyings_none}
+use Rattle.word.specs.Refusals.{answer_of, refusal_answer}
+use Rattle.word.specs.declared.refusal.Refusal.{Refusal}
+use Rattle.word.proofs.Both.{number_nonzero}
+use Rattle.input_steps.proofs.VaryingLaws.{varyings_more, varyings_none}
 
 -- ---- one local input
 
@@ -53,18 +55,6 @@ module _ (w p : ℕ) where
   vertex_good e n =
       rw (kind_back (bits 5 4 w) (omega arith), kind_back (bits 5 4 p) (omega arith), eq-eqb (bits 5 4 w) (bits 5 4 p) e, ne_eqb (bit 18 w) 1 n)
 
-pub primitive_agree : (a b x y : Bool) (r : ℕ) → a ≡ x → b ≡ y → r ≡ pick (same_bool x y) 0 54 → r ≡ pick (same_bool a b) 0 54
-primitive_agree a b x y r p q h = rw (p, q) h
-
-module _ (iv p : InterfaceVar) (hi : iv.interpolation ≡ p.interpolation) (hs : iv.sampling ≡ p.sampling) (b : Bool) (e : b ≡ fits iv.ty p.ty) where
-  pub fragment_fits : (r : ℕ) → b ≡ true → r ≡ pick (same_bool iv.per_primitive p.per_primitive) 0 54 → r ≡ fragment_input iv p
-  unfolding fragment_input
-  fragment_fits r t h = rw (eq-eqb iv.interpolation p.interpolation hi, eq-eqb iv.sampling p.sampling hs, ← e, t) h
-
-  pub fragment_type : b ≡ false → 51 ≡ fragment_input iv p
-  unfolding fragment_input
-  fragment_type t = rw (eq-eqb iv.interpolation p.interpolation hi, eq-eqb iv.sampling p.sampling hs, ← e, t)
-
 fragment_itself : (v : InterfaceVar) → 0 ≡ fragment_input v v
 unfolding fragment_input
 fragment_itself v =
@@ -78,12 +68,6 @@ fragment_itself v =
 pub fragment_same : (w p : ℕ) → w ≡ p → 0 ≡ fragment_input (var_of w) (var_of p)
 fragment_same w p e = rw e (fragment_itself (var_of p))
 
-pub fragment_read : (w p r : ℕ) (x y : InterfaceVar) → x ≡ var_of w → y ≡ var_of p → r ≡ fragment_input x y → r ≡ fragment_input (var_of w) (var_of p)
-fragment_read w p r x y d e h = rw (← d, ← e) h
-
-pub number_at : (stage s : ShaderStage) (iv : InterfaceVar) (p : Option InterfaceVar) (r : ℕ) → stage ≡ s → r ≡ input_number s iv p → r ≡ input_number stage iv p
-number_at stage s iv p r d h = rw d h
-
 module _ (stage : ShaderStage) (iv : InterfaceVar) (l : List ℕ) (f : Option ℕ) (p : Option InterfaceVar) (e : variable_found l f ≡ p) where
   pub number_found : (i y r : ℕ) → f ≡ Some i → y ≡ word_at l i → r ≡ input_number stage iv (Some (var_of y)) → r ≡ input_number stage iv p
   number_found i y r n g h = let q : Some (var_of (word_at l i)) ≡ p = rw n at e in h ∙ rw (g, q)
@@ -92,52 +76,18 @@ module _ (stage : ShaderStage) (iv : InterfaceVar) (l : List ℕ) (f : Option �
   unfolding input_number
   number_missing n = let q : None ≡ p = rw n at e in rw (← q)
 
--- ---- the walk
+-- ---- one input by its words, which a test tells apart
 
-pub met_local_lem : (w : ℕ) (walk : InputWalk) (b : Bool) → b ≡ (walk.per_vertex || eqb (w / 0x1000 % 8) 4)
-    → ◌≡◌ {A = InputWalk}
-    (record { primitive_index = walk.primitive_index; draw_index = walk.draw_index; per_vertex = b; locals = walk.locals + 1 }) (met_local (var_of w) walk)
-unfolding var_of
-met_local_lem w walk b e = rw e
-
-pub met_at : (b k : BuiltIn) (w r : InputWalk) → b ≡ k → r ≡ met_built_in k w → r ≡ met_built_in b w
-met_at b k w r e h = rw e h
-
--- one input by its words, which a test tells apart
-module _ (x y : ℕ) (t : Bool) (ht : t ≡ location_well_formed x) where
-  module _ (stage : ShaderStage) (provided : List Located) where
-    pub number_local : (location number : ℕ) → t ≡ true → location ≡ content_of x → number ≡ input_number stage (var_of y) (varying_at location provided)
-        → number ≡ pick (location_well_formed x) (input_number stage (var_of y) (varying_at (content_of x) provided)) 0
-    number_local location number is hl hn = rw (← ht, is, ← hl) hn
-
-    pub number_built_in : t ≡ false → 0 ≡ pick (location_well_formed x) (input_number stage (var_of y) (varying_at (content_of x) provided)) 0
-    number_built_in is = rw (← ht, is)
-
-  module _ (w m : InputWalk) where
-    pub past_local : t ≡ true → m ≡ met_local (var_of y) w → m ≡ pick (location_well_formed x) (met_local (var_of y) w) (met_built_in (built_in_of x) w)
-    past_local is e = rw (← ht, is) e
-
-    pub past_built_in : (b : BuiltIn) → t ≡ false → b ≡ built_in_of x → m ≡ met_built_in b w
-        → m ≡ pick (location_well_formed x) (met_local (var_of y) w) (met_built_in (built_in_of x) w)
-    past_built_in b is hb e = rw (← ht, is, ← hb) e
-
-module _ (stage : ShaderStage) (provided : List Located) (x y number : ℕ) (w : InputWalk) (a : Answer)
-    (hn : number ≡ pick (location_well_formed x) (input_number stage (var_of y) (varying_at (content_of x) provided)) 0) where
-  pub value_refused : (location : ℕ) → (number ≡ 0 → ⊥) → location ≡ content_of x → a ≡ answer number location 0 0
-      → walked w a ≡ input_step stage provided (varying (x ∷ y ∷ [])) w
+module _ (x y : ℕ) (t : Bool) (ht : t ≡ location_well_formed x) (stage : ShaderStage) (provided : List Located) (w : InputWalk) where
+  pub step_built_in : t ≡ false → input_step stage provided (varying (x ∷ y ∷ [])) w ≡ walked (met_built_in (built_in_of x) w) accepted
   unfolding input_step
-  value_refused location n hl h =
-      by_test (location_well_formed x)
-      (λ t. let e : number ≡ input_number stage (var_of y) (varying_at (content_of x) provided) = rw t at hn in rw (t, ← e, ne_eqb number 0 n, h, hl))
-      (λ f. absurd (n (rw f at hn)))
+  step_built_in f = rw (← ht, f)
 
-  pub value_met : (m : InputWalk) → number ≡ 0 → m ≡ pick (location_well_formed x) (met_local (var_of y) w) (met_built_in (built_in_of x) w) → a ≡ accepted
-      → walked m a ≡ input_step stage provided (varying (x ∷ y ∷ [])) w
+  pub step_local : t ≡ true
+      → input_step stage provided (varying (x ∷ y ∷ [])) w
+      ≡ local_step (input_number stage (var_of y) (varying_at (content_of x) provided)) (content_of x) (var_of y) w
   unfolding input_step
-  value_met m n e h =
-      by_test (location_well_formed x)
-      (λ t. let k : number ≡ input_number stage (var_of y) (varying_at (content_of x) provided) = rw t at hn in rw (e, t, ← k, eq-eqb number 0 n, h))
-      (λ f. rw (e, f, h))
+  step_local f = rw (← ht, f)
 
 -- a step meets at most one local input
 chosen_locals : (b : Bool) (iv : InterfaceVar) (w : InputWalk) (x y : Answer) → (pick b (walked (met_local iv w) x) (walked w y)).walk.locals ≤ w.locals + 1
@@ -158,24 +108,30 @@ step_locals stage provided (Var.BuiltIn b) w = omega (arith, built_in_locals b w
 
 -- ---- each input in order
 
-pub locals_left : (stage : ShaderStage) (provided : List Located) (v : Varying) (w : InputWalk) (s : Walked) (k : ℕ)
-    → s ≡ input_step stage provided v w → (k ≡ 0 → ⊥) → w.locals + k ≤ 63 → s.walk.locals + (k - 1) ≤ 63
-locals_left stage provided v w s k e n h =
-    let m : s.walk.locals ≤ w.locals + 1 = rw e (step_locals stage provided v w) in
-    omega (arith, m, n, h)
+pub locals_left : (stage : ShaderStage) (provided : List Located) (v : Varying) (w x : InputWalk) (n i : ℕ)
+    → x ≡ (input_step stage provided v w).walk → i < n → w.locals + (n - i) < 2 ^ 31 → x.locals + (n - (i + 1)) < 2 ^ 31
+locals_left stage provided v w x n i e h k =
+    let m : x.locals ≤ w.locals + 1 = rw e (step_locals stage provided v w) in
+    omega (arith, m, h, k)
 
-module _ (stage : ShaderStage) (provided : List Located) (ws : List ℕ) (k at : ℕ) (w : InputWalk) (goal : Walked)
-    (inv : goal ≡ input_steps stage provided (varyings k (drop at ws)) w) where
-  module _ (v : Varying) (s : Walked) (h : k ≡ 0 → ⊥) (d : v ≡ varying (drop at ws)) (e : s ≡ input_step stage provided v w) where
-    pub inputs_refused : (s.answer.number ≡ 0 → ⊥) → s ≡ goal
+-- the inputs from a position on, when as many of them as are counted have been met
+module _ (stage : ShaderStage) (provided : List Located) (ws : List ℕ) (n i at : ℕ) (w : InputWalk) (goal : Walked)
+    (inv : goal ≡ input_steps stage provided (varyings (n - i) (drop at ws)) w) where
+  module _ (h : i < n) (v : Varying) (d : v ≡ varying (drop at ws)) (x : InputWalk) (o : Result Unit Refusal)
+      (e : answer_of o ≡ (input_step stage provided v w).answer) (f : x ≡ (input_step stage provided v w).walk) where
+    pub inputs_refused : (r : Refusal) → o ≡ Err r → goal ≡ walked x (refusal_answer r)
     unfolding input_steps
-    inputs_refused n = sym (inv ∙ rw (varyings_left ws k at h, ← d, ← e, ne_eqb s.answer.number 0 n))
+    inputs_refused r g =
+        let a : refusal_answer r ≡ (input_step stage provided v w).answer = rw g at e in
+        inv ∙ rw (varyings_more ws n i at h, ← d, ← a, number_nonzero r.number) (rw (a, f))
 
-    pub inputs_onward : (next : ℕ) → s.answer.number ≡ 0 → next ≡ at + varying_width (drop at ws)
-        → goal ≡ input_steps stage provided (varyings (k - 1) (drop next ws)) s.walk
+    pub inputs_onward : (u : Unit) (next : ℕ) → o ≡ Ok u → next ≡ at + varying_width (drop at ws)
+        → goal ≡ input_steps stage provided (varyings (n - (i + 1)) (drop next ws)) x
     unfolding input_steps
-    inputs_onward next z x = inv ∙ rw (varyings_left ws k at h, ← d, ← e, eq-eqb s.answer.number 0 z, x)
+    inputs_onward u next g p =
+        let a : accepted ≡ (input_step stage provided v w).answer = rw g at e in
+        inv ∙ rw (varyings_more ws n i at h, ← d, ← a, p, f)
 
-  pub inputs_ended : (a : Answer) → k ≡ 0 → a ≡ accepted → walked w a ≡ goal
+  pub inputs_ended : n ≤ i → goal ≡ walked w accepted
   unfolding input_steps
-  inputs_ended a h e = sym (inv ∙ rw (varyings_none (drop at ws) k h, e))
+  inputs_ended h = let none : n - i ≡ 0 = omega (arith, h) in inv ∙ rw (varyings_none (drop at ws) (n - i) none)

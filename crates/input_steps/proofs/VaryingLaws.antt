@@ -41,3 +41,25 @@ module _ (ws : List ℕ) (n at : ℕ) (i : Ahead ws n at) (h : n ≡ 0 → ⊥) 
 
 pub varying_words_lem : (ws : List ℕ) (at x y : ℕ) → x ≡ word_at ws at → y ≡ word_at ws (at + 1) → varying (x ∷ y ∷ []) ≡ varying (drop at ws)
 varying_words_lem ws at x y e f = rw (first_of ws at, there ws at 1, ← e, ← f)
+
+-- a walk over n varyings, of which i are behind and the next begins at a position
+module _ (ws : List ℕ) (n i at : ℕ) (e : varyings_end ws (n - i) at < length ws) where
+  pub here : at < length ws
+  here = omega (arith, varyings_past ws (n - i) at)
+
+  module _ (h : i < n) where
+    some_left : n - i ≡ 0 → ⊥
+    some_left z = omega arith
+
+    pub beside : at + 1 < length ws
+    beside = varying_there ws (n - i) at e some_left
+
+    pub end_onward : (next : ℕ) → next ≡ at + varying_width (drop at ws) → varyings_end ws (n - (i + 1)) next < length ws
+    end_onward next x = let one : n - i - 1 ≡ n - (i + 1) = omega arith in rw (x, ← one) (ends_left ws (n - i) at e some_left (varying_width (drop at ws)) refl)
+
+pub varyings_more : (ws : List ℕ) (n i at : ℕ) → i < n
+    → varyings (n - i) (drop at ws) ≡ varying (drop at ws) ∷ varyings (n - (i + 1)) (drop (at + varying_width (drop at ws)) ws)
+varyings_more ws n i at h =
+    let some : n - i ≡ 0 → ⊥ = λ z. omega arith in
+    let one : n - i - 1 ≡ n - (i + 1) = omega arith in
+    rw (varyings_left ws (n - i) at some, one)

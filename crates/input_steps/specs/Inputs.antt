@@ -16,7 +16,6 @@ use Rattle.interface.specs.declared.types.BuiltIn.TheVariants as In
 use Rattle.interface.specs.declared.types.Varying.{Varying}
 use Rattle.interface.specs.declared.types.Varying.TheVariants as Var
 use Rattle.input_steps.specs.declared.types.InputWalk.{InputWalk}
-use Rattle.input_steps.specs.declared.types.Walked.{Walked}
 
 -- ---- inputs
 
@@ -60,6 +59,11 @@ met_built_in (In.PrimitiveIndex slots) w = record { primitive_index = true; draw
 met_built_in (In.DrawIndex slots) w = record { primitive_index = w.primitive_index; draw_index = true; per_vertex = w.per_vertex; locals = w.locals }
 met_built_in (In.FragDepth slots) w = w
 met_built_in (In.ClipDistances size) w = w
+
+-- a walk as far as it went, and its answer
+pub record Walked : Type 0 where
+  pub walk : InputWalk
+  pub answer : Answer
 
 abbrev pub walked : InputWalk → Answer → Walked
 walked w a = record { walk = w; answer = a }

@@ -1,6 +1,4 @@
 // What the walk over the inputs comes to.
-use word::answer::Answer;
-
 // What the walk over an entry point's inputs has met.
 #[derive(Clone, Copy, Debug, PartialEq, Eq)]
 pub struct InputWalk {
@@ -10,9 +8,12 @@ pub struct InputWalk {
     pub locals: u32,
 }
 
-// A walk as far as it went, and its answer.
-#[derive(Clone, Copy, Debug, PartialEq, Eq)]
-pub struct Walked {
-    pub walk: InputWalk,
-    pub answer: Answer,
+impl InputWalk {
+    // The walk that has met nothing yet.
+    pub const START: InputWalk = InputWalk {
+        primitive_index: false,
+        draw_index: false,
+        per_vertex: false,
+        locals: 0,
+    };
 }

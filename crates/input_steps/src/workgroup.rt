@@ -1,10 +1,10 @@
 // The size of a workgroup against the limits of its stage.
 ghost use Rattle.std.specs.Prelude.{◌≡◌, ◌||◌, ◌*◌, ltb, eqb, length};
+ghost use Rattle.word.specs.Refusals.{answer_of};
 ghost use Rattle.input_steps.specs.Workgroup.{size_of, workgroup_use, workgroup_step};
 
 use interface::types::{Limits, ShaderStage, WorkgroupSize};
-use word::answer::Answer;
-use word::numbers;
+use word::refusal::{Number, Refusal};
 
 // The three dimensions that are judged, and the limit on their product.
 #[derive(Clone, Copy)]
@@ -27,39 +27,25 @@ pub(crate) fn product_over(x: u32, y: u32, z: u32, total: u32) -> bool
     (total as u64) < xy * (z as u64)
 }
 
-// Whether the whole product is zero.
-fn product_zero(x: u32, y: u32, z: u32) -> bool
-    ensures { result ≡ eqb (x * y * z) 0 }
-{
-    if x == 0 {
-        return true;
-    }
-    if y == 0 {
-        return true;
-    }
-    z == 0
-}
-
 // Whether a dimension or the product is above its limit.
 fn too_large(size: WorkgroupSize, x: u32, y: u32, z: u32, total: u32) -> bool
     ensures { result ≡ (ltb x size.x || (ltb y size.y || (ltb z size.z || ltb total (size.x * size.y * size.z)))) }
 {
-    if x < size.x {
-        return true;
-    }
-    if y < size.y {
-        return true;
-    }
-    if z < size.z {
-        return true;
-    }
-    product_over(size.x, size.y, size.z, total)
+    x < size.x || y < size.y || z < size.z || product_over(size.x, size.y, size.z, total)
+}
+
+// Whether the whole product is zero.
+fn product_zero(x: u32, y: u32, z: u32) -> bool
+    ensures { result ≡ eqb (x * y * z) 0 }
+{
+    x == 0 || y == 0 || z == 0
 }
 
 // Three dimensions against limits: 40 where one or the product is too large, then 41 where one is zero.
-fn dimensions_use(dimensions: &[u32], x: u32, y: u32, z: u32, total: u32) -> Answer
+#[tactic(auto, unfolding(crate::specs::Workgroup::workgroup_use))]
+fn dimensions_use(dimensions: &[u32], x: u32, y: u32, z: u32, total: u32) -> Result<(), Refusal>
     requires { length dimensions.now ≡ 3 }
-    ensures { result ≡ workgroup_use (size_of dimensions.now) x y z total }
+    ensures { answer_of result ≡ workgroup_use (size_of dimensions.now) x y z total }
 {
     let size = WorkgroupSize {
         x: dimensions[0],
@@ -67,26 +53,32 @@ fn dimensions_use(dimensions: &[u32], x: u32, y: u32, z: u32, total: u32) -> Ans
         z: dimensions[2],
     };
     if too_large(size, x, y, z, total) {
-        return Answer::new(numbers::WORKGROUP_TOO_LARGE, size.x, size.y, size.z);
+        return Err(Refusal::new(Number::WorkgroupTooLarge, size.x, size.y, size.z));
     }
     if product_zero(size.x, size.y, size.z) {
-        return Answer::new(numbers::WORKGROUP_ZERO, size.x, size.y, size.z);
+        return Err(Refusal::new(Number::WorkgroupZero, size.x, size.y, size.z));
     }
-    Answer::accepted()
+    Ok(())
 }
 
 // The check taken apart, against the limits on its dimensions.
-fn check_size<'a>(check: WorkgroupSizeCheck<'a>, x: u32, y: u32, z: u32) -> Answer
+fn check_size<'a>(check: WorkgroupSizeCheck<'a>, x: u32, y: u32, z: u32) -> Result<(), Refusal>
     requires { length check.dimensions.now ≡ 3 }
-    ensures { result ≡ workgroup_use (size_of check.entry.dimensions.now) x y z check.entry.total_limit }
+    ensures { answer_of result ≡ workgroup_use (size_of check.entry.dimensions.now) x y z check.entry.total_limit }
 {
     dimensions_use(check.dimensions, x, y, z, check.total_limit)
 }
 
 // The check of three dimensions.
-fn check_dimensions(dimensions: &[u32], x: u32, y: u32, z: u32, total_limit: u32) -> Answer
+fn check_dimensions(
+    dimensions: &[u32],
+    x: u32,
+    y: u32,
+    z: u32,
+    total_limit: u32,
+) -> Result<(), Refusal>
     requires { length dimensions.now ≡ 3 }
-    ensures { result ≡ workgroup_use (size_of dimensions.now) x y z total_limit }
+    ensures { answer_of result ≡ workgroup_use (size_of dimensions.now) x y z total_limit }
 {
     check_size(
         WorkgroupSizeCheck {
@@ -100,20 +92,30 @@ fn check_dimensions(dimensions: &[u32], x: u32, y: u32, z: u32, total_limit: u32
 }
 
 // The size of a workgroup against limits.
-pub(crate) fn workgroup_use(size: WorkgroupSize, x: u32, y: u32, z: u32, total: u32) -> Answer
-    ensures { result ≡ workgroup_use size x y z total }
+pub(crate) fn workgroup_use(
+    size: WorkgroupSize,
+    x: u32,
+    y: u32,
+    z: u32,
+    total: u32,
+) -> Result<(), Refusal>
+    ensures { answer_of result ≡ workgroup_use size x y z total }
 {
     let dimensions = [size.x, size.y, size.z];
     check_dimensions(&dimensions, x, y, z, total)
 }
 
 // The workgroup of a compute, task or mesh stage.
-pub fn workgroup_step(stage: ShaderStage, size: WorkgroupSize, limits: Limits) -> Answer
-    ensures { result ≡ workgroup_step stage size limits }
+#[tactic(auto, unfolding(crate::specs::Workgroup::workgroup_step))]
+pub fn workgroup_step(
+    stage: ShaderStage,
+    size: WorkgroupSize,
+    limits: Limits,
+) -> Result<(), Refusal>
+    ensures { answer_of result ≡ workgroup_step stage size limits }
 {
     match stage {
-        ShaderStage::Vertex => Answer::accepted(),
-        ShaderStage::Fragment => Answer::accepted(),
+        ShaderStage::Vertex | ShaderStage::Fragment => Ok(()),
         ShaderStage::Compute => workgroup_use(
             size,
             limits.max_compute_workgroup_size_x,

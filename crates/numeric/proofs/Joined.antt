@@ -17,7 +17,7 @@ use Rattle.numeric.specs.declared.types.VectorSize.TheVariants.{Bi, Tri, Quad}
 use Rattle.numeric.specs.declared.types.NumericDimension.{NumericDimension}
 use Rattle.numeric.specs.declared.types.NumericDimension.TheVariants as D
 use Rattle.numeric.specs.declared.types.NumericType.{NumericType}
-use Rattle.numeric.specs.declared.type_words.TypeRead.TheVariants.{Numeric, Bad}
+use Rattle.std.specs.Prelude.{Some, None}
 
 -- ---- codes of kinds and shapes, there and back
 
@@ -76,12 +76,12 @@ width_below n =
 
 -- the fields of a word, and the type that it reads as
 reads_as : (w d k n : ℕ) → kind_of w ≡ 13 → bits 26 10 w ≡ 0 → bits 3 0 w ≡ d → bits 5 4 w ≡ k → bits 9 6 w ≡ n → d < 13 → width_known n ≡ true
-    → read_type w ≡ Numeric (numeric (shape_at d) (kind_at k) n)
+    → read_type w ≡ Some (numeric (shape_at d) (kind_at k) n)
 unfolding read_type type_well_formed type_of
 reads_as w d k n e z p q r h g = rw (e, z, p, q, r, lt-ltb d 13 h, g)
 
 -- a type that is written is read back
-pub read_written : (t : NumericType) → width_known t.scalar.width ≡ true → read_type (type_word t) ≡ Numeric t
+pub read_written : (t : NumericType) → width_known t.scalar.width ≡ true → read_type (type_word t) ≡ Some t
 unfolding type_word
 read_written t h =
     let d : shape_code t.dim < 13 = shape_below t.dim in
@@ -109,10 +109,10 @@ well_formed w h =
     (ltb-true (bits 3 0 w) 13 (first (ltb (bits 3 0 w) 13) (width_known (bits 9 6 w)) well_formed))
 
 -- a word that is read as a type is the word written for it
-pub written_read : (w : ℕ) (t : NumericType) → read_type w ≡ Numeric t → type_word t ≡ w
+pub written_read : (w : ℕ) (t : NumericType) → read_type w ≡ Some t → type_word t ≡ w
 unfolding read_type
 written_read w t e = go (eqb (kind_of w) 13 && (eqb (bits 26 10 w) 0 && type_well_formed w)) refl e
   where
-    go : (b : Bool) → eqb (kind_of w) 13 && (eqb (bits 26 10 w) 0 && type_well_formed w) ≡ b → pick b (Numeric (type_of w)) Bad ≡ Numeric t → type_word t ≡ w
+    go : (b : Bool) → eqb (kind_of w) 13 && (eqb (bits 26 10 w) 0 && type_well_formed w) ≡ b → pick b (Some (type_of w)) None ≡ Some t → type_word t ≡ w
     go true q r = cc (well_formed w q)
     go false q r = cc

@@ -1,4 +1,3 @@
-pub mod Fits
-pub mod TypeWords
+pub mod Compared
 pub mod Joined
 pub mod Subtype

@@ -1,9 +1,9 @@
 -- Type words (document 01, 'Varying' and 'A lone type').
-use Rattle.std.specs.Prelude.{ℕ, ◌+◌, ◌-◌, ◌*◌, ◌/◌, ◌%◌, Bool, ◌&&◌, ◌||◌, eqb, ltb}
+use Rattle.std.specs.Prelude.{ℕ, ◌+◌, ◌-◌, ◌*◌, ◌/◌, ◌%◌, Bool, ◌&&◌, ◌||◌, eqb, ltb, ⊤, Option, Some, None, Result, Ok, Err}
 use Rattle.word.specs.Choice.{pick}
 use Rattle.word.specs.Numbers as Number
 use Rattle.word.specs.Words.{kind_of, bits, of_kind}
-use Rattle.numeric.specs.Types.{kind_code, size_code, subtype_of, is_fit}
+use Rattle.numeric.specs.Types.{kind_code, size_code, subtype_of}
 use Rattle.numeric.specs.declared.types.ScalarKind.{ScalarKind}
 use Rattle.numeric.specs.declared.types.ScalarKind.TheVariants as K
 use Rattle.numeric.specs.declared.types.VectorSize.{VectorSize}
@@ -11,10 +11,7 @@ use Rattle.numeric.specs.declared.types.VectorSize.TheVariants.{Bi, Tri, Quad}
 use Rattle.numeric.specs.declared.types.NumericDimension.{NumericDimension}
 use Rattle.numeric.specs.declared.types.NumericDimension.TheVariants as D
 use Rattle.numeric.specs.declared.types.NumericType.{NumericType}
-use Rattle.numeric.specs.declared.type_words.TypeRead.{TypeRead}
-use Rattle.numeric.specs.declared.type_words.TypeRead.TheVariants.{Numeric, Bad}
-use Rattle.numeric.specs.declared.type_words.Compared.{Compared}
-use Rattle.numeric.specs.declared.type_words.Compared.TheVariants as C
+use Rattle.numeric.specs.declared.types.Misfit.{Misfit}
 
 -- ---- from words to types
 
@@ -45,13 +42,13 @@ unfoldable pub type_of : ℕ → NumericType
 type_of w = record { dim = shape_at (bits 3 0 w); scalar = record { kind = kind_at (bits 5 4 w); width = bits 9 6 w } }
 
 -- 'A lone type is a kind 13 word, bits 18–12 zero'
-unfoldable pub read_type : ℕ → TypeRead
-read_type w = pick (eqb (kind_of w) 13 && (eqb (bits 26 10 w) 0 && type_well_formed w)) (Numeric (type_of w)) Bad
+unfoldable pub read_type : ℕ → Option NumericType
+read_type w = pick (eqb (kind_of w) 13 && (eqb (bits 26 10 w) 0 && type_well_formed w)) (Some (type_of w)) None
 
 -- what the reading of a type word answers: nothing against a type, 82 for any other word
-abbrev pub type_number : TypeRead → ℕ
-type_number (Numeric t) = 0
-type_number Bad = Number.unknown_code
+abbrev pub type_number : Option NumericType → ℕ
+type_number (Some t) = 0
+type_number None = Number.unknown_code
 
 -- ---- from types to words
 
@@ -67,14 +64,14 @@ type_word t = of_kind 13 (shape_code t.dim + 16 * kind_code t.scalar.kind + 64 *
 
 -- ---- two lone types
 
--- why the first does not fit, or that one of them is no type
-unfoldable pub compare_types : TypeRead → TypeRead → Compared
-compare_types (Numeric a) (Numeric b) = C.Types (subtype_of a b)
-compare_types (Numeric a) Bad = C.Unknown
-compare_types Bad (Numeric b) = C.Unknown
-compare_types Bad Bad = C.Unknown
+-- whether the first fits, or that one of them is no type
+unfoldable pub compare_types : Option NumericType → Option NumericType → Option (Result ⊤ Misfit)
+compare_types (Some a) (Some b) = Some (subtype_of a b)
+compare_types (Some a) None = None
+compare_types None b = None
 
 -- yes, no, or 82
-abbrev pub subtype_number : Compared → ℕ
-subtype_number (C.Types fit) = pick (is_fit fit) 1 0
-subtype_number C.Unknown = Number.unknown_code
+abbrev pub subtype_number : Option (Result ⊤ Misfit) → ℕ
+subtype_number (Some (Ok u)) = 1
+subtype_number (Some (Err reason)) = 0
+subtype_number None = Number.unknown_code

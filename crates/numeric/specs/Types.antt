@@ -1,5 +1,5 @@
 -- Numeric types: which fits where another is provided.
-use Rattle.std.specs.Prelude.{ℕ, Bool, true, false, ◌&&◌, eqb, leb, ltb}
+use Rattle.std.specs.Prelude.{ℕ, Bool, true, false, ◌&&◌, eqb, leb, ltb, ⊤, Result, Ok, Err, is_ok}
 use Rattle.word.specs.Choice.{pick}
 use Rattle.numeric.specs.declared.types.ScalarKind.{ScalarKind}
 use Rattle.numeric.specs.declared.types.ScalarKind.TheVariants as K
@@ -8,8 +8,8 @@ use Rattle.numeric.specs.declared.types.VectorSize.TheVariants.{Bi, Tri, Quad}
 use Rattle.numeric.specs.declared.types.NumericDimension.{NumericDimension}
 use Rattle.numeric.specs.declared.types.NumericDimension.TheVariants as D
 use Rattle.numeric.specs.declared.types.NumericType.{NumericType}
-use Rattle.numeric.specs.declared.types.Fit.{Fit}
-use Rattle.numeric.specs.declared.types.Fit.TheVariants.{Fits, TooWide, OtherKind, OtherShape}
+use Rattle.numeric.specs.declared.types.Misfit.{Misfit}
+use Rattle.numeric.specs.declared.types.Misfit.TheVariants.{TooWide, OtherKind, OtherShape}
 
 -- 'scalar kind 5–4: sint, uint, float, bool'
 abbrev pub kind_code : ScalarKind → ℕ
@@ -38,23 +38,16 @@ shape_fits (D.Matrix c r) (D.Vector n) = false
 shape_fits (D.Matrix c r) (D.Matrix d s) = eqb (size_code c) (size_code d) && eqb (size_code r) (size_code s)
 
 -- why a type does not fit, 'tested in that order as the Rust does': too wide, other scalar kind, other shape
-unfoldable pub subtype_of : NumericType → NumericType → Fit
+unfoldable pub subtype_of : NumericType → NumericType → Result ⊤ Misfit
 subtype_of a b =
-    pick (ltb b.scalar.width a.scalar.width) TooWide
+    pick (ltb b.scalar.width a.scalar.width) (Err TooWide)
     (pick (eqb (kind_code a.scalar.kind) (kind_code b.scalar.kind))
-    (pick (shape_fits a.dim b.dim) Fits OtherShape)
-    OtherKind)
-
--- no reason against it
-abbrev pub is_fit : Fit → Bool
-is_fit Fits = true
-is_fit TooWide = false
-is_fit OtherKind = false
-is_fit OtherShape = false
+    (pick (shape_fits a.dim b.dim) (Ok tt) (Err OtherShape))
+    (Err OtherKind))
 
 -- whether a type is below another
 abbrev pub fits : NumericType → NumericType → Bool
-fits a b = is_fit (subtype_of a b)
+fits a b = is_ok (subtype_of a b)
 
 -- a type from its parts
 abbrev pub numeric : NumericDimension → ScalarKind → ℕ → NumericType

@@ -11,6 +11,10 @@ use borrow.Author.Tests.{eq-eqb, ne_eqb, lt-ltb, le-ltb, ltb-true}
 use Rattle.word.specs.Choice.{pick, yes}
 use Rattle.word.specs.Words.{word_at, kind_of, content_of, bits}
 use Rattle.word.proofs.Truth.{by_test}
+use Rattle.word.proofs.Both.{number_nonzero}
+use Rattle.word.specs.Refusals.{answer_of, refusal_answer}
+use Rattle.word.specs.declared.refusal.Refusal.{Refusal}
+use Rattle.std.proofs.Common.{Result, Ok, Err}
 use Rattle.word.specs.Answers.{answer, accepted, refused, both}
 use Rattle.word.specs.declared.answer.Answer.{Answer}
 use Rattle.varying.specs.Format.{location_well_formed}
@@ -29,28 +33,12 @@ use Rattle.interface.specs.declared.types.Varying.TheVariants as Var
 use Rattle.output_steps.specs.declared.types.Request.{Request}
 use Rattle.output_steps.specs.Inner.Given.{Summed}
 use Rattle.output_steps.specs.Outputs.{is_local, clip_part, built_in_part, is_depth, is_primitive, local_count, clip_slot_count, built_in_slot_count, any_of, location_use, location_uses, count_use, point_part, vertex_outputs, fragment_slots, attachment_use, slots_step}
-use Rattle.output_steps.specs.Inner.Summary.{reach_part, reach_of, summary_of, plus}
+use Rattle.output_steps.specs.Inner.Summary.{reach_part, reach_of, nothing, summary_of, plus}
 use Rattle.output_steps.specs.declared.types.Summary.{Summary}
 use Rattle.interface.proofs.ReadsWays.{width_there}
 use Rattle.input_steps.proofs.VaryingLaws.{varyings_left, varyings_none, Ahead, ahead_onward}
 
 -- ---- summaries
-
-abbrev pub nothing : Summary
-nothing = record { locals = 0; clip_slots = 0; built_in_slots = 0; reach = 0; depth = false; primitive = false }
-
-pub plus_parts : (a b : Summary) (r : ℕ) (d p : Bool) → r ≡ max a.reach b.reach → d ≡ (a.depth || b.depth) → p ≡ (a.primitive || b.primitive)
-    → ◌≡◌ {A = Summary}
-    (record {
-      locals = a.locals + b.locals;
-      clip_slots = a.clip_slots + b.clip_slots;
-      built_in_slots = a.built_in_slots + b.built_in_slots;
-      reach = r;
-      depth = d;
-      primitive = p;
-    })
-    (plus a b)
-plus_parts a b r d p m e f = rw (m, e, f)
 
 any_joined : (a t b : Bool) → (a || pick t true b) ≡ ((a || pick t true false) || b)
 any_joined true t b = refl
@@ -237,30 +225,23 @@ module _ (ws : List ℕ) (k at : ℕ) (s goal : Summary) (inv : goal ≡ plus s 
 
 -- ---- locations
 
-module _ (number past limit w k : ℕ) (r : Answer) (ek : k ≡ kind_of w) where
-  pub location_none : (k ≡ 12 → ⊥) → r ≡ accepted → r ≡ location_use number past limit (varying (w ∷ []))
-  location_none n x = rw (← ek, ne_eqb k 12 n) x
-
-  module _ (location : ℕ) (h : k ≡ 12) (el : location ≡ content_of w) where
-    pub location_below : location < past → r ≡ accepted → r ≡ location_use number past limit (varying (w ∷ []))
-    location_below l x = rw (← ek, eq-eqb k 12 h, ← el, lt-ltb location past l) x
-
-    pub location_past : past ≤ location → r ≡ answer number location limit 0 → r ≡ location_use number past limit (varying (w ∷ []))
-    location_past l x = rw (← ek, eq-eqb k 12 h, ← el, le-ltb location past l) x
-
 module _ (number past limit : ℕ) (ws : List ℕ) (k at : ℕ) (goal : Answer) (inv : goal ≡ location_uses number past limit (varyings k (drop at ws))) where
-  module _ (w : ℕ) (a : Answer) (h : k ≡ 0 → ⊥) (d : w ≡ word_at ws at) (e : a ≡ location_use number past limit (varying (w ∷ []))) where
-    use_is : a ≡ location_use number past limit (varying (drop at ws))
+  module _ (w : ℕ) (o : Result Unit Refusal) (h : k ≡ 0 → ⊥) (d : w ≡ word_at ws at) (e : answer_of o ≡ location_use number past limit (varying (w ∷ []))) where
+    use_is : answer_of o ≡ location_use number past limit (varying (drop at ws))
     use_is = e ∙ first_location ws at w d number past limit
 
-    pub locations_refused : (a.number ≡ 0 → ⊥) → a ≡ goal
+    pub locations_refused : (r : Refusal) → o ≡ Err r → refusal_answer r ≡ goal
     unfolding location_uses
-    locations_refused n = sym (inv ∙ rw (varyings_left ws k at h, ← use_is, ne_eqb a.number 0 n))
+    locations_refused r g =
+        let u : refusal_answer r ≡ location_use number past limit (varying (drop at ws)) = rw g at use_is in
+        sym (inv ∙ rw (varyings_left ws k at h, ← u, number_nonzero r.number))
 
-    pub locations_onward : (width : ℕ) → a.number ≡ 0 → width ≡ varying_width (w ∷ [])
+    pub locations_onward : (u : Unit) (width : ℕ) → o ≡ Ok u → width ≡ varying_width (w ∷ [])
         → goal ≡ location_uses number past limit (varyings (k - 1) (drop (at + width) ws))
     unfolding location_uses
-    locations_onward width z x = inv ∙ rw (varyings_left ws k at h, ← use_is, eq-eqb a.number 0 z, ← width_there ws at w d, x)
+    locations_onward u width g x =
+        let u : accepted ≡ location_use number past limit (varying (drop at ws)) = rw g at use_is in
+        inv ∙ rw (varyings_left ws k at h, ← u, ← width_there ws at w d, x)
 
   pub locations_ended : (a : Answer) → k ≡ 0 → a ≡ accepted → a ≡ goal
   unfolding location_uses
@@ -408,6 +389,3 @@ module _ (ws : List ℕ) (p : EntryParts) (counts n : ℕ) (s : Summary) (hc : c
   summed_here e l c = record { outputs = rw (← hc, ← hn) e; locals = l; clip = c }
 
 -- the arms of a `match`
-pub slots_at : (stage s : ShaderStage) (q : Request) (l : Limits) (e : EntryPoint) (locals : ℕ) (r : Answer) → stage ≡ s
-    → r ≡ slots_step s q l e locals → r ≡ slots_step stage q l e locals
-slots_at stage s q l e locals r d h = rw d h

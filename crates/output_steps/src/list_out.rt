@@ -11,7 +11,6 @@ ghost use Rattle.output_steps.specs.Inner.Given.{Summed};
 ghost use Rattle.output_steps.specs.Inner.ListOut.{output_encodable, handed};
 
 use crate::types::Summary;
-use input_steps::inputs::either;
 use input_steps::types::InputWalk;
 use interface::parts::outputs_counted;
 use interface::reads::varying_width;
@@ -20,20 +19,13 @@ use stage_lists::list_out::{begin_out, insert_words};
 use word::kind;
 
 // Whether a mesh stage writes a primitive index; other stages have none.
+#[tactic(auto, unfolding(word::specs::Choice::yes))]
 fn primitive_out(stage: ShaderStage, written: bool) -> Option<bool>
     ensures { result ≡ primitive_out stage written }
 {
     match stage {
-        ShaderStage::Mesh => {
-            if written {
-                return Some(true);
-            }
-            Some(false)
-        }
-        ShaderStage::Vertex => None,
-        ShaderStage::Fragment => None,
-        ShaderStage::Compute => None,
-        ShaderStage::Task => None,
+        ShaderStage::Mesh => Some(written),
+        _ => None,
     }
 }
 
@@ -73,13 +65,10 @@ pub(crate) fn write_out(
 {
     let mut head = begin_out(out, primitive, payload);
     let mut at = from;
-    let mut left = n;
-    while left != 0 {
+    for _i in 0..n {
         let first = pack[at];
-        let second = pack[at + 1];
-        head = hand_on(out, head, first, second);
+        head = hand_on(out, head, first, pack[at + 1]);
         at += varying_width(first);
-        left -= 1;
     }
     out[0] = head;
 }
@@ -98,9 +87,8 @@ pub fn list_out(
     requires parts_in_bounds { 2 + 2 * local_count (standing pack.now parts).outputs ≤ length out.old }
     ensures { out.new ≡ encode_stage (stage_out stage (standing pack.now parts) walk out.old) }
 {
-    let counts = parts.counts;
-    let n = outputs_counted(pack[counts]);
-    let primitive = primitive_out(stage, either(walk.primitive_index, outputs.primitive));
+    let n = outputs_counted(pack[parts.counts]);
+    let primitive = primitive_out(stage, walk.primitive_index | outputs.primitive);
     let payload = varying::payload_of(pack[parts.workgroup + 3]);
     write_out(pack, parts.outputs, n, out, primitive, payload);
 }

@@ -11,7 +11,7 @@ use borrow.Author.Tests.{ltb-true}
 use lib.ListN.{get_or, length, take, drop, set}
 use lib.Seq.{take-suc-set}
 use Rattle.word.specs.Words.{word_at, kind_of, bits, bit}
-use Rattle.word.specs.Parse.{Parsed, fault, got, one, several, behind, rest_at}
+use Rattle.word.specs.Parse.{Parsed, fault, got, one, several, from, behind}
 use Rattle.word.proofs.Parse.{Yields, yields_next, yields_pick, first_of, others_of}
 use Rattle.word.proofs.Truth.{first, second, codes_back}
 use Rattle.varying.specs.Format.{payload_well_formed}
@@ -90,17 +90,13 @@ unfolding several
 heads_begin ws l heads rs = none
 
 module _ (ws l heads : List ℕ) (rs : List Resource) (i at r n : ℕ) (m : Headed ws (take i heads) (listed (several i (read_entry_point rs) l)))
-    (e : rest_at ws at ≡ behind (several i (read_entry_point rs) l)) (h : 1 ≤ at) (f : rest_at ws r ≡ behind (read_entry_point rs (drop at ws))) (z : r ≡ 0 → ⊥)
+    (e : from (drop at ws) ≡ behind (several i (read_entry_point rs) l)) (f : from (drop r ws) ≡ behind (read_entry_point rs (drop at ws)))
     (q : i < n) (u : n ≤ 16) (s : 16 ≤ length heads) where
   pub heads_go : Headed ws (take (i + 1) (set heads i at)) (listed (several (i + 1) (read_entry_point rs) l))
   heads_go =
       let x : take (i + 1) (set heads i at) ≡ take i heads ++ (at ∷ []) = rw (add-one i) (take-suc-set heads i at (omega arith)) in
-      listed_more (read_entry_point rs) ws l i at e h r (HeadAt ws at) (λ es. Headed ws (take (i + 1) (set heads i at)) es) f z (head_at_lem rs ws at)
+      listed_more (read_entry_point rs) l i (drop at ws) e (drop r ws) (HeadAt ws at) (λ es. Headed ws (take (i + 1) (set heads i at)) es) f (head_at_lem rs ws at)
       (λ a y. rw x (headed_append ws (take i heads) (listed (several i (read_entry_point rs) l)) at a m y))
-
-pub heads_end : (ws l heads : List ℕ) (rs : List Resource) (i n : ℕ) → Headed ws (take i heads) (listed (several i (read_entry_point rs) l)) → i ≤ n → n ≤ i
-    → Headed ws (take n heads) (listed (several n (read_entry_point rs) l))
-heads_end ws l heads rs i n m h k = let x : n ≡ i = omega arith in rw x m
 
 -- ---- stages and names compared at those positions
 

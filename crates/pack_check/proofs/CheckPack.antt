@@ -5,75 +5,74 @@ use mathlib.Core.Path.{◌≡◌, refl, sym, ◌∙◌}
 use mathlib.Core.Bool.{Bool, true, false, not, ◌&&◌}
 use mathlib.Core.List.{List, ◌++◌}
 use lib.Dec.{eqb, leb, ltb}
-use borrow.Author.Tests.{eq-eqb, ne_eqb, lt-ltb, le-ltb, ltb-false, leb-true, not-true, not-false}
+use borrow.Author.Tests.{eq-eqb, ne_eqb, lt-ltb, le-ltb, ltb-false, leb-true, eqb-true, eqb-false, not-true, not-false}
 use lib.ListN.{length, take, drop, replicate, drop_of_length-le}
 use lib.Seq.{length-take-le, drop-cons}
 use Rattle.word.specs.Choice.{pick}
 use Rattle.word.specs.Words.{word_at, bits, closing_sum}
-use Rattle.word.specs.Parse.{Parsed, fault, got, next, one, several, Rest, nowhere, from, behind, rest_at}
-use Rattle.word.proofs.Parse.{rest_past, stopped, went}
+use Rattle.word.specs.Parse.{Parsed, fault, got, next, one, several, Rest, nowhere, from, behind, rest_of}
+use Rattle.std.specs.Prelude.{Option, Some, None, IfSome}
+use Rattle.std.specs.Option.{option_eq}
+use Rattle.word.proofs.Rests.{faulted, got_from}
 use Rattle.bindings.specs.declared.types.Resource.{Resource}
 use Rattle.bindings.specs.Format.{read_resource}
 use Rattle.interface.specs.Meaning.{Interface}
 use Rattle.interface.specs.Format.{of_word, edition_well_formed, totals_well_formed, distinct_names, read_entry_point, read_pack, damaged, decode, decoded_number, whole, body}
 use Rattle.entry_check.specs.Inner.Walks.{onward, word, thence, listed, pack_resources, pair_roles, role_table, distinct_heads}
+use Rattle.entry_check.specs.declared.role.Role.{Role}
+use Rattle.entry_check.specs.declared.role.Role.TheVariants.{Other}
 use Rattle.pack_check.specs.Inner.Records.{Headed, entries_behind, records_behind}
 use Rattle.pack_check.proofs.CheckRecords.{listed_long}
-use Rattle.word.proofs.Truth.{first, second, neither}
+use Rattle.word.proofs.Truth.{first, second, neither, never}
 use Rattle.entry_check.proofs.CheckSteps.{step_stop, step_go, word_stop, word_go}
 use Rattle.entry_check.proofs.CheckWalks.{on_word, on_step}
 use Rattle.pack_check.proofs.CheckEntries.{distinct_named}
-use Rattle.entry_check.proofs.CheckCases.{decided, test_behind}
+use Rattle.entry_check.proofs.CheckCases.{test_behind}
 
 -- ---- entry points
 
-module _ (ws l heads : List ℕ) (rs : List Resource) (n r : ℕ) (e : rest_at ws r ≡ behind (several n (read_entry_point rs) l)) where
-  pub entries_stop : r ≡ 0 → rest_at ws 0 ≡ entries_behind rs n l
+module _ (ws l heads : List ℕ) (rs : List Resource) (n : ℕ) where
+  pub entries_stop : nowhere ≡ behind (several n (read_entry_point rs) l) → nowhere ≡ entries_behind rs n l
   unfolding entries_behind
-  entries_stop z = rw (stopped (several n (read_entry_point rs) l) ws r e z)
+  entries_stop e = rw (faulted (several n (read_entry_point rs) l) e)
 
-  module _ (b : Bool) (z : r ≡ 0 → ⊥) (m : (r ≡ 0 → ⊥) → Headed ws (take n heads) (listed (several n (read_entry_point rs) l))) (f : b ≡ distinct_heads ws (take n heads)) where
-    entries_by : rest_at ws r ≡ behind (several n (read_entry_point rs) l) → entries_behind rs n l ≡ pick b (from (drop r ws)) nowhere
+  module _ (r : List ℕ) (e : from r ≡ behind (several n (read_entry_point rs) l)) (b : Bool) (m : Headed ws (take n heads) (listed (several n (read_entry_point rs) l)))
+      (f : b ≡ distinct_heads ws (take n heads)) where
+    entries_by : entries_behind rs n l ≡ pick b (from r) nowhere
     unfolding entries_behind
-    entries_by e =
-        went (several n (read_entry_point rs) l) ws r e
-        (λ p. b ≡ distinct_names (listed p) → thence p (λ entries rest. pick (distinct_names entries) (from rest) nowhere) ≡ pick b (from (drop r ws)) nowhere) z
-        (λ es g. rw g) (f ∙ distinct_named ws (take n heads) (listed (several n (read_entry_point rs) l)) (m z))
+    entries_by =
+        got_from (several n (read_entry_point rs) l) r
+        (λ p. b ≡ distinct_names (listed p) → thence p (λ entries rest. pick (distinct_names entries) (from rest) nowhere) ≡ pick b (from r) nowhere) e
+        (λ es g. rw g) (f ∙ distinct_named ws (take n heads) (listed (several n (read_entry_point rs) l)) m)
 
-    pub entries_twice : not b ≡ true → rest_at ws 0 ≡ entries_behind rs n l
-    entries_twice t = sym (entries_by e ∙ rw (not-true b t))
+    pub entries_twice : not b ≡ true → nowhere ≡ entries_behind rs n l
+    entries_twice t = sym (entries_by ∙ rw (not-true b t))
 
-    pub entries_go : not b ≡ false → rest_at ws r ≡ entries_behind rs n l
-    entries_go t = rest_past ws r z ∙ sym (entries_by e ∙ rw (not-false b t))
-
-pub heads_long : (n : ℕ) (heads start : List ℕ) → n ≤ 16 → length heads ≡ length start → 16 ≤ length start → length (take n heads) ≡ n
-heads_long n heads start h e l = length-take-le n heads (omega arith)
+    pub entries_go : not b ≡ false → from r ≡ entries_behind rs n l
+    entries_go t = sym (entries_by ∙ rw (not-false b t))
 
 -- ---- resources and entry points
 
-positive : (p : ℕ) → (p ≡ 0 → ⊥) → 1 ≤ p
-positive p z = omega arith
-
-module _ (ws : List ℕ) (count p : ℕ) (e : rest_at ws p ≡ behind (several count read_resource (drop 15 ws))) (z : p ≡ 0 → ⊥) where
+module _ (ws : List ℕ) (count p : ℕ) (e : from (drop p ws) ≡ behind (several count read_resource (drop 15 ws))) where
   pub resources_long : length (pack_resources count ws) ≡ count
-  resources_long = listed_long read_resource ws (drop 15 ws) count p e (positive p z)
+  resources_long = listed_long read_resource (drop 15 ws) count (drop p ws) e
 
-  pub roles_tabled : (roles : List ℕ) → ((p ≡ 0 → ⊥) → roles ≡ pair_roles (listed (several count read_resource (drop 15 ws))) ++ drop count (replicate 128 0))
+  pub roles_tabled : (roles : List Role) → roles ≡ pair_roles (listed (several count read_resource (drop 15 ws))) ++ drop count (replicate 128 Other)
       → roles ≡ role_table (pack_resources count ws)
   unfolding role_table
-  roles_tabled roles m = m z ∙ rw resources_long
+  roles_tabled roles m = m ∙ rw resources_long
 
-module _ (ws : List ℕ) (totals p : ℕ) (e : rest_at ws p ≡ behind (several (bits 26 16 totals) read_resource (drop 15 ws))) where
-  pub records_stop : p ≡ 0 → rest_at ws 0 ≡ records_behind totals (drop 15 ws)
+module _ (ws : List ℕ) (totals : ℕ) where
+  pub records_stop : nowhere ≡ behind (several (bits 26 16 totals) read_resource (drop 15 ws)) → nowhere ≡ records_behind totals (drop 15 ws)
   unfolding records_behind
-  records_stop z = rw (stopped (several (bits 26 16 totals) read_resource (drop 15 ws)) ws p e z)
+  records_stop e = rw (faulted (several (bits 26 16 totals) read_resource (drop 15 ws)) e)
 
-  pub records_go : (x : Rest) → (p ≡ 0 → ⊥) → x ≡ entries_behind (pack_resources (bits 26 16 totals) ws) (bits 15 0 totals) (drop p ws)
-      → x ≡ records_behind totals (drop 15 ws)
+  pub records_go : (x : Rest) (p : ℕ) → from (drop p ws) ≡ behind (several (bits 26 16 totals) read_resource (drop 15 ws))
+      → x ≡ entries_behind (pack_resources (bits 26 16 totals) ws) (bits 15 0 totals) (drop p ws) → x ≡ records_behind totals (drop 15 ws)
   unfolding records_behind
-  records_go x z f =
-      f ∙ went (several (bits 26 16 totals) read_resource (drop 15 ws)) ws p e
-      (λ q. entries_behind (listed q) (bits 15 0 totals) (drop p ws) ≡ thence q λ resources rest. entries_behind resources (bits 15 0 totals) rest) z (λ rs. refl)
+  records_go x p e f =
+      f ∙ got_from (several (bits 26 16 totals) read_resource (drop 15 ws)) (drop p ws)
+      (λ q. entries_behind (listed q) (bits 15 0 totals) (drop p ws) ≡ thence q λ resources rest. entries_behind resources (bits 15 0 totals) rest) e (λ rs. refl)
 
 -- ---- the whole pack
 
@@ -94,7 +93,7 @@ pack_walk ws =
     test_behind (distinct_names entries) _ rest
 
 module _ (ws : List ℕ) (w : ℕ) (b : Bool) (e : w ≡ word_at ws 0) (f : b ≡ edition_well_formed w) where
-  pub edition_stop : not b ≡ true → rest_at ws 0 ≡ behind (read_pack ws)
+  pub edition_stop : not b ≡ true → nowhere ≡ behind (read_pack ws)
   edition_stop t = word_stop edition_well_formed ws 0 w b _ e f t ∙ sym (pack_walk ws)
 
   module _ (totals : ℕ) (c : Bool) (t : not b ≡ false) (g : totals ≡ word_at ws 1) (h : c ≡ totals_well_formed totals) where
@@ -102,18 +101,19 @@ module _ (ws : List ℕ) (w : ℕ) (b : Bool) (e : w ≡ word_at ws 0) (f : b �
         → x ≡ behind (read_pack ws)
     edition_go x y = word_go edition_well_formed ws 0 w b _ e f x t refl y ∙ sym (pack_walk ws)
 
-    pub totals_stop : not c ≡ true → rest_at ws 0 ≡ behind (read_pack ws)
-    totals_stop u = edition_go (rest_at ws 0) (word_stop totals_well_formed ws 1 totals c _ g h u)
+    pub totals_stop : not c ≡ true → nowhere ≡ behind (read_pack ws)
+    totals_stop u = edition_go nowhere (word_stop totals_well_formed ws 1 totals c _ g h u)
 
-    module _ (r : ℕ) (u : not c ≡ false) (k : rest_at ws r ≡ behind (several 13 (one (of_word 3)) (drop 2 ws))) where
+    module _ (u : not c ≡ false) where
       totals_go : (x : Rest) → x ≡ onward (behind (several 13 (one (of_word 3)) (drop 2 ws))) (λ rest. records_behind totals rest) → x ≡ behind (read_pack ws)
       totals_go x y = edition_go x (word_go totals_well_formed ws 1 totals c _ g h x u refl y)
 
-      pub limits_stop : r ≡ 0 → rest_at ws 0 ≡ behind (read_pack ws)
-      limits_stop z = totals_go (rest_at ws 0) (step_stop ws r _ _ k z)
+      pub limits_stop : nowhere ≡ behind (several 13 (one (of_word 3)) (drop 2 ws)) → nowhere ≡ behind (read_pack ws)
+      limits_stop k = totals_go nowhere (step_stop _ _ k)
 
-      pub pack_go : (x : Rest) → (r ≡ 0 → ⊥) → ((r ≡ 0 → ⊥) → r ≡ 15) → x ≡ records_behind totals (drop 15 ws) → x ≡ behind (read_pack ws)
-      pack_go x z m y = totals_go x (step_go ws r _ _ k x z (rw (m z) y))
+      pub pack_go : (x : Rest) (r : ℕ) → from (drop r ws) ≡ behind (several 13 (one (of_word 3)) (drop 2 ws)) → r ≡ 15 → x ≡ records_behind totals (drop 15 ws)
+          → x ≡ behind (read_pack ws)
+      pack_go x r k m y = totals_go x (step_go (drop r ws) _ _ x k (rw m y))
 
 -- what the head words bound
 
@@ -126,9 +126,6 @@ module _ (totals : ℕ) (c : Bool) (h : c ≡ totals_well_formed totals) (u : no
 
   pub few_entries : bits 15 0 totals ≤ 16
   few_entries = leb-true (bits 15 0 totals) 16 (second (leb (bits 26 16 totals) 128) (leb (bits 15 0 totals) 16) bounds)
-
-pub limits_in : (ws : List ℕ) (r : ℕ) → (r ≡ 0 → ⊥) → ((r ≡ 0 → ⊥) → r ≡ 15) → r ≤ length ws → 15 ≤ length ws
-limits_in ws r z m h = let x : r ≡ 15 = m z in omega arith
 
 -- ---- damaged or not
 
@@ -149,8 +146,6 @@ module _ (ws : List ℕ) (s : 16 ≤ length ws) where
     pub damaged_sum : (v x : ℕ) → w % 65536 ≡ length ws → v ≡ word_at ws (length ws - 1) → x ≡ closing_sum ws → not (eqb v x) ≡ damaged ws
     unfolding damaged
     damaged_sum v x t f g = rw (le-ltb (length ws) 16 s, le-ltb 4096 (length ws) l, ← e, eq-eqb (w % 65536) (length ws) t, ← f, ← g)
-
-pub ruleset damaged_ways = (damaged_short, damaged_long, damaged_total, damaged_sum)
 
 pub body_long : (ws : List ℕ) → length ws - 1 ≡ length (body ws)
 body_long ws = sym (length-take-le (length ws - 1) ws (omega arith))
@@ -175,21 +170,32 @@ module _ (ws : List ℕ) (b : Bool) (e : b ≡ damaged ws) where
     pub body_few : length (body ws) ≤ 4096
     body_few = omega (arith, high, body_long ws)
 
-    module _ (r : ℕ) (f : rest_at (body ws) r ≡ behind (read_pack (body ws))) where
-      whole_at : (m : ℕ) → ((i : Interface) → decoded_number (whole (got i (drop r (body ws)))) ≡ m) → (r ≡ 0 → ⊥) → decoded_number (decode ws) ≡ m
-      unfolding decode
-      whole_at m h z = rw (← e, t) (went (read_pack (body ws)) (body ws) r f (λ p. decoded_number (whole p) ≡ m) z h)
+    whole_at : (n m : ℕ) → from (drop n (body ws)) ≡ behind (read_pack (body ws)) → ((i : Interface) → decoded_number (whole (got i (drop n (body ws)))) ≡ m)
+        → decoded_number (decode ws) ≡ m
+    unfolding decode
+    whole_at n m f h = rw (← e, t) (got_from (read_pack (body ws)) (drop n (body ws)) (λ p. decoded_number (whole p) ≡ m) f h)
 
-      nothing_at : r ≡ 0 → decoded_number (decode ws) ≡ 2
-      unfolding decode
-      nothing_at z = rw (← e, t, stopped (read_pack (body ws)) (body ws) r f z)
+    unread : nowhere ≡ behind (read_pack (body ws)) → decoded_number (decode ws) ≡ 2
+    unfolding decode
+    unread f = rw (← e, t, faulted (read_pack (body ws)) f)
 
-      pub pack_well_formed : r ≡ length ws - 1 → 0 ≡ decoded_number (decode ws)
-      pack_well_formed g =
-          let x : length (body ws) ≤ r = omega (arith, body_long ws) in
-          sym (whole_at 0 (λ i. rw (drop_of_length-le (body ws) x)) (λ z. omega (arith, low)))
+    -- the words end behind the records, or do not
+    pub pack_well_formed : (r : Option ℕ) → rest_of (body ws) r ≡ behind (read_pack (body ws)) → option_eq eqb r (Some (length ws - 1)) ≡ true
+        → 0 ≡ decoded_number (decode ws)
+    pack_well_formed None f g = never false g refl
+    pack_well_formed (Some n) f g =
+        let z : n ≡ length ws - 1 = eqb-true n (length ws - 1) g in
+        let x : length (body ws) ≤ n = omega (arith, body_long ws) in
+        sym (whole_at n 0 f (λ i. rw (drop_of_length-le (body ws) x)))
 
-      pub pack_malformed : (r ≡ length ws - 1 → ⊥) → r ≤ length (body ws) → 2 ≡ decoded_number (decode ws)
-      pack_malformed g h =
-          sym (decided r 0 (λ t. decoded_number (decode ws) ≡ 2) nothing_at
-          (λ z. whole_at 2 (λ i. rw (drop-cons (body ws) r 0 (omega (arith, body_long ws)))) z))
+    pub pack_malformed : (r : Option ℕ) → rest_of (body ws) r ≡ behind (read_pack (body ws)) → IfSome r (λ n. n ≤ length (body ws))
+        → option_eq eqb r (Some (length ws - 1)) ≡ false → 2 ≡ decoded_number (decode ws)
+    pack_malformed None f h g = sym (unread f)
+    pack_malformed (Some n) f h g =
+        let z : n ≡ length ws - 1 → ⊥ = eqb-false n (length ws - 1) g in
+        sym (whole_at n 2 f (λ i. rw (drop-cons (body ws) n 0 (omega (arith, body_long ws)))))
+
+-- what a reader's end holds, where it is a position
+pub held : (P : Type 0) (r : Option ℕ) (n : ℕ) → option_eq eqb r (Some n) ≡ true → IfSome r (λ _. P) → P
+held P None n g h = never false g refl
+held P (Some m) n g h = h

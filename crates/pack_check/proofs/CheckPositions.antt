@@ -9,15 +9,15 @@ use lib.Dec.{eqb}
 use lib.ListN.{length, take, drop, set, length-append, length-drop, take-append-drop}
 use lib.Seq.{drop-append-le, get_or-take, get_or-set_same, get_or-set_other}
 use Rattle.word.specs.Choice.{pick}
-use Rattle.word.specs.Words.{word_at, bits}
-use Rattle.word.specs.Parse.{Parsed, several, behind, rest_at}
-use Rattle.word.proofs.Parse.{went}
+use Rattle.word.specs.Words.{word_at}
+use Rattle.word.specs.Parse.{Parsed, several, from, behind}
+use Rattle.word.proofs.Rests.{got_from}
 use Rattle.word.proofs.ParseReads.{Stands}
 use Rattle.bindings.specs.Format.{read_resource, resource_at, is_buffer_word}
 use Rattle.interface.specs.Format.{read_entry_point, damaged, decode, decoded_number, body}
 use Rattle.interface.specs.Inner.Reads.{resources_at}
 use Rattle.entry_check.specs.Inner.Walks.{pack_resources}
-use Rattle.pack_check.specs.Inner.Records.{entries_behind, records_behind, Stop, Stops, EntryStops}
+use Rattle.pack_check.specs.Inner.Records.{Stop, Stops, EntryStops}
 use Rattle.interface.specs.Inner.Parts.{records_from, end_from, resource_end, entry_end, entry_point_at, resource_count, entry_count, entries_at, Offsets, Heads}
 use Rattle.interface.proofs.ReadsRecords.{ReadsAt, several_records}
 use Rattle.interface.proofs.ReadsEntry.{entry_stands}
@@ -31,35 +31,15 @@ pub stops_none : {A : Type 0} (read : List ℕ → Parsed A) (ws table : List �
 stops_none read ws table start = record { each = λ k h. absurd (omega arith) }
 
 module _ {A : Type 0} (read : List ℕ → Parsed A) (ws table : List ℕ) (start i n room at : ℕ) (s : Stops read ws start i table) (h : i < n) (few : n ≤ room)
-    (l : room ≤ length table) (a : 1 ≤ at) (w : at ≤ length ws) (r : rest_at ws at ≡ behind (several i read (drop start ws))) where
+    (l : room ≤ length table) (w : at ≤ length ws) (r : from (drop at ws) ≡ behind (several i read (drop start ws))) where
   pub stops_more : Stops read ws start (i + 1) (set table i at)
   stops_more = record { each = λ k j. by k j (eqb k i) refl }
     where
       by : (k : ℕ) → k < i + 1 → (t : Bool) → eqb k i ≡ t → Stop (several k read (drop start ws)) ws (word_at (set table i at) k)
-      by k j true e = rw (eqb-true k i e, get_or-set_same table i at 0 (omega arith)) (record { some = a; within = w; rest = r })
+      by k j true e = rw (eqb-true k i e, get_or-set_same table i at 0 (omega arith)) (record { within = w; rest = r })
       by k j false e =
           let d : k ≡ i → ⊥ = eqb-false k i e in
           rw (get_or-set_other table i k at 0 d) (s.each k (omega arith))
-
-pub stops_all : {A : Type 0} (read : List ℕ → Parsed A) (ws table : List ℕ) (start i n : ℕ) → Stops read ws start i table → i ≤ n → n ≤ i → Stops read ws start n table
-stops_all read ws table start i n s h k = let x : n ≡ i = omega arith in rw x s
-
--- ---- resources and entry points
-
-module _ (ws table : List ℕ) (totals p : ℕ) (e : rest_at ws p ≡ behind (several (bits 26 16 totals) read_resource (drop 15 ws))) (z : p ≡ 0 → ⊥) where
-  pub resources_stops : ((p ≡ 0 → ⊥) → Stops read_resource ws 15 (bits 26 16 totals) table) → Stops read_resource ws 15 (bits 26 16 totals) table
-  resources_stops m = m z
-
-  pub entries_stops : (r : ℕ) → p ≤ length ws → rest_at ws r ≡ entries_behind (pack_resources (bits 26 16 totals) ws) (bits 15 0 totals) (drop p ws) → (r ≡ 0 → ⊥)
-      → ((r ≡ 0 → ⊥) → Stops (read_entry_point (pack_resources (bits 26 16 totals) ws)) ws p (bits 15 0 totals) table) → EntryStops ws totals table
-  entries_stops r h f y m = record { start = p; begin = record { some = omega arith; within = h; rest = e }; stops = m y }
-
-module _ (ws table : List ℕ) (totals r : ℕ) (f : rest_at ws r ≡ records_behind totals (drop 15 ws)) (e : totals ≡ word_at ws 1) (z : r ≡ 0 → ⊥) where
-  pub resources_counted : ((r ≡ 0 → ⊥) → Stops read_resource ws 15 (bits 26 16 totals) table) → Stops read_resource ws 15 (resource_count ws) table
-  resources_counted m = rw (← e) (m z)
-
-  pub entries_counted : ((r ≡ 0 → ⊥) → EntryStops ws totals table) → EntryStops ws (word_at ws 1) table
-  entries_counted m = rw (← e) (m z)
 
 -- ---- where readers stop, in the words that theirs begin
 
@@ -77,7 +57,7 @@ module _ (P t ws : List ℕ) (e : P ≡ ws ++ t) where
 
     stop_at_lem : (at r : ℕ) → at ≤ length ws → Stop (read (drop at ws)) ws r → r ≡ after at
     stop_at_lem at r w s =
-        went (read (drop at ws)) ws r s.rest (λ p. read (drop at ws) ≡ p → r ≡ after at) (λ z. omega (arith, s.some))
+        got_from (read (drop at ws)) (drop r ws) (λ p. read (drop at ws) ≡ p → r ≡ after at) s.rest
         (λ a g. same_end r (after at) s.within (h.reads at (drop at ws) (stands_at at w) a (drop r ws) g).1) refl
 
   several_stop : {A : Type 0} (read : List ℕ → Parsed A) (record_at : ℕ → A) (after : ℕ → ℕ) → ReadsAt P t read record_at after
@@ -110,7 +90,7 @@ module _ (ws table : List ℕ) (n : ℕ) (e : suc n ≡ decoded_number (decode w
   pub no_heads : Heads ws table
   no_heads = record { entries = λ z. absurd (omega arith) }
 
-module _ (ws table : List ℕ) (r : ℕ) (b : Bool) (e : b ≡ damaged ws) (t : b ≡ false) (g : r ≡ length ws - 1) where
+module _ (ws table : List ℕ) (b : Bool) (e : b ≡ damaged ws) (t : b ≡ false) where
   abbrev closing : List ℕ
   closing = drop (length ws - 1) ws
 
@@ -120,18 +100,15 @@ module _ (ws table : List ℕ) (r : ℕ) (b : Bool) (e : b ≡ damaged ws) (t : 
   head_in : 15 ≤ length (body ws)
   head_in = omega (arith, body_long ws, low ws b e t)
 
-  some : r ≡ 0 → ⊥
-  some z = omega (arith, low ws b e t)
-
   totals_kept : word_at (body ws) 1 ≡ word_at ws 1
   totals_kept = get_or-take (length ws - 1) ws 1 0 (omega (arith, low ws b e t))
 
   stop_resources : (n at : ℕ) → Stop (several n read_resource (drop 15 (body ws))) (body ws) at → at ≡ end_from (resource_end ws) n 15
   stop_resources n at s = several_stop ws closing (body ws) split read_resource (resource_at ws) (resource_end ws) (resource_stands ws closing) n 15 at head_in s
 
-  module _ (m : (r ≡ 0 → ⊥) → Stops read_resource (body ws) 15 (resource_count (body ws)) table) where
+  module _ (m : Stops read_resource (body ws) 15 (resource_count (body ws)) table) where
     offset_at : (k : ℕ) → k < resource_count ws → word_at table k ≡ end_from (resource_end ws) k 15
-    offset_at k j = stop_resources k (word_at table k) ((m some).each k (rw totals_kept j))
+    offset_at k j = stop_resources k (word_at table k) (m.each k (rw totals_kept j))
 
     words_in : decoded_number (decode ws) ≡ 0 → (k : ℕ) → k < resource_count ws → word_at table k + 3 ≤ length ws
     words_in z k j =
@@ -152,9 +129,9 @@ module _ (ws table : List ℕ) (r : ℕ) (b : Bool) (e : b ≡ damaged ws) (t : 
           within = words_in;
         }
 
-  module _ (m : (r ≡ 0 → ⊥) → EntryStops (body ws) (word_at (body ws) 1) table) where
+  module _ (m : EntryStops (body ws) (word_at (body ws) 1) table) where
     stops_at : EntryStops (body ws) (word_at ws 1) table
-    stops_at = rw totals_kept at (m some)
+    stops_at = rw totals_kept at m
 
     start_at : stops_at.start ≡ entries_at ws
     start_at = stop_resources (resource_count ws) stops_at.start stops_at.begin

@@ -9,8 +9,8 @@ use borrow.Author.Tests.{not-true, not-false}
 use lib.ListN.{length, take, drop, set, length-drop, take-append-drop}
 use lib.Seq.{drop-cons, drop-set-lt, take-suc-set}
 use Rattle.word.specs.Words.{word_at, bits}
-use Rattle.word.specs.Parse.{Parsed, one, several, behind, rest_at}
-use Rattle.word.proofs.Parse.{stopped, went}
+use Rattle.word.specs.Parse.{Parsed, one, several, nowhere, from, behind}
+use Rattle.word.proofs.Rests.{faulted, got_from}
 use Rattle.bindings.specs.Format.{read_resource}
 use Rattle.interface.specs.Format.{of_word, edition_well_formed, totals_well_formed, read_entry_point, damaged, body}
 use Rattle.interface.specs.Inner.Parts.{resource_count}
@@ -23,17 +23,17 @@ use Rattle.pack_check.specs.Inner.Positions.{over, on_read, positions, entries_f
 from_end : (ws : List ℕ) (r : ℕ) → r ≤ length ws → length ws - length (drop r ws) ≡ r
 from_end ws r h = omega (arith, length-drop r ws)
 
-module _ {A : Type 0} (read : List ℕ → Parsed A) (ws : List ℕ) (k at r : ℕ) (f : rest_at ws r ≡ behind (read (drop at ws))) where
+module _ {A : Type 0} (read : List ℕ → Parsed A) (ws : List ℕ) (k at : ℕ) where
   -- none from a record on that cannot be read
-  position_last : r ≡ 0 → positions read ws (suc k) at ≡ []
+  position_last : nowhere ≡ behind (read (drop at ws)) → positions read ws (suc k) at ≡ []
   unfolding positions
-  position_last z = rw (stopped (read (drop at ws)) ws r f z)
+  position_last f = rw (faulted (read (drop at ws)) f)
 
   -- that of a record that was read, and those behind it
-  position_more : (r ≡ 0 → ⊥) → r ≤ length ws → positions read ws (suc k) at ≡ at ∷ positions read ws k r
+  position_more : (r : ℕ) → from (drop r ws) ≡ behind (read (drop at ws)) → r ≤ length ws → positions read ws (suc k) at ≡ at ∷ positions read ws k r
   unfolding positions
-  position_more z h =
-      went (read (drop at ws)) ws r f (λ p. on_read p (λ a rest. at ∷ positions read ws k (length ws - length rest)) ≡ at ∷ positions read ws k r) z
+  position_more r f h =
+      got_from (read (drop at ws)) (drop r ws) (λ p. on_read p (λ a rest. at ∷ positions read ws k (length ws - length rest)) ≡ at ∷ positions read ws k r) f
       (λ a. rw (from_end ws r h))
 
 -- a walk that writes them: its start, one more, its ways out
@@ -51,35 +51,35 @@ module _ {A : Type 0} (read : List ℕ → Parsed A) (ws table goal : List ℕ) 
   unfolding positions
   positions_ended h = let z : n - i ≡ 0 = omega arith in unwritten (rw z)
 
-  module _ (r : ℕ) (h : i < n) (f : rest_at ws r ≡ behind (read (drop at ws))) where
+  module _ (h : i < n) where
     left_one : n - i ≡ suc (n - (i + 1))
     left_one = omega arith
 
-    pub positions_stop : r ≡ 0 → table ≡ goal
-    positions_stop z = unwritten (rw left_one (position_last read ws (n - (i + 1)) at r f z))
+    pub positions_stop : nowhere ≡ behind (read (drop at ws)) → table ≡ goal
+    positions_stop f = unwritten (rw left_one (position_last read ws (n - (i + 1)) at f))
 
-    pub positions_more : (room : ℕ) → (r ≡ 0 → ⊥) → r ≤ length ws → n ≤ room → room ≤ length table
+    pub positions_more : (r room : ℕ) → from (drop r ws) ≡ behind (read (drop at ws)) → r ≤ length ws → n ≤ room → room ≤ length table
         → goal ≡ take (i + 1) (set table i at) ++ over (positions read ws (n - (i + 1)) r) (drop (i + 1) (set table i at))
-    positions_more room z l few long =
+    positions_more r room f l few long =
         let p = positions read ws (n - suc i) r in
-        inv ∙ rw (left_one, position_more read ws (n - (i + 1)) at r f z l, add-one i, take-suc-set table i at (omega arith), drop-set-lt (suc i) table i at (omega arith), drop-cons table i 0 (omega arith))
+        inv ∙ rw (left_one, position_more read ws (n - (i + 1)) at r f l, add-one i, take-suc-set table i at (omega arith), drop-set-lt (suc i) table i at (omega arith), drop-cons table i 0 (omega arith))
         (sym (append_assoc (take i table) (at ∷ []) (p ++ drop (length p) (drop (suc i) table))))
 
 -- ---- entry points behind resources
 
-module _ (ws table : List ℕ) (totals p : ℕ) (e : rest_at ws p ≡ behind (several (bits 26 16 totals) read_resource (drop 15 ws))) where
+module _ (ws table : List ℕ) (totals : ℕ) where
   -- none where not all resources were read, else those from behind them on
-  pub entries_unread : p ≡ 0 → table ≡ over (entries_from totals ws) table
+  pub entries_unread : nowhere ≡ behind (several (bits 26 16 totals) read_resource (drop 15 ws)) → table ≡ over (entries_from totals ws) table
   unfolding entries_from
-  entries_unread z = rw (stopped (several (bits 26 16 totals) read_resource (drop 15 ws)) ws p e z)
+  entries_unread e = rw (faulted (several (bits 26 16 totals) read_resource (drop 15 ws)) e)
 
-  pub entries_noted_lem : (m : List ℕ) → (p ≡ 0 → ⊥) → p ≤ length ws
+  pub entries_noted_lem : (m : List ℕ) (p : ℕ) → from (drop p ws) ≡ behind (several (bits 26 16 totals) read_resource (drop 15 ws)) → p ≤ length ws
       → m ≡ over (positions (read_entry_point (pack_resources (bits 26 16 totals) ws)) ws (bits 15 0 totals) p) table → m ≡ over (entries_from totals ws) table
   unfolding entries_from
-  entries_noted_lem m z h g =
-      went (several (bits 26 16 totals) read_resource (drop 15 ws)) ws p e
+  entries_noted_lem m p e h g =
+      got_from (several (bits 26 16 totals) read_resource (drop 15 ws)) (drop p ws)
       (λ q. m ≡ over (positions (read_entry_point (listed q)) ws (bits 15 0 totals) p) table
-      → m ≡ over (on_read q λ resources rest. positions (read_entry_point resources) ws (bits 15 0 totals) (length ws - length rest)) table) z
+      → m ≡ over (on_read q λ resources rest. positions (read_entry_point resources) ws (bits 15 0 totals) (length ws - length rest)) table) e
       (λ rs d. rw (from_end ws p h) d) g
 
 -- ---- behind the heads and the limits
@@ -95,23 +95,23 @@ module _ (ws : List ℕ) (w : ℕ) (b : Bool) (e : w ≡ word_at ws 0) (f : b �
     unfolding behind_limits
     totals_unwritten table at u = rw (← e, ← f, not-false b t, ← g, ← h, not-true c u)
 
-    module _ (r : ℕ) (u : not c ≡ false) (k : rest_at ws r ≡ behind (several 13 (one (of_word 3)) (drop 2 ws))) where
-      pub limits_unwritten : (table at : List ℕ) → r ≡ 0 → table ≡ over (behind_limits ws at) table
+    module _ (u : not c ≡ false) where
+      pub limits_unwritten : (table at : List ℕ) → nowhere ≡ behind (several 13 (one (of_word 3)) (drop 2 ws)) → table ≡ over (behind_limits ws at) table
       unfolding behind_limits
-      limits_unwritten table at z = rw (← e, ← f, not-false b t, ← g, ← h, not-false c u, stopped (several 13 (one (of_word 3)) (drop 2 ws)) ws r k z)
+      limits_unwritten table at k = rw (← e, ← f, not-false b t, ← g, ← h, not-false c u, faulted (several 13 (one (of_word 3)) (drop 2 ws)) k)
 
-      passed : (at : List ℕ) → (r ≡ 0 → ⊥) → at ≡ behind_limits ws at
-      unfolding behind_limits
-      passed at z =
-          rw (← e, ← f, not-false b t, ← g, ← h, not-false c u)
-          (went (several 13 (one (of_word 3)) (drop 2 ws)) ws r k (λ p. at ≡ on_read p λ limits rest. at) z (λ limits. refl))
+      module _ (table m : List ℕ) (r : ℕ) (k : from (drop r ws) ≡ behind (several 13 (one (of_word 3)) (drop 2 ws))) where
+        passed : (at : List ℕ) → at ≡ behind_limits ws at
+        unfolding behind_limits
+        passed at =
+            rw (← e, ← f, not-false b t, ← g, ← h, not-false c u)
+            (got_from (several 13 (one (of_word 3)) (drop 2 ws)) (drop r ws) (λ p. at ≡ on_read p λ limits rest. at) k (λ limits. refl))
 
-      module _ (table m : List ℕ) (z : r ≡ 0 → ⊥) where
         pub resources_written : m ≡ over (positions read_resource ws (bits 26 16 totals) 15) table → m ≡ over (resources_noted ws) table
-        resources_written d = rw (← passed (positions read_resource ws (resource_count ws) 15) z, ← g) d
+        resources_written d = rw (← passed (positions read_resource ws (resource_count ws) 15), ← g) d
 
         pub entries_written : m ≡ over (entries_from totals ws) table → m ≡ over (entries_noted ws) table
-        entries_written d = rw (← passed (entries_from (word_at ws 1) ws) z, ← g) d
+        entries_written d = rw (← passed (entries_from (word_at ws 1) ws), ← g) d
 
 -- ---- the whole pack
 

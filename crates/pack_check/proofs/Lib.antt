@@ -4,3 +4,4 @@ pub mod CheckPack
 pub mod CheckPositions
 pub mod CheckRecords
 pub mod CheckTables
+pub mod Errors

@@ -4,7 +4,7 @@ use native.Mathlib.Omega.{arith}
 use mathlib.Core.Path.{◌≡◌, refl, sym, ◌∙◌}
 use mathlib.Core.Bool.{Bool, true, false, not}
 use mathlib.Core.List.{List, [], ◌∷◌}
-use borrow.Author.Tests.{eq-eqb, ne_eqb, eqb-true, not-true, not-false}
+use borrow.Author.Tests.{ne_eqb, eqb-true, not-true, not-false}
 use lib.Dec.{eqb}
 use lib.ListN.{length, drop, set, length-set}
 use Rattle.word.specs.Choice.{pick, yes}
@@ -18,7 +18,6 @@ use Rattle.varying.specs.Format.{var_word}
 use Rattle.varying.proofs.Joined.{flag_back}
 use Rattle.interface.specs.Format.{built_in_of, built_in_code}
 use Rattle.interface.specs.declared.types.BuiltIn.TheVariants as In
-use Rattle.interface.proofs.RestoreVaryings.{code_back}
 use Rattle.type_lists.specs.Meaning.{Binding, Unbound, Location, BuiltIn}
 use Rattle.type_lists.specs.Format.{is_clip}
 use Rattle.type_lists.specs.Rules.{numeric_gives, array_gives, type_gives}
@@ -29,17 +28,6 @@ use Rattle.type_check.proofs.GivenWays.{shaped_gives}
 use Rattle.populate.specs.Inner.Written.{put, bound_var, nothing}
 
 -- ---- words
-
-pub built_in_other : (w c : ℕ) → c ≡ w / 2 ^ 24 % 8 → c < 4 → 0x7000_0000 + (2 ^ 24 * c + w % 2 ^ 8) ≡ of_kind 14 (built_in_code (built_in_of w))
-built_in_other w c e h = sym (rw (code_back (bits 26 24 w) (bits 7 0 w) (omega arith)) (rw e (omega arith)))
-
-pub built_in_clip : (w c : ℕ) → c ≡ w / 2 ^ 24 % 8 → 4 ≤ c → 0x7400_0000 + w % 2 ^ 8 ≡ of_kind 14 (built_in_code (built_in_of w))
-built_in_clip w c e h =
-    let a : eqb (bits 26 24 w) 0 ≡ false = ne_eqb (bits 26 24 w) 0 (λ z. omega arith) in
-    let b : eqb (bits 26 24 w) 1 ≡ false = ne_eqb (bits 26 24 w) 1 (λ z. omega arith) in
-    let d : eqb (bits 26 24 w) 2 ≡ false = ne_eqb (bits 26 24 w) 2 (λ z. omega arith) in
-    let f : eqb (bits 26 24 w) 3 ≡ false = ne_eqb (bits 26 24 w) 3 (λ z. omega arith) in
-    rw (a, b, d, f) (omega arith)
 
 type_few : (w : ℕ) → type_word (type_of w) < 0x6800_0400
 unfolding type_word type_of
@@ -68,9 +56,9 @@ module _ (w v x : ℕ) (k : x ≡ kind_of w) (t : NumericType) (l : List ℕ) (t
   unfolding binding_of flat
   local_words h = rw (← k, h)
 
-  built_in_words : (x ≡ 12 → ⊥) → x ≡ 14 → words_of (numeric_gives t (binding_of w v)) ≡ of_kind 14 (built_in_code (built_in_of w)) ∷ []
+  built_in_words : x ≡ 14 → words_of (numeric_gives t (binding_of w v)) ≡ of_kind 14 (built_in_code (built_in_of w)) ∷ []
   unfolding binding_of flat
-  built_in_words n h = rw (← k, ne_eqb x 12 n, eq-eqb x 14 h)
+  built_in_words h = rw (← k, h)
 
   no_words : (x ≡ 12 → ⊥) → (x ≡ 14 → ⊥) → words_of (numeric_gives t (binding_of w v)) ≡ []
   unfolding binding_of flat
@@ -81,9 +69,9 @@ module _ (w v x : ℕ) (k : x ≡ kind_of w) (t : NumericType) (l : List ℕ) (t
   unfolding put
   put_local a u h g i = let m : to + 1 + 1 ≡ to + 2 = omega arith in rw (local_words h, ← g, ← i, m)
 
-  pub put_built_in : (u : ℕ) → (x ≡ 12 → ⊥) → x ≡ 14 → u ≡ of_kind 14 (built_in_code (built_in_of w)) → (to + 1, set l to u) ≡ put l to (words_of (numeric_gives t (binding_of w v)))
+  pub put_built_in : (u : ℕ) → x ≡ 14 → u ≡ of_kind 14 (built_in_code (built_in_of w)) → (to + 1, set l to u) ≡ put l to (words_of (numeric_gives t (binding_of w v)))
   unfolding put
-  put_built_in u n h f = rw (built_in_words n h, ← f)
+  put_built_in u h f = rw (built_in_words h, ← f)
 
   pub put_none : (x ≡ 12 → ⊥) → (x ≡ 14 → ⊥) → (to, l) ≡ put l to (words_of (numeric_gives t (binding_of w v)))
   unfolding put
@@ -99,8 +87,8 @@ module _ (w v x : ℕ) (k : x ≡ kind_of w) (t : NumericType) (l : List ℕ) (t
     pub local_second : (y : ℕ) → x ≡ 12 → to + 1 < length (set l to y)
     local_second y h = simp length-set (omega (arith, local_room h))
 
-    pub built_in_room : (x ≡ 12 → ⊥) → x ≡ 14 → to < length l
-    built_in_room n h = let r : to + 1 ≤ length l = rw (built_in_words n h) at room in omega arith
+    pub built_in_room : x ≡ 14 → to < length l
+    built_in_room h = let r : to + 1 ≤ length l = rw (built_in_words h) at room in omega arith
 
 clip_by : (size : ℕ) (b : Binding) → words_of (array_gives size b) ≡ pick (yes (is_clip b)) (of_kind 14 (2 ^ 24 * 4 + size) ∷ []) []
 unfolding flat yes
@@ -135,25 +123,25 @@ array_kind ws at h n =
     by_test (eqb (kind_of (word_at ws at)) 23) (λ t. eqb-true (kind_of (word_at ws at)) 23 t)
     (λ f. absurd (let z : true ≡ false = rw (ne_eqb (kind_of (word_at ws at)) 22 n, f) at h in let y : ◌≡◌ {A = ℕ} 0 1 = cc in omega arith))
 
-module _ (ws : List ℕ) (start w x : ℕ) (b : Binding) (o : struct_at ws start ≡ false) (e : w ≡ word_at ws start) (k : x ≡ kind_of w) (l : List ℕ) (to : ℕ) where
-  same_kind : kind_of (word_at ws start) ≡ x
-  same_kind = rw (← e, ← k)
+module _ (ws : List ℕ) (at start w x : ℕ) (b : Binding) (o : struct_at ws at ≡ false) (q : start ≡ at) (e : w ≡ word_at ws start) (k : x ≡ kind_of w) (l : List ℕ) (to : ℕ) where
+  same_kind : kind_of (word_at ws at) ≡ x
+  same_kind = rw (← q, ← e, ← k)
 
-  lone_numeric : x ≡ 22 → type_gives nothing (type_at (drop start ws)) b ≡ numeric_gives (type_of w) b
-  lone_numeric z = rw (type_22 ws start (same_kind ∙ z), ← e) (shaped_gives (type_of w).dim (type_of w).scalar b)
+  lone_numeric : x ≡ 22 → type_gives nothing (type_at (drop at ws)) b ≡ numeric_gives (type_of w) b
+  lone_numeric z = rw (type_22 ws at (same_kind ∙ z), ← q, ← e) (shaped_gives (type_of w).dim (type_of w).scalar b)
 
-  pub numeric_room : x ≡ 22 → to + length (words_of (type_gives nothing (type_at (drop start ws)) b)) ≤ length l → to + length (words_of (numeric_gives (type_of w) b)) ≤ length l
+  pub numeric_room : x ≡ 22 → to + length (words_of (type_gives nothing (type_at (drop at ws)) b)) ≤ length l → to + length (words_of (numeric_gives (type_of w) b)) ≤ length l
   numeric_room z q = rw (lone_numeric z) at q
 
-  pub numeric_put : (later : List ℕ) (r : ℕ) → x ≡ 22 → (r, later) ≡ put l to (words_of (numeric_gives (type_of w) b)) → (r, later) ≡ put l to (words_of (type_gives nothing (type_at (drop start ws)) b))
+  pub numeric_put : (later : List ℕ) (r : ℕ) → x ≡ 22 → (r, later) ≡ put l to (words_of (numeric_gives (type_of w) b)) → (r, later) ≡ put l to (words_of (type_gives nothing (type_at (drop at ws)) b))
   numeric_put later r z q = rw (lone_numeric z) q
 
   module _ (z : x ≡ 22 → ⊥) (v m : ℕ) (f : v ≡ word_at ws (start + 1)) (g : m ≡ content_of v) where
-    lone_array : type_gives nothing (type_at (drop start ws)) b ≡ array_gives m b
-    lone_array = rw (type_23 ws start (array_kind ws start o (λ y. z (sym same_kind ∙ y))), ← f, ← g)
+    lone_array : type_gives nothing (type_at (drop at ws)) b ≡ array_gives m b
+    lone_array = rw (type_23 ws at (array_kind ws at o (λ y. z (sym same_kind ∙ y))), ← q, ← f, ← g)
 
-    pub array_room : to + length (words_of (type_gives nothing (type_at (drop start ws)) b)) ≤ length l → to + length (words_of (array_gives m b)) ≤ length l
+    pub array_room : to + length (words_of (type_gives nothing (type_at (drop at ws)) b)) ≤ length l → to + length (words_of (array_gives m b)) ≤ length l
     array_room q = rw lone_array at q
 
-    pub array_put : (later : List ℕ) (r : ℕ) → (r, later) ≡ put l to (words_of (array_gives m b)) → (r, later) ≡ put l to (words_of (type_gives nothing (type_at (drop start ws)) b))
+    pub array_put : (later : List ℕ) (r : ℕ) → (r, later) ≡ put l to (words_of (array_gives m b)) → (r, later) ≡ put l to (words_of (type_gives nothing (type_at (drop at ws)) b))
     array_put later r q = rw lone_array q

@@ -1,16 +1,19 @@
 -- Words written one behind the other: what they leave, what they hold, and words written again.
-use Prim.Native.Nat.{ℕ, zero, suc, ◌+◌, ◌-◌, ◌<◌, ◌≤◌}
+use Prim.Native.Nat.{ℕ, zero, suc, ◌+◌, ◌<◌, ◌≤◌}
 use native.Mathlib.Omega.{arith}
 use native.Mathlib.Nat.{add-zero, zero-add}
-use native.Mathlib.Numerals.{add-one, sub-one}
+use native.Mathlib.Numerals.{add-one}
 use mathlib.Core.Path.{◌≡◌, refl, sym, ap, ◌∙◌}
 use mathlib.Core.List.{List, [], ◌∷◌, ◌++◌}
-use lib.ListN.{get_or, length, drop, set, length-set}
-use lib.Seq.{sets, sets-eq, get_or-set_same, get_or-set_other}
+use lib.ListN.{get_or, length, take, drop, set, length-set, length-drop, length-take}
+use lib.Seq.{sets, sets-eq, get_or-set_same, get_or-set_other, get_or-drop, get_or-take}
+use Rattle.std.specs.Prelude.{Option}
+use Rattle.std.proofs.lemmas.Grind.{same_number_lists}
+use Rattle.std.proofs.lemmas.List.{take_more}
 use Rattle.type_check.specs.Inner.Notes.{words_of}
 use Rattle.type_lists.specs.Meaning.{Unbound, TypeInner}
 use Rattle.type_lists.specs.Rules.{populate}
-use Rattle.populate.specs.Inner.Written.{put, again, Stood, Written}
+use Rattle.populate.specs.Inner.Written.{put, Stood, Written}
 
 pub put_append : (l : List ℕ) (to : ℕ) (xs ys : List ℕ) → put l to (xs ++ ys) ≡ put (put l to xs).1 (put l to xs).0 ys
 unfolding put
@@ -58,32 +61,31 @@ put_first l ws h =
 
 -- ---- words written again
 
-pub again_is : (ws l : List ℕ) (from to : ℕ) → from + length ws ≤ to → ((k : ℕ) → k < length ws → get_or l (from + k) 0 ≡ get_or ws k 0) → again l from to (length ws) ≡ put l to ws
-unfolding again put
-again_is [] l from to h same = refl
-again_is (w ∷ ws) l from to h same =
-    let z : from + zero ≡ from = add-zero from in
-    let a : get_or l from 0 ≡ w = rw z at (same zero (omega arith)) in
-    let b : again (set l to (get_or l from 0)) (from + 1) (to + 1) (length ws) ≡ put (set l to w) (to + 1) ws =
-    rw a
-    (again_is ws (set l to w) (from + 1) (to + 1) (omega arith) λ k i.
-    let q : from + 1 + k ≡ from + suc k = omega arith in
-    get_or-set_other l to (from + 1 + k) w 0 (λ y. omega arith) ∙ rw q (same (suc k) (omega arith))) in
-    b
+-- they are the words that stand there
+pub stands_as : (l ws : List ℕ) (from : ℕ) → from + length ws ≤ length l → ((k : ℕ) → k < length ws → get_or l (from + k) 0 ≡ get_or ws k 0) → take (length ws) (drop from l) ≡ ws
+stands_as l ws from h same =
+    let n : length (take (length ws) (drop from l)) ≡ length ws = simp (length-take, length-drop) (omega arith) in
+    same_number_lists (take (length ws) (drop from l)) ws n λ k i.
+    let j : k < length ws = omega arith in
+    get_or-take (length ws) (drop from l) k 0 j ∙ get_or-drop from l k 0 ∙ same k j
 
 -- the loop: its start, one word more, its end
-module _ (l later : List ℕ) (first position from to count left : ℕ) (inv : again l first position count ≡ again later from to left) where
-  pub again_on : (h : left ≡ 0 → ⊥) → again l first position count ≡ again (set later to (get_or later from 0)) (from + 1) (to + 1) (left - 1)
-  unfolding again
-  again_on h = inv ∙ step left h
-    where
-      step : (n : ℕ) → (n ≡ 0 → ⊥) → again later from to n ≡ again (set later to (get_or later from 0)) (from + 1) (to + 1) (n - 1)
-      step zero z = absurd (z refl)
-      step (suc n) z = rw sub-one
+pub again_start : (l : List ℕ) (first to : ℕ) → (to + 0, l) ≡ put l to (take 0 (drop first l))
+unfolding put
+again_start l first to = rw (add-zero to)
 
-  pub again_done : left ≡ 0 → (to, later) ≡ again l first position count
-  unfolding again
-  again_done z = sym (inv ∙ rw z)
+module _ (l later : List ℕ) (first to count i : ℕ) (inv : (to + i, later) ≡ put l to (take i (drop first l))) where
+  pub again_on : first + count ≤ to → to + count ≤ length l → i < count → (to + (i + 1), set later (to + i) (get_or later (first + i) 0)) ≡ put l to (take (i + 1) (drop first l))
+  unfolding put
+  again_on h k o =
+      let n : i < length (drop first l) = simp length-drop (omega arith) in
+      let z : to + (i + 1) ≡ to + i + 1 = omega arith in
+      let a : later ≡ (put l to (take i (drop first l))).1 = ap (λ (p : ℕ × List ℕ). p.1) inv in
+      let x : get_or later (first + i) 0 ≡ get_or (drop first l) i 0 = rw a (put_before l to (take i (drop first l)) (first + i) (omega arith)) ∙ sym (get_or-drop first l i 0) in
+      rw (take_more (drop first l) i 0 n, put_append l to (take i (drop first l)) (get_or (drop first l) i 0 ∷ []), ← inv, x, z)
+
+  pub again_done : i ≤ count → count ≤ i → (to + count, later) ≡ put l to (take count (drop first l))
+  again_done h k = let z : count ≡ i = omega arith in rw z inv
 
 -- ---- the table of what was written
 
@@ -97,5 +99,5 @@ module _ (types : List TypeInner) where
         same = λ k h. rw b (put_before out to ws (from + k) (omega (arith, s.inside)) ∙ s.same k h);
       }
 
-  pub written_kept : (written out later ws : List ℕ) (to r : ℕ) → (r, later) ≡ put out to ws → Written types written out to → Written types written later r
+  pub written_kept : (written : List (Option ℕ)) (out later ws : List ℕ) (to r : ℕ) → (r, later) ≡ put out to ws → Written types written out to → Written types written later r
   written_kept written out later ws to r e s = record { each = λ n from h q. stood_kept out later ws (words_of (populate types n Unbound)) from to r e (s.each n from h q) }

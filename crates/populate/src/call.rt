@@ -1,93 +1,83 @@
 // The varyings of an asked type with its binding: 90, 91, 92, 4, or their number, and their words.
-ghost use Rattle.std.specs.Prelude.{◌≡◌, true, ◌+◌, ◌<◌, ◌≤◌, length};
+ghost use Rattle.std.specs.Prelude.{◌≡◌, ◌+◌, ◌<◌, ◌≤◌, length};
+ghost use Rattle.word.specs.Refusals.{answer_with};
 ghost use Rattle.type_lists.specs.Format.{read_binding};
 ghost use Rattle.type_lists.specs.Rules.{populate};
-ghost use Rattle.type_check.specs.Inner.Positions.{binding_at, binding_of, declared};
-ghost use Rattle.type_check.specs.Inner.Notes.{words_of, Noted};
+ghost use Rattle.type_check.specs.Inner.Positions.{binding_of, earlier_of};
+ghost use Rattle.type_check.specs.Inner.Notes.{words_of};
 ghost use Rattle.populate.specs.Populate.{populated, bound_on, populate_call};
 ghost use Rattle.populate.specs.Inner.Written.{put, room};
 
+use crate::put::Binding;
 use crate::walk::populate;
 use type_check::bound::binding_next;
 use type_check::clips::binding_good;
 use type_check::given::given_note;
 use type_check::index::index_types;
-use word::answer::Answer;
-use word::numbers;
+use type_check::notes::TypeNote;
+use type_check::types::Types;
+use word::refusal::{Number, Refusal};
 
-// Writes the varyings of the asked type with the binding of two words.
-fn put_varyings(types: &[u32], notes: &[u32; 256], asked: usize, w: u32, var: u32, out: &mut [u32])
-    requires noted { Noted (declared types.now) types.now notes.now }
-    requires asked_in_bounds { asked < length (declared types.now) }
-    requires var_bound { 0 + length (words_of (populate (declared types.now) asked (binding_of w var))) ≤ room out.old }
-    ensures { out.new ≡ (put out.old 0 (words_of (populate (declared types.now) asked (binding_of w var)))).1 }
+// Writes the varyings of the asked type.
+fn put_varyings(types: &Types<'_>, asked: usize, binding: Binding, out: &mut [u32])
+    requires inside { asked < types.now.count }
+    requires room { 0 + length (words_of (populate (earlier_of types.now.words.now types.now.count) asked (binding_of binding.first binding.second))) ≤ room out.old }
+    ensures { out.new ≡ (put out.old 0 (words_of (populate (earlier_of types.now.words.now types.now.count) asked (binding_of binding.first binding.second)))).1 }
 {
-    let mut written: [u8; 256] = [0; 256];
-    populate(types, notes, asked, w, var, out, 0, &mut written);
+    let mut written: [Option<u8>; 256] = [None; 256];
+    populate(types, asked, binding, out, 0, &mut written);
 }
 
 // The answer on the asked type with a binding that is well formed.
-fn populate_asked(
-    types: &[u32],
-    notes: &[u32; 256],
-    asked: usize,
-    bound: &[u32],
-    out: &mut [u32],
-) -> Answer
-    requires noted { Noted (declared types.now) types.now notes.now }
-    requires asked_in_bounds { asked < length (declared types.now) }
-    ensures { (result, out.new) ≡ populated (declared types.now) asked (binding_at bound.now) out.old }
+fn populate_asked(types: &Types<'_>, asked: usize, binding: Binding, out: &mut [u32]) -> Result<u32, Refusal>
+    requires { asked < types.now.count }
+    ensures { (answer_with result, out.new) ≡ populated (earlier_of types.now.words.now types.now.count) asked (binding_of binding.first binding.second) out.old }
 {
-    let w = word::word(bound, 0);
-    let note = given_note(types, notes, asked, w);
+    let note = given_note(types, asked, binding.first);
     if 8 < note.depth {
-        return Answer::refused(numbers::NESTED_TOO_DEEP);
+        return Err(Refusal::plain(Number::NestedTooDeep));
     }
     if 63 < note.count {
-        return Answer::refused(numbers::TOO_MANY_VARYINGS);
+        return Err(Refusal::plain(Number::TooManyVaryings));
     }
-    if out.len() < note.words as usize {
-        return Answer::refused(numbers::SHORT_OUT);
+    if out.len() < usize::from(note.words) {
+        return Err(Refusal::plain(Number::ShortOut));
     }
-    put_varyings(types, notes, asked, w, word::word(bound, 1), out);
-    Answer::new(0, note.count, 0, 0)
+    put_varyings(types, asked, binding, out);
+    Ok(u32::from(note.count))
 }
 
 // The answer on the asked type with its binding, which is one whole binding and may stand on the type.
-fn populate_bound(
-    types: &[u32],
-    notes: &[u32; 256],
-    asked: usize,
-    bound: &[u32],
-    out: &mut [u32],
-) -> Answer
-    requires noted { Noted (declared types.now) types.now notes.now }
-    requires asked_in_bounds { asked < length (declared types.now) }
-    ensures { (result, out.new) ≡ bound_on (declared types.now) asked (read_binding bound.now) out.old }
+fn populate_bound(types: &Types<'_>, asked: usize, words: &[u32], out: &mut [u32]) -> Result<u32, Refusal>
+    requires { asked < types.now.count }
+    ensures { (answer_with result, out.new) ≡ bound_on (earlier_of types.now.words.now types.now.count) asked (read_binding words.now) out.old }
 {
-    let end = binding_next(bound, 0);
-    if end == 0 {
-        return Answer::refused(numbers::BAD_TYPES);
+    if binding_next(words, 0) != Some(words.len()) {
+        return Err(Refusal::plain(Number::BadTypes));
     }
-    if end != bound.len() {
-        return Answer::refused(numbers::BAD_TYPES);
+    let binding = Binding::at(words, 0);
+    if !binding_good(types, asked, binding.first) {
+        return Err(Refusal::plain(Number::BadTypes));
     }
-    if !binding_good(types, notes, asked, word::word(bound, 0)) {
-        return Answer::refused(numbers::BAD_TYPES);
-    }
-    populate_asked(types, notes, asked, bound, out)
+    populate_asked(types, asked, binding, out)
 }
 
 // The varyings of a type of a list with its binding, written one behind the other; their count is the first detail.
-pub fn populate_types(types: &[u32], asked: u32, binding: &[u32], out: &mut [u32]) -> Answer
-    ensures { (result, out.new) ≡ populate_call types.now asked binding.now out.old }
+pub fn populate_types(types: &[u32], asked: u32, binding: &[u32], out: &mut [u32]) -> Result<u32, Refusal>
+    ensures { (answer_with result, out.new) ≡ populate_call types.now asked binding.now out.old }
 {
-    let mut notes: [u32; 256] = [0; 256];
+    let mut notes = [TypeNote::NONE; 256];
     if !index_types(types, &mut notes) {
-        return Answer::refused(numbers::BAD_TYPES);
+        return Err(Refusal::plain(Number::BadTypes));
     }
-    if word::content(word::word(types, 0)) <= asked {
-        return Answer::refused(numbers::BAD_TYPES);
+    let count = word::content(word::word(types, 0));
+    if count <= asked {
+        return Err(Refusal::plain(Number::BadTypes));
     }
-    populate_bound(types, &notes, asked as usize, binding, out)
+    let declared = Types {
+        words: types,
+        notes: &notes,
+        count: count as usize,
+    };
+    populate_bound(&declared, asked as usize, binding, out)
 }

@@ -1,25 +1,42 @@
 // Varyings written as words, one behind the other.
-ghost use Rattle.std.specs.Prelude.{◌≡◌, false, ◌+◌, ◌<◌, ◌≤◌, ◌^◌, length, drop};
-ghost use Rattle.word.specs.Words.{of_kind};
+ghost use Rattle.std.specs.Prelude.{◌≡◌, false, ◌+◌, ◌<◌, ◌≤◌, ◌^◌, length, take, drop};
+ghost use Rattle.word.specs.Words.{word_at, of_kind};
 ghost use Rattle.numeric.specs.TypeWords.{type_of};
 ghost use Rattle.varying.specs.Format.{var_word};
 ghost use Rattle.interface.specs.Format.{built_in_of, built_in_code};
 ghost use Rattle.type_lists.specs.Rules.{numeric_gives, array_gives, type_gives};
 ghost use Rattle.type_check.specs.Inner.Positions.{binding_of, type_at, struct_at};
-ghost use Rattle.type_check.specs.Inner.Notes.{words_of};
-ghost use Rattle.populate.specs.Inner.Written.{put, again, bound_var, nothing};
+ghost use Rattle.type_check.specs.Inner.Notes.{words_of, start_at};
+ghost use Rattle.populate.specs.Inner.Written.{put, bound_var, nothing};
 
 use type_check::clips::is_clip;
+use type_check::types::Types;
+
+// A binding by its first word and the one behind it.
+#[derive(Clone, Copy)]
+pub(crate) struct Binding {
+    pub(crate) first: u32,
+    pub(crate) second: u32,
+}
+
+impl Binding {
+    pub(crate) fn at(words: &[u32], at: usize) -> Self
+        requires { at < 2 ^ 60 }
+        ensures { (result.first ≡ word_at words.now at) × (result.second ≡ word_at words.now (at + 1)) }
+    {
+        Self {
+            first: word::word(words, at),
+            second: word::word(words, at + 1),
+        }
+    }
+}
 
 // The word of a built-in, by a binding's.
 fn built_in_word(w: u32) -> u32
     ensures { result ≡ of_kind 14 (built_in_code (built_in_of w)) }
 {
-    let code = w / 0x100_0000 % 8;
-    if code < 4 {
-        return 0x7000_0000 + (0x100_0000 * code + w % 0x100);
-    }
-    0x7400_0000 + w % 0x100
+    let code = (w / 0x100_0000 % 8).min(4);
+    0x7000_0000 + (0x100_0000 * code + w % 0x100)
 }
 
 // The word of a variable: the type of one word, and what a binding's word says of it.
@@ -31,31 +48,32 @@ fn var_word(ty: u32, var: u32) -> u32
 }
 
 // Writes what a scalar, vector or matrix gives; the position behind it.
-fn put_bound(ty: u32, w: u32, var: u32, out: &mut [u32], to: usize) -> usize
-    requires { to + length (words_of (numeric_gives (type_of ty) (binding_of w var))) ≤ length out.old }
-    ensures { (result, out.new) ≡ put out.old to (words_of (numeric_gives (type_of ty) (binding_of w var))) }
+fn put_bound(ty: u32, binding: Binding, out: &mut [u32], to: usize) -> usize
+    requires { to + length (words_of (numeric_gives (type_of ty) (binding_of binding.first binding.second))) ≤ length out.old }
+    ensures { (result, out.new) ≡ put out.old to (words_of (numeric_gives (type_of ty) (binding_of binding.first binding.second))) }
 {
-    let kind = word::kind(w);
-    if kind == 12 {
-        let second = var_word(ty, var);
-        out[to] = 0x6000_0000 + word::content(w);
-        out[to + 1] = second;
-        return to + 2;
+    match word::kind(binding.first) {
+        12 => {
+            let second = var_word(ty, binding.second);
+            out[to] = 0x6000_0000 + word::content(binding.first);
+            out[to + 1] = second;
+            to + 2
+        }
+        14 => {
+            out[to] = built_in_word(binding.first);
+            to + 1
+        }
+        _ => to,
     }
-    if kind == 14 {
-        out[to] = built_in_word(w);
-        return to + 1;
-    }
-    to
 }
 
 // Writes what an array of a size gives; the position behind it.
-fn put_clip(size: u32, w: u32, var: u32, out: &mut [u32], to: usize) -> usize
-    requires size_bound { size < 2 ^ 27 }
-    requires var_in_bounds { to + length (words_of (array_gives size (binding_of w var))) ≤ length out.old }
-    ensures { (result, out.new) ≡ put out.old to (words_of (array_gives size (binding_of w var))) }
+fn put_clip(size: u32, binding: Binding, out: &mut [u32], to: usize) -> usize
+    requires sized { size < 2 ^ 27 }
+    requires room { to + length (words_of (array_gives size (binding_of binding.first binding.second))) ≤ length out.old }
+    ensures { (result, out.new) ≡ put out.old to (words_of (array_gives size (binding_of binding.first binding.second))) }
 {
-    if !is_clip(w) {
+    if !is_clip(binding.first) {
         return to;
     }
     out[to] = 0x7400_0000 + size;
@@ -64,38 +82,38 @@ fn put_clip(size: u32, w: u32, var: u32, out: &mut [u32], to: usize) -> usize
 
 // Writes what a type that is no struct gives; the position behind it.
 pub(crate) fn put_lone(
-    types: &[u32],
-    start: usize,
-    w: u32,
-    var: u32,
+    types: &Types<'_>,
+    n: usize,
+    binding: Binding,
     out: &mut [u32],
     to: usize,
 ) -> usize
-    requires start_bound { (start < 1024) × (struct_at types.now start ≡ false) }
-    requires var_in_bounds { to + length (words_of (type_gives nothing (type_at (drop start types.now)) (binding_of w var))) ≤ length out.old }
+    requires no_struct { (n < types.now.count) × (struct_at types.now.words.now (start_at types.now.notes.now n) ≡ false) }
+    requires room { to + length (words_of (type_gives nothing (type_at (drop (start_at types.now.notes.now n) types.now.words.now)) (binding_of binding.first binding.second))) ≤ length out.old }
     ensures { (result, out.new)
-        ≡ put out.old to (words_of (type_gives nothing (type_at (drop start types.now)) (binding_of w var))) }
+        ≡ put out.old to (words_of (type_gives nothing (type_at (drop (start_at types.now.notes.now n) types.now.words.now)) (binding_of binding.first binding.second))) }
 {
-    let head = word::word(types, start);
+    let start = types.start(n);
+    let head = word::word(types.words, start);
     if word::kind(head) == 22 {
-        return put_bound(head, w, var, out, to);
+        return put_bound(head, binding, out, to);
     }
-    put_clip(word::content(word::word(types, start + 1)), w, var, out, to)
+    put_clip(
+        word::content(word::word(types.words, start + 1)),
+        binding,
+        out,
+        to,
+    )
 }
 
 // Writes words of a list again, behind them; the position behind the last.
-pub(crate) fn put_again(out: &mut [u32], first: usize, position: usize, count: usize) -> usize
-    requires { (first + count ≤ position) × (position + count ≤ length out.old) }
-    ensures { (result, out.new) ≡ again out.old first position count }
+pub(crate) fn put_again(out: &mut [u32], first: usize, to: usize, count: usize) -> usize
+    requires { (first + count ≤ to) × (to + count ≤ length out.old) }
+    ensures { (result, out.new) ≡ put out.old to (take count (drop first out.old)) }
 {
-    let mut from = first;
-    let mut to = position;
-    let mut left = count;
-    while left != 0 {
-        out[to] = out[from];
-        from += 1;
-        to += 1;
-        left -= 1;
+    // not `copy_within`: it hands on pairs with a pointer, which tools/board/build refuses
+    for i in 0..count {
+        out[to + i] = out[first + i];
     }
-    to
+    to + count
 }

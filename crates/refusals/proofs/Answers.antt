@@ -1,7 +1,8 @@
 -- Demand 1 for the other functions that answer: each gives one of its numbers, and acceptance names no details but those said.
+use Rattle.std.proofs.Common.{Result, Ok, Err}
 use Prim.Native.Nat.{ℕ}
 use mathlib.Core.Path.{◌≡◌, refl}
-use mathlib.Core.Bool.{Bool, true}
+use mathlib.Core.Bool.{Bool, true, false}
 use mathlib.Core.List.{List, [], ◌∷◌}
 use lib.Dec.{ltb}
 use Rattle.word.specs.Lists.{among, every}
@@ -9,31 +10,30 @@ use Rattle.word.specs.Numbers as Number
 use Rattle.word.specs.Parse.{Parsed, fault, got}
 use Rattle.word.specs.Answers.{refused}
 use Rattle.word.specs.declared.answer.Answer.{Answer}
-use Rattle.word.proofs.Truth.{by_test}
-use Rattle.numeric.specs.Types.{fits, is_fit}
+use Rattle.word.proofs.Truth.{by_test, never}
+use Rattle.std.specs.Prelude.{⊤, Option, Some, None, Result, Ok, Err}
+use Rattle.numeric.specs.Types.{fits}
 use Rattle.numeric.specs.TypeWords.{subtype_number}
-use Rattle.numeric.specs.declared.type_words.Compared.{Compared}
-use Rattle.numeric.specs.declared.type_words.Compared.TheVariants as C
+use Rattle.numeric.specs.declared.types.Misfit.{Misfit}
 use Rattle.numeric.specs.declared.types.NumericType.{NumericType}
-use Rattle.numeric.specs.declared.type_words.TypeRead.{TypeRead}
-use Rattle.numeric.specs.declared.type_words.TypeRead.TheVariants.{Numeric, Bad}
-use Rattle.formats.specs.Formats.{below, float_vertex_format, vertex_format, texture_format, format_answer, check_type, check_texture_format}
-use Rattle.formats.specs.declared.formats.FormatType.{FormatType}
-use Rattle.formats.specs.declared.formats.FormatType.TheVariants.{Known, NoColour, Unknown}
+use Rattle.formats.specs.Formats.{FormatType, below, float_vertex_format, vertex_format, texture_format, format_answer, check_type, check_texture_format}
+use Rattle.formats.specs.declared.formats.FormatError.TheVariants.{NoColour, Unknown}
 use Rattle.bindings.specs.Rules.{check_binding_use, use_number, derive_binding_type}
 use Rattle.bindings.specs.Format.{read_resource, entry_well_formed, entry_of}
 use Rattle.bindings.specs.Answers.{binding_answer, only_resource, only_entry, check_words, derived_answer, derive_words}
 use Rattle.bindings.specs.declared.types.ResourceBinding.{ResourceBinding}
 use Rattle.bindings.specs.declared.types.Resource.{Resource}
 use Rattle.bindings.specs.declared.types.BindGroupLayoutEntry.{BindGroupLayoutEntry}
-use Rattle.bindings.specs.declared.types.BindingUse.{BindingUse}
-use Rattle.bindings.specs.declared.types.BindingUse.TheVariants as Use
-use Rattle.bindings.specs.declared.types.Derived.{Derived}
-use Rattle.bindings.specs.declared.types.Derived.TheVariants as Der
+use Rattle.bindings.specs.declared.types.BindingError.{BindingError}
+use Rattle.bindings.specs.declared.types.BindingError.TheVariants as Error
+use Rattle.bindings.specs.declared.types.BindingType.{BindingType}
+use Rattle.bindings.proofs.DerivedTypes.{derived_refused}
+use Rattle.bindings.proofs.UseErrors.{gives, use_gives}
 use Rattle.interface.specs.Format.{Decoded, Damaged, Malformed, Pack, decoded_number, stage_at}
 use Rattle.entry_points.specs.Rules.{only_entry_point, only_answer, finalize_name}
-use Rattle.entry_points.specs.declared.choose.Chosen.{Chosen}
-use Rattle.entry_points.specs.declared.choose.Chosen.TheVariants as Ch
+use Rattle.std.specs.Prelude.{Result, Ok, Err}
+use Rattle.entry_points.specs.declared.choose.ChoiceError.{ChoiceError}
+use Rattle.entry_points.specs.declared.choose.ChoiceError.TheVariants.{Absent, Several}
 use Rattle.refusals.specs.Table.{early, stage_numbers, pack_numbers, subtype_numbers, name_numbers, vertex_format_numbers, texture_format_numbers, format_use_numbers, words_use_numbers, derivation_numbers, populate_numbers, table, answered}
 use Rattle.refusals.proofs.Known.{either}
 
@@ -53,11 +53,11 @@ pack_answered (Pack i) = refl
 
 -- ---- the choice of a name: acceptance names the position
 
-chosen_answered : (x : Chosen) → answered name_numbers 1 (only_answer x) ≡ true
+chosen_answered : (x : Result ℕ ChoiceError) → answered name_numbers 1 (only_answer x) ≡ true
 unfolding answered every among
-chosen_answered (Ch.At i) = refl
-chosen_answered Ch.Absent = refl
-chosen_answered Ch.Several = refl
+chosen_answered (Ok i) = refl
+chosen_answered (Err Absent) = refl
+chosen_answered (Err Several) = refl
 
 pub name_answered : (d : Decoded) (stage : ℕ) → answered name_numbers 1 (finalize_name d stage) ≡ true
 unfolding answered every among finalize_name
@@ -71,9 +71,9 @@ name_answered (Pack i) stage =
 
 texture_answered : (f : FormatType) → answered texture_format_numbers 1 (format_answer f) ≡ true
 unfolding answered every among
-texture_answered (Known t) = refl
-texture_answered NoColour = refl
-texture_answered Unknown = refl
+texture_answered (Ok t) = refl
+texture_answered (Err NoColour) = refl
+texture_answered (Err Unknown) = refl
 
 pub texture_format_answered : (code : ℕ) → answered texture_format_numbers 1 (format_answer (texture_format code)) ≡ true
 texture_format_answered code = texture_answered (texture_format code)
@@ -85,11 +85,11 @@ data Vertex (f : FormatType) : Type 0 where
 row : (end : ℕ) (f : FormatType) (rest : ℕ → FormatType) → Vertex f → ((code : ℕ) → Vertex (rest code)) → (code : ℕ) → Vertex (below end f rest code)
 row end f rest p q code = either Vertex (ltb code end) f (rest code) p (q code)
 
-has_type : (t : NumericType) → Vertex (Known t)
+has_type : (t : NumericType) → Vertex (Ok t)
 unfolding answered every among
 has_type t = type refl
 
-no_type : Vertex Unknown
+no_type : Vertex (Err Unknown)
 unfolding answered every among
 no_type = type refl
 
@@ -131,33 +131,35 @@ type_answered : (t output : NumericType) → answered format_use_numbers 0 (chec
 unfolding answered every among
 type_answered t output = by_test (fits t output) (λ y. rw y) (λ n. rw n)
 
-pub format_use_answered : (f : FormatType) (output : TypeRead) → answered format_use_numbers 0 (check_texture_format f output) ≡ true
+pub format_use_answered : (f : FormatType) (output : Option NumericType) → answered format_use_numbers 0 (check_texture_format f output) ≡ true
 unfolding answered every among check_texture_format
-format_use_answered Unknown output = refl
-format_use_answered NoColour Bad = refl
-format_use_answered (Known t) Bad = refl
-format_use_answered NoColour (Numeric output) = refl
-format_use_answered (Known t) (Numeric output) = type_answered t output
+format_use_answered (Err Unknown) output = refl
+format_use_answered (Err NoColour) None = refl
+format_use_answered (Ok t) None = refl
+format_use_answered (Err NoColour) (Some output) = refl
+format_use_answered (Ok t) (Some output) = type_answered t output
 
 -- ---- whether a type is below another
 
-pub subtype_answered : (c : Compared) → among subtype_numbers (subtype_number c) ≡ true
+pub subtype_answered : (c : Option (Result ⊤ Misfit)) → among subtype_numbers (subtype_number c) ≡ true
 unfolding among
-subtype_answered (C.Types fit) = by_test (is_fit fit) (λ y. rw y) (λ n. rw n)
-subtype_answered C.Unknown = refl
+subtype_answered (Some (Ok u)) = refl
+subtype_answered (Some (Err reason)) = refl
+subtype_answered None = refl
 
 -- ---- words of a resource against those of an entry: acceptance names nothing
 
-use_answered : (u : BindingUse) (bind : ResourceBinding) → answered words_use_numbers 0 (binding_answer (use_number u) bind) ≡ true
+use_answered : (u : Result Unit BindingError) (bind : ResourceBinding) → gives u ≡ true → answered words_use_numbers 0 (binding_answer (use_number u) bind) ≡ true
 unfolding answered every among
-use_answered Use.Accepted bind = refl
-use_answered Use.WrongType bind = refl
-use_answered Use.WrongAddressSpace bind = refl
-use_answered Use.WrongBufferSize bind = refl
-use_answered Use.WrongTextureViewDimension bind = refl
-use_answered Use.WrongTextureClass bind = refl
-use_answered Use.WrongSamplerComparison bind = refl
-use_answered Use.BadStorageFormat bind = refl
+use_answered (Ok served) bind h = refl
+use_answered (Err Error.WrongType) bind h = refl
+use_answered (Err Error.WrongAddressSpace) bind h = refl
+use_answered (Err Error.WrongBufferAddressSpace) bind h = never false h refl
+use_answered (Err Error.WrongBufferSize) bind h = refl
+use_answered (Err Error.WrongTextureViewDimension) bind h = refl
+use_answered (Err Error.WrongTextureClass) bind h = refl
+use_answered (Err Error.WrongSamplerComparison) bind h = refl
+use_answered (Err Error.BadStorageFormat) bind h = refl
 
 entry_answered : (entry : List ℕ) (k : BindGroupLayoutEntry → Answer) → ((e : BindGroupLayoutEntry) → answered words_use_numbers 0 (k e) ≡ true)
     → answered words_use_numbers 0 (only_entry entry k) ≡ true
@@ -184,17 +186,18 @@ words_answered resource entry =
     (λ r. only_entry entry λ e. binding_answer (use_number (check_binding_use r.ty e.ty)) r.bind) refl
     (λ r.
     entry_answered entry (λ e. binding_answer (use_number (check_binding_use r.ty e.ty)) r.bind)
-    (λ e. use_answered (check_binding_use r.ty e.ty) r.bind))
+    (λ e. use_answered (check_binding_use r.ty e.ty) r.bind (use_gives r.ty e.ty)))
 
 -- ---- the derivation of an entry's type: acceptance names the type word and the least-size word
 
-derived_answered : (d : Derived) (bind : ResourceBinding) → answered derivation_numbers 2 (derived_answer d bind) ≡ true
+derived_answered : (d : Result BindingType BindingError) (bind : ResourceBinding) → ((e : BindingError) → d ≡ Err e → e ≡ Error.WrongBufferAddressSpace)
+    → answered derivation_numbers 2 (derived_answer d bind) ≡ true
 unfolding answered every among
-derived_answered (Der.Binding ty) bind = refl
-derived_answered Der.WrongBufferAddressSpace bind = refl
+derived_answered (Ok ty) bind h = refl
+derived_answered (Err e) bind h = rw (h e refl) refl
 
 pub derivation_answered : (resource : List ℕ) (named : Bool) → answered derivation_numbers 2 (derive_words resource named) ≡ true
 unfolding answered every among derive_words
 derivation_answered resource named =
     resource_answered derivation_numbers 2 (read_resource resource) (λ r. derived_answer (derive_binding_type r.ty named) r.bind) refl
-    (λ r. derived_answered (derive_binding_type r.ty named) r.bind)
+    (λ r. derived_answered (derive_binding_type r.ty named) r.bind (derived_refused r.ty named))

@@ -10,8 +10,7 @@ use Rattle.word.proofs.Truth.{by_test}
 use Rattle.interface.specs.Meaning.{EntryPoint, Interface, entry_point_nth}
 use Rattle.interface.specs.Format.{Decoded, Damaged, Malformed, Pack, decode}
 use Rattle.entry_points.specs.Rules.{find_entry_point}
-use Rattle.entry_points.specs.declared.choose.Chosen.{Chosen}
-use Rattle.entry_points.specs.declared.choose.Chosen.TheVariants as Ch
+use Rattle.std.specs.Prelude.{Option, Some, None}
 use Rattle.word.specs.Lists.{among}
 use Rattle.stage.specs.Meaning.{Call, Outcome}
 use Rattle.stage.specs.Stage.{call_good, request_of, derived_of, unchanged, out_words, run_body, on_decoded, on_chosen, check_stage}
@@ -27,7 +26,7 @@ pub record Runs (c : Call) : Type 0 where
   pub position : ℕ
   pub decoded : decode c.pack ≡ Pack interface
   pub good : call_good c.lent c.codes ≡ true
-  pub chosen : find_entry_point (request_of c.codes).stage c.name interface.entries ≡ Ch.At position
+  pub chosen : find_entry_point (request_of c.codes).stage c.name interface.entries ≡ Some position
   pub room : ltb (length c.lent.out) (out_words (entry_point_nth interface.entries position)) ≡ false
 
 pub runs_on : (c : Call) (b : Runs c) → check_stage c ≡ run_of c b.interface (entry_point_nth b.interface.entries b.position)
@@ -36,15 +35,14 @@ runs_on c b = rw (b.decoded, b.good, b.chosen, b.room)
 
 module _ (P : Outcome → Type 0) (c : Call) (refusal : (n : ℕ) → among call_numbers n ≡ true → P (unchanged c.lent n))
     (steps : (b : Runs c) → P (run_of c b.interface (entry_point_nth b.interface.entries b.position))) where
-  chosen_call : (i : Interface) → decode c.pack ≡ Pack i → call_good c.lent c.codes ≡ true → (x : Chosen)
+  chosen_call : (i : Interface) → decode c.pack ≡ Pack i → call_good c.lent c.codes ≡ true → (x : Option ℕ)
       → find_entry_point (request_of c.codes).stage c.name i.entries ≡ x → P (on_chosen (derived_of c.codes) (request_of c.codes) c.lent i x)
   unfolding among
-  chosen_call i d g (Ch.At k) e =
+  chosen_call i d g (Some k) e =
       by_test (ltb (length c.lent.out) (out_words (entry_point_nth i.entries k)))
       (λ t. rw t (refusal Number.short_out refl))
       (λ n. rw n (steps (record { interface = i; position = k; decoded = d; good = g; chosen = e; room = n })))
-  chosen_call i d g Ch.Absent e = refusal Number.entry_absent refl
-  chosen_call i d g Ch.Several e = refusal Number.entry_absent refl
+  chosen_call i d g None e = refusal Number.entry_absent refl
 
   decoded_call : (x : Decoded) → decode c.pack ≡ x → P (on_decoded c x)
   unfolding among

@@ -1,5 +1,5 @@
 -- Which numbers a resource is refused with: 5 and 20 to 30, with its place.
-use Rattle.std.proofs.Common.{Option, Some, None}
+use Rattle.std.proofs.Common.{Option, Some, None, Result, Ok, Err}
 use Prim.Native.Nat.{ℕ}
 use mathlib.Core.Path.{◌≡◌, refl}
 use mathlib.Core.Bool.{Bool, true}
@@ -10,17 +10,15 @@ use Rattle.word.specs.Numbers as Number
 use Rattle.word.specs.Answers.{accepted}
 use Rattle.word.specs.declared.answer.Answer.{Answer}
 use Rattle.word.specs.Lists.{among}
-use Rattle.bindings.specs.Rules.{check_binding_use, use_number, same_binding, derive_binding_type}
+use Rattle.bindings.specs.Rules.{check_binding_use, error_number, use_number, same_binding, derive_binding_type}
 use Rattle.bindings.specs.Answers.{binding_answer}
 use Rattle.bindings.specs.declared.types.ResourceBinding.{ResourceBinding}
 use Rattle.bindings.specs.declared.types.Resource.{Resource}
 use Rattle.bindings.specs.declared.types.ResourceType.{ResourceType}
 use Rattle.bindings.specs.declared.types.ResourceType.TheVariants as Res
 use Rattle.bindings.specs.declared.types.BindingType.{BindingType}
-use Rattle.bindings.specs.declared.types.BindingUse.{BindingUse}
-use Rattle.bindings.specs.declared.types.BindingUse.TheVariants as Use
-use Rattle.bindings.specs.declared.types.Derived.{Derived}
-use Rattle.bindings.specs.declared.types.Derived.TheVariants as Der
+use Rattle.bindings.specs.declared.types.BindingError.{BindingError}
+use Rattle.bindings.specs.declared.types.BindingError.TheVariants as Error
 use Rattle.layouts.specs.Meaning.{Layout, find_entry, entry_nth, sees_bit, room_for_entry}
 use Rattle.sizes.specs.Meaning.{Sizes, size_fits}
 use Rattle.interface.specs.Format.{stage_code}
@@ -49,16 +47,21 @@ place_known n bind k =
 
 -- ---- against a provided layout
 
-use_known : (u : BindingUse) → Known (use_number u)
+error_known : (e : BindingError) → Known (error_number e)
 unfolding among
-use_known Use.Accepted = none refl
-use_known Use.WrongType = one refl
-use_known Use.WrongAddressSpace = one refl
-use_known Use.WrongBufferSize = one refl
-use_known Use.WrongTextureViewDimension = one refl
-use_known Use.WrongTextureClass = one refl
-use_known Use.WrongSamplerComparison = one refl
-use_known Use.BadStorageFormat = one refl
+error_known Error.WrongType = one refl
+error_known Error.WrongAddressSpace = one refl
+error_known Error.WrongBufferAddressSpace = one refl
+error_known Error.WrongBufferSize = one refl
+error_known Error.WrongTextureViewDimension = one refl
+error_known Error.WrongTextureClass = one refl
+error_known Error.WrongSamplerComparison = one refl
+error_known Error.BadStorageFormat = one refl
+
+use_known : (u : Result Unit BindingError) → Known (use_number u)
+unfolding among
+use_known (Ok served) = none refl
+use_known (Err e) = error_known e
 
 found_known : (stage : ShaderStage) (ty : ResourceType) (L : Layout) (f : Option ℕ) → Known (found_use stage ty L f)
 unfolding among
@@ -94,10 +97,10 @@ at_place_known stage bind ty (Some i) L =
     either (Derives bind) (same_binding ty (entry_nth L.entries i).ty) _ _ (passes refl) (place_known Number.inconsistently_derived_type bind (one refl))
 at_place_known stage bind ty None L = either (Derives bind) (room_for_entry L) _ _ (passes refl) (place_known Number.full_list bind (one refl))
 
-derived_known : (stage : ShaderStage) (bind : ResourceBinding) (d : Derived) (L : Layout) → Derives bind (derived_step stage bind d L)
+derived_known : (stage : ShaderStage) (bind : ResourceBinding) (d : Result BindingType BindingError) (L : Layout) → Derives bind (derived_step stage bind d L)
 unfolding among
-derived_known stage bind (Der.Binding ty) L = at_place_known stage bind ty (find_entry bind L) L
-derived_known stage bind Der.WrongBufferAddressSpace L = place_known Number.wrong_buffer_address_space bind (one refl)
+derived_known stage bind (Ok ty) L = at_place_known stage bind ty (find_entry bind L) L
+derived_known stage bind (Err e) L = place_known (error_number e) bind (error_known e)
 
 pub derive_known : (stage : ShaderStage) (named : Bool) (r : Resource) (L : Layout) → Derives r.bind (derive_step stage named r L)
 unfolding derive_step among

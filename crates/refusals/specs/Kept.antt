@@ -1,5 +1,5 @@
 -- Demand 1, third sentence: any refusal other than 1 to 4 and 10 to 12 'keeps exactly the layout and size records made by the steps before it'.
-use Rattle.std.specs.Prelude.{ℕ, ◌≡◌, Bool, true, false, not, ◌&&◌, List, [], ◌∷◌, ◌++◌, eqb, length}
+use Rattle.std.specs.Prelude.{ℕ, ◌≡◌, Bool, true, false, not, ◌&&◌, List, [], ◌∷◌, ◌++◌, eqb, length, Some}
 use Rattle.word.specs.Choice.{pick, yes}
 use Rattle.word.specs.Answers.{accepted}
 use Rattle.word.specs.Lists.{among}
@@ -12,7 +12,6 @@ use Rattle.interface.specs.Meaning.{EntryPoint, Interface, entry_point_nth}
 use Rattle.interface.specs.Format.{Pack, decode}
 use Rattle.interface.specs.declared.types.ShaderStage.{ShaderStage}
 use Rattle.entry_points.specs.Rules.{find_entry_point}
-use Rattle.entry_points.specs.declared.choose.Chosen.TheVariants as Ch
 use Rattle.resource_steps.specs.Kept.{entered_all, sizes_entered}
 use Rattle.resource_steps.specs.Resources.{resource_nth, resource_steps}
 use Rattle.stage.specs.Meaning.{Call, Lent}
@@ -44,7 +43,7 @@ pub record Kept (c : Call) : Type 0 where
   pub interface : Interface
   pub position : ℕ
   pub decoded : decode c.pack ≡ Pack interface
-  pub chosen : find_entry_point (request_of c.codes).stage c.name interface.entries ≡ Ch.At position
+  pub chosen : find_entry_point (request_of c.codes).stage c.name interface.entries ≡ Some position
   -- its resources: those done, the one refused, if it was a resource, and those left
   pub done : List ℕ
   pub refused : List ℕ

@@ -14,6 +14,7 @@ use crate::words::words_of;
 use layouts::layout::used_words;
 use pack_check::check_pack::check_pack;
 use word::answer::Answer;
+use word::refusal::Refusal;
 
 mod names;
 mod run;
@@ -42,9 +43,8 @@ fn push_pack(text: &mut [u8], pack: &[u32]) -> usize
     requires { 12288 ≤ length text.old }
     ensures { Wrote text.old text.new 0 result (decoded_text pack.now (decode pack.now)) }
 {
-    let number = check_pack(pack);
-    if number != 0 {
-        return push_refused(text, number);
+    if let Err(error) = check_pack(pack) {
+        return push_refused(text, Refusal::from(error).number.code());
     }
     let mut layout = [0u32; 1024];
     layout[0] = 0x8808_0000;

@@ -1,27 +1,26 @@
 -- The ways of resources through a layout that is being derived.
-use Rattle.std.proofs.Common.{Option, Some, None}
-use Prim.Native.Nat.{ℕ, ◌+◌, ◌-◌, ◌^◌, ◌<◌, ◌≤◌}
+use Rattle.std.proofs.Common.{Option, Some, None, Result, Ok, Err}
+use Prim.Native.Nat.{ℕ, ◌+◌, ◌^◌, ◌<◌, ◌≤◌}
 use native.Mathlib.Omega.{arith}
 use mathlib.Core.Path.{◌≡◌, refl, sym, ap, ◌∙◌}
-use mathlib.Core.Bool.{Bool, true, false, ◌&&◌}
-use mathlib.Core.List.{List}
+use mathlib.Core.Bool.{Bool, true, false, not, ◌&&◌}
+use mathlib.Core.List.{List, [], ◌∷◌}
 use lib.Dec.{eqb}
-use lib.ListN.{length, take, drop}
-use borrow.Author.Tests.{lt-ltb, le-ltb, eq-eqb, ne_eqb, eqb-true, eqb-false}
+use lib.ListN.{length, drop}
+use borrow.Author.Tests.{lt-ltb, le-ltb, eqb-true, eqb-false, not-true, not-false}
 use Rattle.word.specs.Choice.{pick}
 use Rattle.word.specs.Words.{word_at, content_of, bits, of_kind}
 use Rattle.word.specs.Answers.{accepted}
 use Rattle.word.specs.declared.answer.Answer.{Answer}
-use Rattle.bindings.specs.Rules.{same_binding, derived_texture, derive_binding_type}
+use Rattle.bindings.specs.Rules.{error_number, same_binding, derived_texture, derive_binding_type}
 use Rattle.bindings.specs.Format.{place_of, place_word, type_code, is_buffer_word, resource_type_of, resource, type_encodable}
-use Rattle.bindings.specs.Format.{binding_type_of, binding_code, least_size_of, format_encodable, parts_well_formed, entry_of_parts, entry_encodable, size_limit, size_standing}
+use Rattle.bindings.specs.Format.{binding_type_of, binding_code, least_size_of, format_encodable, parts_well_formed, entry_of_parts, entry_encodable, size_limit}
 use Rattle.bindings.specs.Answers.{binding_answer, derived_word}
 use Rattle.bindings.specs.declared.types.ResourceBinding.{ResourceBinding}
 use Rattle.bindings.specs.declared.types.Resource.{Resource}
 use Rattle.bindings.specs.declared.types.BindingType.{BindingType}
 use Rattle.bindings.specs.declared.types.BindGroupLayoutEntry.{BindGroupLayoutEntry}
-use Rattle.bindings.specs.declared.types.Derived.{Derived}
-use Rattle.bindings.specs.declared.types.Derived.TheVariants as Der
+use Rattle.bindings.specs.declared.types.BindingError.{BindingError}
 use Rattle.word.proofs.Truth.{by_test}
 use Rattle.bindings.proofs.CodeLaws.{least_fits}
 use Rattle.bindings.proofs.ReadLaws.{place_encodable_lem}
@@ -35,10 +34,23 @@ use Rattle.places.proofs.PlaceWays.{place_lacks}
 use Rattle.interface.specs.Format.{stage_code, contents, pairs_of}
 use Rattle.interface.specs.declared.types.ShaderStage.{ShaderStage}
 use Rattle.interface.specs.declared.types.SamplingPair.{SamplingPair}
-use Rattle.resource_steps.specs.Inner.Given.{resource_table, TypeWords}
+use Rattle.word.specs.Refusals.{answer_of, refusal_answer}
+use Rattle.word.specs.declared.refusal.Refusal.{Refusal}
+use Rattle.word.proofs.Both.{number_nonzero}
+use Rattle.std.specs.List.{list_any}
+use Rattle.resource_steps.specs.declared.types.EntryType.{EntryType}
 use Rattle.resource_steps.specs.Resources.{resource_nth, layout_after, occupied, vacant, place_step, derive_step, named_texture, DeriveResult, derive_result, derive_steps}
-use Rattle.resource_steps.proofs.ResourceParts.{pairs_cons, pairs_none, nth_at}
-use Rattle.resource_steps.proofs.ResourceWalk.{index_next, index_none, one_more}
+use Rattle.resource_steps.proofs.ResourceParts.{contents_cons, contents_none}
+use Rattle.resource_steps.proofs.ResourceWalk.{one_more}
+
+-- the type word and the least size of a binding type that a layout list can hold
+pub record TypeWords (type least : ℕ) (ty : BindingType) : Type 0 where
+  pub encodable : format_encodable ty ≡ true
+  pub type_word : type ≡ of_kind 18 (binding_code ty)
+  pub least_size : least ≡ least_size_of ty
+
+pub type_words : (t : EntryType) → TypeWords t.word t.least (binding_type_of t.word t.least)
+type_words t = record { encodable = t.encodable; type_word = t.type_word; least_size = t.least_size }
 
 -- ---- a type at its place
 
@@ -48,21 +60,21 @@ module _ (ty least : ℕ) (b e : BindingType) (q : b ≡ binding_type_of ty leas
   type_differs n = sym (other_by_code b e (λ q. n (omega (arith, t.type_word))))
 
   -- where the words are the same, the least sizes decide
-  pub type_by_least : (y : ℕ) → x ≡ ty → y ≡ least_size_of e → eqb least y ≡ same_binding b e
+  pub type_by_least : (y : ℕ) → x ≡ ty → y ≡ least_size_of e → eqb y least ≡ same_binding b e
   type_by_least y z ey =
-      by_test (eqb least y)
-      (λ h. let l : least ≡ least_size_of e = eqb-true least y h ∙ ey in let same : b ≡ e = cc in rw (h, same) (sym (same_binding_refl e)))
-      (λ h. rw h (sym (other_by_least b e (λ l. eqb-false least y h (omega (arith, t.least_size))))))
+      by_test (eqb y least)
+      (λ h. let l : least ≡ least_size_of e = sym (eqb-true y least h) ∙ ey in let same : b ≡ e = cc in rw (h, same) (sym (same_binding_refl e)))
+      (λ h. rw h (sym (other_by_least b e (λ l. eqb-false y least h (omega (arith, t.least_size))))))
 
 module _ (stage : ShaderStage) (place i : ℕ) (b : BindingType) (L : Layout) (a : Answer) (k : Bool) (q : k ≡ same_binding b (entry_nth L.entries i).ty) where
-  pub occupied_joined : (M : Layout) (c : ℕ) → k ≡ true → c ≡ stage_code stage → M ≡ joined c L i → a ≡ accepted
+  pub occupied_joined : (M : Layout) (c : ℕ) → not k ≡ false → c ≡ stage_code stage → M ≡ joined c L i → a ≡ accepted
       → layout_after a M ≡ occupied stage (place_of place) b i L
   unfolding occupied
-  occupied_joined M c t s m h = rw (← q, t, ← s, ← m, h)
+  occupied_joined M c t s m h = rw (← q, not-false k t, ← s, ← m, h)
 
-  pub occupied_other : k ≡ false → a ≡ binding_answer 29 (place_of place) → layout_after a L ≡ occupied stage (place_of place) b i L
+  pub occupied_other : not k ≡ true → a ≡ binding_answer 29 (place_of place) → layout_after a L ≡ occupied stage (place_of place) b i L
   unfolding occupied
-  occupied_other t h = rw (← q, t, h)
+  occupied_other t h = rw (← q, not-true k t, h)
 
 -- a place at which no entry was found has none
 none_there : (place : ResourceBinding) (L : Layout) → find_entry place L ≡ None → entry_has place L.entries ≡ false
@@ -100,13 +112,13 @@ module _ (place ty least p v : ℕ) (b : BindingType) (t : TypeWords ty least b)
 
   module _ (stage : ShaderStage) (c : ℕ) (ec : c ≡ stage_code stage) (ev : v ≡ 2 ^ c) (L M : Layout) (a : Answer) (k : Bool) (q : k ≡ room_for_entry L)
       (m : M ≡ pick k (pushed L parts) L) where
-    pub vacant_pushed : k ≡ true → a ≡ accepted → layout_after a M ≡ vacant stage (place_of place) b L
+    pub vacant_pushed : not k ≡ false → a ≡ accepted → layout_after a M ≡ vacant stage (place_of place) b L
     unfolding vacant
-    vacant_pushed y h = rw (← q, ← ec, ← ev, m, y, new_mean, h)
+    vacant_pushed y h = rw (← q, ← ec, ← ev, m, not-false k y, new_mean, h)
 
-    pub vacant_full : k ≡ false → a ≡ binding_answer 5 (place_of place) → layout_after a M ≡ vacant stage (place_of place) b L
+    pub vacant_full : not k ≡ true → a ≡ binding_answer 5 (place_of place) → layout_after a M ≡ vacant stage (place_of place) b L
     unfolding vacant
-    vacant_full y h = rw (← q, m, y, h)
+    vacant_full y h = rw (← q, m, not-true k y, h)
 
 module _ (stage : ShaderStage) (place : ℕ) (b : BindingType) (L M : Layout) (a : Answer) (f : Option ℕ) (q : f ≡ find_entry (place_of place) L) where
   pub place_occupied : (i : ℕ) → f ≡ Some i → layout_after a M ≡ occupied stage (place_of place) b i L
@@ -123,25 +135,25 @@ found_none place L f q e = sym q ∙ e
 -- ---- one resource
 
 -- a derivation by its word
-none_derived : (d : Derived) (x : ℕ) → derived_word d ≡ x → x ≤ 0 → d ≡ Der.WrongBufferAddressSpace
-none_derived (Der.Binding b) x e z = absurd (omega arith)
-none_derived Der.WrongBufferAddressSpace x e z = refl
+none_derived : (d : Result BindingType BindingError) (error : BindingError) → derived_word d ≡ Err error → d ≡ Err error
+none_derived (Ok b) error e = cc
+none_derived (Err f) error e = let z : f ≡ error = cc in rw z
 
-some_derived : {P : Type 0} (d : Derived) (x : ℕ) → derived_word d ≡ x → 0 < x → ((b : BindingType) → d ≡ Der.Binding b → x ≡ of_kind 18 (binding_code b) → P) → P
-some_derived (Der.Binding b) x e n k = k b refl (sym e)
-some_derived Der.WrongBufferAddressSpace x e n k = absurd (omega arith)
+some_derived : {P : Type 0} (d : Result BindingType BindingError) (x : ℕ) → derived_word d ≡ Ok x → ((b : BindingType) → d ≡ Ok b → x ≡ of_kind 18 (binding_code b) → P) → P
+some_derived (Ok b) x e k = let z : of_kind 18 (binding_code b) ≡ x = cc in k b refl (sym z)
+some_derived (Err f) x e k = absurd (cc)
 
 pub within_groups : (L : Layout) (place g : ℕ) → g ≡ L.groups → bits 26 23 place < g → (place_of place).group < L.groups
 within_groups L place g q n = rw q at n
 
 module _ (named : Bool) (w size ty least : ℕ) (h : type_encodable (resource_type_of w size) ≡ true)
-    (e : (n : ℕ) → derived_word (derive_binding_type (resource_type_of w n) named) ≡ ty) (z : 0 < ty) (s : least ≡ pick (is_buffer_word w) size 0) where
-  abbrev d : Derived
+    (e : (n : ℕ) → derived_word (derive_binding_type (resource_type_of w n) named) ≡ Ok ty) (s : least ≡ pick (is_buffer_word w) size 0) where
+  abbrev d : Result BindingType BindingError
   d = derive_binding_type (resource_type_of w size) named
 
-  typed : {P : Type 0} → ((b : BindingType) → d ≡ Der.Binding b → TypeWords ty least b → binding_type_of ty least ≡ b → P) → P
+  typed : {P : Type 0} → ((b : BindingType) → d ≡ Ok b → TypeWords ty least b → binding_type_of ty least ≡ b → P) → P
   typed k =
-      some_derived d ty (e size) z λ b q x.
+      some_derived d ty (e size) λ b q x.
       let f : format_encodable b ≡ true = derived_encodable (resource_type_of w size) named b h q in
       let y : least ≡ least_size_of b = rw (derived_least w size named b q) s in
       k b q (record { encodable = f; type_word = x; least_size = y }) (rw (y, x) (type_read b f))
@@ -162,31 +174,23 @@ module _ (stage : ShaderStage) (named : Bool) (place w size : ℕ) (L : Layout) 
   unfolding derive_step
   derive_outside n h = rw (le-ltb (place_of place).group L.groups (omega arith), h)
 
-  pub derive_wrong : (ty : ℕ) → bits 26 23 place < g → ((n : ℕ) → derived_word (derive_binding_type (resource_type_of w n) named) ≡ ty) → ty ≤ 0
-      → a ≡ binding_answer 24 (place_of place) → layout_after a L ≡ derive_step stage named (resource place w size) L
+  pub derive_wrong : (error : BindingError) (n : ℕ) → bits 26 23 place < g → ((n : ℕ) → derived_word (derive_binding_type (resource_type_of w n) named) ≡ Err error)
+      → n ≡ error_number error → a ≡ binding_answer n (place_of place) → layout_after a L ≡ derive_step stage named (resource place w size) L
   unfolding derive_step
-  derive_wrong ty n e z h =
+  derive_wrong error n l e z h =
       rw (
-        lt-ltb (place_of place).group L.groups (within_groups L place g q n),
-        none_derived (derive_binding_type (resource_type_of w size) named) ty (e size) z,
+        lt-ltb (place_of place).group L.groups (within_groups L place g q l),
+        none_derived (derive_binding_type (resource_type_of w size) named) error (e size),
+        ← z,
         h,
       )
 
 -- ---- the texture that a pair names
 
-module _ (ws : List ℕ) (k at i : ℕ) (goal : Bool) (inv : goal ≡ named_texture i (pairs_of (take k (drop at ws)))) where
-  module _ (n : k ≡ 0 → ⊥) (h : at + k ≤ length ws) where
-    pub named_here : bits 15 8 (word_at ws at) ≡ i → true ≡ goal
-    unfolding named_texture
-    named_here t = sym (inv ∙ rw (pairs_cons ws k at n h, eq-eqb (bits 15 8 (word_at ws at)) i t))
-
-    pub named_onward : (bits 15 8 (word_at ws at) ≡ i → ⊥) → goal ≡ named_texture i (pairs_of (take (k - 1) (drop (at + 1) ws)))
-    unfolding named_texture
-    named_onward t = inv ∙ rw (pairs_cons ws k at n h, ne_eqb (bits 15 8 (word_at ws at)) i t)
-
-  pub named_ended : k ≡ 0 → false ≡ goal
-  unfolding named_texture
-  named_ended z = sym (inv ∙ rw (pairs_none (drop at ws) k z))
+pub named_any : (i : ℕ) (ws : List ℕ) → list_any (λ w. eqb (bits 15 8 w) i) ws ≡ named_texture i (pairs_of ws)
+unfolding named_texture pairs_of
+named_any i [] = refl
+named_any i (w ∷ ws) = by_test (eqb (bits 15 8 w) i) (λ t. rw t) (λ f. rw f (named_any i ws))
 
 -- only a sampled texture derives by its name
 sampled_alone : (w size : ℕ) (b : Bool) → derive_binding_type (resource_type_of w size) (eqb (type_code w) 2 && b) ≡ derive_binding_type (resource_type_of w size) b
@@ -206,14 +210,11 @@ step_sampled stage place w size b L = rw (sampled_alone w size b)
 
 -- ---- one resource, by its index
 
-pub derive_nth : (ws offsets : List ℕ) (stage : ShaderStage) (pairs : List SamplingPair) (i o size : ℕ) (L M : Layout) (a : Answer) (n : Bool)
-    → i < length (resource_table ws offsets) → o ≡ word_at offsets i → n ≡ (eqb (type_code (word_at ws (o + 1))) 2 && named_texture i pairs)
-    → size ≡ size_standing ws (o + 2) → layout_after a M ≡ derive_step stage n (resource (word_at ws o) (word_at ws (o + 1)) size) L
-    → layout_after a M ≡ derive_step stage (named_texture i pairs) (resource_nth (resource_table ws offsets) i) L
-derive_nth ws offsets stage pairs i o size L M a n k q p z h =
-    rw (nth_at ws offsets i k, ← q, ← z)
-    (h ∙ (ap (λ b. derive_step stage b (resource (word_at ws o) (word_at ws (o + 1)) size) L) p
-    ∙ step_sampled stage (word_at ws o) (word_at ws (o + 1)) size (named_texture i pairs) L))
+pub derive_nth : (rs : List Resource) (stage : ShaderStage) (pairs : List SamplingPair) (i p w size : ℕ) (L M : Layout) (a : Answer) (n : Bool)
+    → resource p w size ≡ resource_nth rs i → n ≡ (eqb (type_code w) 2 && named_texture i pairs) → layout_after a M ≡ derive_step stage n (resource p w size) L
+    → layout_after a M ≡ derive_step stage (named_texture i pairs) (resource_nth rs i) L
+derive_nth rs stage pairs i p w size L M a n k q h =
+    rw (← k) (h ∙ (ap (λ b. derive_step stage b (resource p w size) L) q ∙ step_sampled stage p w size (named_texture i pairs) L))
 
 -- ---- one after the other
 
@@ -221,28 +222,18 @@ derive_nth ws offsets stage pairs i o size L M a n k q p z h =
 abbrev pub derive_behind : ℕ → DeriveResult → DeriveResult
 derive_behind k x = derive_result x.answer (k + x.passed) x.layout
 
-pub derive_start : (ws : List ℕ) (stage : ShaderStage) (resources : List Resource) (pairs : List SamplingPair) (n at : ℕ) (L : Layout)
-    → derive_steps stage resources pairs (contents (take n (drop at ws))) L ≡ derive_behind 0 (derive_steps stage resources pairs (contents (take (n - 0) (drop at ws))) L)
-derive_start ws stage resources pairs n at L =
-    let z : n - 0 ≡ n = omega arith in
-    let r : 0 + (derive_steps stage resources pairs (contents (take n (drop at ws))) L).passed ≡ (derive_steps stage resources pairs (contents (take n (drop at ws))) L).passed = omega arith in
-    rw (z, r)
-
-module _ (ws offsets : List ℕ) (stage : ShaderStage) (pairs : List SamplingPair) (n k at : ℕ) (L : Layout) (goal : DeriveResult)
-    (inv : goal ≡ derive_behind k (derive_steps stage (resource_table ws offsets) pairs (contents (take (n - k) (drop at ws))) L)) where
-  module _ (w i : ℕ) (M : Layout) (a : Answer) (m : k ≡ n → ⊥) (l : k ≤ n) (h : at + (n - k) ≤ length ws) (p : w ≡ word_at ws at) (q : i ≡ content_of w)
-      (e : layout_after a M ≡ derive_step stage (named_texture i pairs) (resource_nth (resource_table ws offsets) i) L) where
-    pub derive_refused : (a.number ≡ 0 → ⊥) → derive_result a k M ≡ goal
+module _ (ws : List ℕ) (stage : ShaderStage) (rs : List Resource) (pairs : List SamplingPair) (k : ℕ) (L : Layout) (goal : DeriveResult)
+    (inv : goal ≡ derive_behind k (derive_steps stage rs pairs (contents (drop k ws)) L)) where
+  module _ (i : ℕ) (M : Layout) (o : Result Unit Refusal) (h : k < length ws) (q : i ≡ content_of (word_at ws k))
+      (e : layout_after (answer_of o) M ≡ derive_step stage (named_texture i pairs) (resource_nth rs i) L) where
+    pub derive_refused : (r : Refusal) → o ≡ Err r → derive_result (refusal_answer r) k M ≡ goal
     unfolding derive_steps
-    derive_refused z =
-        let r : k + 0 ≡ k = omega arith in
-        sym (inv ∙ rw (index_next ws n k at m l h, ← p, ← q, ← e, ne_eqb a.number 0 z, r))
+    derive_refused r z = let s : k + 0 ≡ k = omega arith in sym (inv ∙ rw (contents_cons ws k h, ← q, ← e, z, number_nonzero r.number, s))
 
-    pub derive_onward : a.number ≡ 0
-        → goal ≡ derive_behind (k + 1) (derive_steps stage (resource_table ws offsets) pairs (contents (take (n - (k + 1)) (drop (at + 1) ws))) M)
+    pub derive_onward : (v : Unit) → o ≡ Ok v → goal ≡ derive_behind (k + 1) (derive_steps stage rs pairs (contents (drop (k + 1) ws)) M)
     unfolding derive_steps
-    derive_onward z = inv ∙ rw (index_next ws n k at m l h, ← p, ← q, ← e, eq-eqb a.number 0 z, one_more k (derive_steps stage (resource_table ws offsets) pairs (contents (take (n - (k + 1)) (drop (at + 1) ws))) M).passed)
+    derive_onward v z = inv ∙ rw (contents_cons ws k h, ← q, ← e, z, one_more k (derive_steps stage rs pairs (contents (drop (k + 1) ws)) M).passed)
 
-  pub derive_done : k ≡ n → (a : Answer) → a ≡ accepted → derive_result a n L ≡ goal
+  pub derive_done : length ws ≤ k → k ≤ length ws → derive_result accepted (length ws) L ≡ goal
   unfolding derive_steps
-  derive_done z a h = let r : k + 0 ≡ n = omega arith in sym (inv ∙ rw (index_none ws n k at z, r, h))
+  derive_done h l = let s : k + 0 ≡ length ws = omega arith in sym (inv ∙ rw (contents_none ws k h, s))

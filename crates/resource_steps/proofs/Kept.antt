@@ -8,19 +8,20 @@ use lib.Dec.{eqb, ltb}
 use lib.ListN.{length}
 use native.Mathlib.Omega.{arith}
 use borrow.Author.Tests.{eqb-false, ne_eqb}
+use Rattle.std.proofs.Common.{Result, Ok, Err}
 use Rattle.word.specs.Numbers as Number
 use Rattle.word.specs.Answers.{accepted}
 use Rattle.word.specs.declared.answer.Answer.{Answer}
 use Rattle.word.proofs.Truth.{by_test}
-use Rattle.bindings.specs.Rules.{same_binding, derive_binding_type}
+use Rattle.bindings.specs.Rules.{error_number, same_binding, derive_binding_type}
 use Rattle.bindings.specs.Answers.{binding_answer}
 use Rattle.bindings.specs.declared.types.ResourceBinding.{ResourceBinding}
 use Rattle.bindings.specs.declared.types.Resource.{Resource}
 use Rattle.bindings.specs.declared.types.ResourceType.{ResourceType}
 use Rattle.bindings.specs.declared.types.ResourceType.TheVariants as Res
 use Rattle.bindings.specs.declared.types.BindingType.{BindingType}
-use Rattle.bindings.specs.declared.types.Derived.{Derived}
-use Rattle.bindings.specs.declared.types.Derived.TheVariants as Der
+use Rattle.bindings.specs.declared.types.BindingError.{BindingError}
+use Rattle.bindings.proofs.DerivedTypes.{error_some}
 use Rattle.layouts.specs.Meaning.{Layout, find_entry, entry_nth, pushed, joined, room_for_entry}
 use Rattle.sizes.specs.Meaning.{Sizes, size_has, size_fits, recorded, size_record_width}
 use Rattle.places.specs.Records.{room_for}
@@ -50,9 +51,9 @@ module _ (stage : ShaderStage) (bind : ResourceBinding) where
   at_place ty None L =
       by_test (room_for_entry L) (λ t. rw t (passes refl)) (λ n. rw n (place_refused Number.full_list bind (pushed L (new_entry stage bind ty)) L (λ z. omega arith)))
 
-  derived_at : (d : Derived) (L : Layout) → DerivesOne (entered_as stage bind d L) L (derived_step stage bind d L)
-  derived_at (Der.Binding ty) L = at_place ty (find_entry bind L) L
-  derived_at Der.WrongBufferAddressSpace L = place_refused Number.wrong_buffer_address_space bind L L (λ z. omega arith)
+  derived_at : (d : Result BindingType BindingError) (L : Layout) → DerivesOne (entered_as stage bind d L) L (derived_step stage bind d L)
+  derived_at (Ok ty) L = at_place ty (find_entry bind L) L
+  derived_at (Err e) L = place_refused (error_number e) bind L L (error_some e)
 
 pub derive_one : (stage : ShaderStage) (named : Bool) (r : Resource) (L : Layout) → DerivesOne (entered stage named r L) L (derive_step stage named r L)
 unfolding derive_step

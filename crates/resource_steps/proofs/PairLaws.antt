@@ -1,16 +1,15 @@
 -- The ways through an entry point's pairs of textures and samplers.
-use Rattle.std.proofs.Common.{Option, Some, None}
-use Prim.Native.Nat.{ℕ, zero, suc, ◌+◌, ◌-◌, ◌%◌, ◌<◌, ◌≤◌}
+use Rattle.std.proofs.Common.{Option, Some, None, Result, Ok, Err}
+use Prim.Native.Nat.{ℕ, ◌+◌, ◌%◌, ◌<◌, ◌≤◌}
 use native.Mathlib.Omega.{arith}
 use mathlib.Core.Path.{◌≡◌, refl, sym, ap, ◌∙◌}
-use mathlib.Core.Bool.{Bool, true, false}
+use mathlib.Core.Bool.{Bool, true, false, not}
 use mathlib.Core.List.{List, ◌∷◌}
 use lib.Dec.{eqb, ltb}
-use lib.ListN.{length, take, drop}
-use borrow.Author.Tests.{eq-eqb, ne_eqb, eqb-true, eqb-false, ltb-true}
-use Rattle.word.specs.Choice.{yes}
+use lib.ListN.{length, drop}
+use borrow.Author.Tests.{eq-eqb, ne_eqb, eqb-true, eqb-false, ltb-true, not-true, not-false}
 use Rattle.word.specs.Words.{word_at, content_of, bits}
-use Rattle.word.specs.Answers.{answer, accepted}
+use Rattle.word.specs.Answers.{accepted}
 use Rattle.word.specs.declared.answer.Answer.{Answer}
 use Rattle.word.specs.Lists.{every}
 use Rattle.bindings.specs.Format.{place_of, place_word, sample_at, binding_type_of, least_size_of}
@@ -23,27 +22,17 @@ use Rattle.layouts.specs.Meaning.{Layout, find_entry, entry_nth}
 use Rattle.layouts.specs.Format.{decode_layout}
 use Rattle.interface.specs.Format.{pair_of, pairs_of}
 use Rattle.interface.specs.declared.types.SamplingPair.{SamplingPair}
-use Rattle.resource_steps.specs.Inner.Given.{resource_table, pair_below, pairs_below, WordMeans}
+use Rattle.word.specs.Numbers.{number_of}
+use Rattle.word.specs.Refusals.{refusal, answer_of, refusal_answer}
+use Rattle.word.specs.declared.refusal.Number.{Number}
+use Rattle.word.specs.declared.refusal.Refusal.{Refusal}
+use Rattle.word.proofs.Both.{number_nonzero}
+use Rattle.resource_steps.specs.Inner.Stops.{number_or_zero}
+use Rattle.resource_steps.specs.Inner.Given.{pair_below, pairs_below, WordMeans}
 use Rattle.resource_steps.specs.Resources.{resource_nth, filtering, sample_number, pair_number, type_at, pair_answer, pair_use, pair_uses}
-use Rattle.resource_steps.proofs.ResourceParts.{pairs_cons, pairs_none, nth_at}
+use Rattle.resource_steps.proofs.ResourceParts.{pairs_cons, pairs_none}
 
 -- ---- type words
-
-pub sample_other : (code : ℕ) → code ≡ 1 → 32 ≡ sample_number (sample_at code)
-unfolding yes
-sample_other code e = rw e
-
-pub sample_passes : (code : ℕ) → (code ≡ 1 → ⊥) → code < 3 → 0 ≡ sample_number (sample_at code)
-unfolding yes
-sample_passes zero n h = refl
-sample_passes (suc zero) n h = absurd (n refl)
-sample_passes (suc (suc zero)) n h = refl
-sample_passes (suc (suc (suc code))) n h = absurd (omega arith)
-
-pub sample_integer : (code : ℕ) → 3 ≤ code → 33 ≡ sample_number (sample_at code)
-sample_integer code h =
-    rw (ne_eqb code 0 (λ e. omega arith), ne_eqb code 1 (λ e. omega arith), ne_eqb code 2 (λ e. omega arith))
-    (by_test (eqb code 3) (λ t. rw t) (λ f. rw f))
 
 filtering_not : (w : ℕ) → (bits 26 23 w ≡ 1 → ⊥) → false ≡ filtering (binding_type_of w 0)
 unfolding binding_type_of
@@ -94,13 +83,13 @@ number_texture w least sampler = by_test (eqb (bits 26 23 w) 0) (λ t. rw t) (λ
 
 module _ (t s : ℕ) where
   module _ (b : Bool) (e : bits 26 23 t ≡ 2) (q : b ≡ filtering (binding_type_of s 0)) where
-    pub number_filtered : (x : ℕ) → b ≡ true → x ≡ sample_number (sample_at (bits 6 4 t)) → x ≡ pair_number (binding_type_of t 0) (binding_type_of s 0)
+    pub number_filtered : (x : ℕ) → not b ≡ false → x ≡ sample_number (sample_at (bits 6 4 t)) → x ≡ pair_number (binding_type_of t 0) (binding_type_of s 0)
     unfolding pair_number binding_type_of
-    number_filtered x f h = rw (e, ← q, f) h
+    number_filtered x f h = rw (e, ← q, not-false b f) h
 
-    pub number_plain : b ≡ false → 0 ≡ pair_number (binding_type_of t 0) (binding_type_of s 0)
+    pub number_plain : not b ≡ true → 0 ≡ pair_number (binding_type_of t 0) (binding_type_of s 0)
     unfolding pair_number binding_type_of
-    number_plain f = rw (e, ← q, f)
+    number_plain f = rw (e, ← q, not-true b f)
 
   pub number_external : bits 26 23 t ≡ 5 → 0 ≡ pair_number (binding_type_of t 0) (binding_type_of s 0)
   unfolding pair_number binding_type_of
@@ -127,12 +116,12 @@ type_none l place f q n = (0, rw (← q, n))
 
 -- ---- one pair
 
-pub pair_refused : (number t s x y : ℕ) (a : Answer) → (number ≡ 0 → ⊥) → x ≡ content_of t → y ≡ content_of s
-    → a ≡ answer number (0x20000000 + x) (0x20000000 + y) 0 → a ≡ pair_answer number (place_of t) (place_of s)
-pair_refused number t s x y a n p q h =
+pub pair_refused : (n : Number) (t s x y : ℕ) (r : Refusal) → x ≡ content_of t → y ≡ content_of s
+    → r ≡ refusal n (0x20000000 + x) (0x20000000 + y) 0 → refusal_answer r ≡ pair_answer (number_of n) (place_of t) (place_of s)
+pair_refused n t s x y r p q h =
     let v : 0x20000000 + x ≡ place_word (place_of t) = omega arith in
     let w : 0x20000000 + y ≡ place_word (place_of s) = omega arith in
-    rw (ne_eqb number 0 n, ← v, ← w) h
+    rw (number_nonzero n, ← v, ← w, h)
 
 module _ (count w : ℕ) (p : SamplingPair) (h : pair_below count (pair_of w) ≡ true) (e : p ≡ pair_of w) where
   pub texture_below : p.texture < count
@@ -141,15 +130,17 @@ module _ (count w : ℕ) (p : SamplingPair) (h : pair_below count (pair_of w) �
   pub sampler_below : p.sampler < count
   sampler_below = rw e (ltb-true (pair_of w).sampler count (second (ltb (pair_of w).texture count) (ltb (pair_of w).sampler count) h))
 
-pub place_listed : (ws offsets : List ℕ) (i o w : ℕ) → i < length (resource_table ws offsets) → o ≡ word_at offsets i → w ≡ word_at ws o
-    → place_of w ≡ (resource_nth (resource_table ws offsets) i).bind
-place_listed ws offsets i o w h q d = rw (nth_at ws offsets i h, ← q, d)
+module _ (L : Layout) (t s x y : ℕ) (o : Result Unit Number) (p : WordMeans x (type_at L (place_of t))) (q : WordMeans y (type_at L (place_of s)))
+    (n : number_or_zero o ≡ pair_number (binding_type_of x 0) (binding_type_of y 0)) where
+  judged : number_or_zero o ≡ pair_number (type_at L (place_of t)) (type_at L (place_of s))
+  judged = n ∙ rw (p.1, q.1, number_texture x p.0 (binding_type_of y q.0), number_sampler (binding_type_of x 0) y q.0)
 
-pub places_used : (L : Layout) (t s x y number : ℕ) (a : Answer) → WordMeans x (type_at L (place_of t)) → WordMeans y (type_at L (place_of s))
-    → number ≡ pair_number (binding_type_of x 0) (binding_type_of y 0) → a ≡ pair_answer number (place_of t) (place_of s)
-    → a ≡ pair_answer (pair_number (type_at L (place_of t)) (type_at L (place_of s))) (place_of t) (place_of s)
-places_used L t s x y number a p q n h =
-    rw (p.1, q.1, number_texture x p.0 (binding_type_of y q.0), number_sampler (binding_type_of x 0) y q.0, ← n) h
+  pub places_passed : (v : Unit) → o ≡ Ok v → accepted ≡ pair_answer (pair_number (type_at L (place_of t)) (type_at L (place_of s))) (place_of t) (place_of s)
+  places_passed v z = rw (← judged, z)
+
+  pub places_refused : (number : Number) (a : Answer) → o ≡ Err number → a ≡ pair_answer (number_of number) (place_of t) (place_of s)
+      → a ≡ pair_answer (pair_number (type_at L (place_of t)) (type_at L (place_of s))) (place_of t) (place_of s)
+  places_refused number a z h = rw (← judged, z) h
 
 module _ (L : Layout) (resources : List Resource) (p : SamplingPair) (t s : ℕ) (a : Answer)
     (et : place_of t ≡ (resource_nth resources p.texture).bind) (es : place_of s ≡ (resource_nth resources p.sampler).bind)
@@ -163,29 +154,28 @@ module _ (L : Layout) (resources : List Resource) (p : SamplingPair) (t s : ℕ)
 
 -- ---- one after the other
 
-module _ (ws : List ℕ) (count k at : ℕ) (b : pairs_below count (pairs_of (take k (drop at ws))) ≡ true) (n : k ≡ 0 → ⊥) (h : at + k ≤ length ws) where
-  paired : pairs_below count (pair_of (word_at ws at) ∷ pairs_of (take (k - 1) (drop (at + 1) ws))) ≡ true
-  paired = rw (pairs_cons ws k at n h) at b
+module _ (ws : List ℕ) (count k : ℕ) (b : pairs_below count (pairs_of (drop k ws)) ≡ true) (h : k < length ws) where
+  paired : pairs_below count (pair_of (word_at ws k) ∷ pairs_of (drop (k + 1) ws)) ≡ true
+  paired = rw (pairs_cons ws k h) at b
 
-  pub pair_below_lem : pair_below count (pair_of (word_at ws at)) ≡ true
+  pub pair_below_lem : pair_below count (pair_of (word_at ws k)) ≡ true
   unfolding every
-  pair_below_lem = (first_passes (pair_below count (pair_of (word_at ws at))) (pairs_below count (pairs_of (take (k - 1) (drop (at + 1) ws)))) paired)
+  pair_below_lem = first_passes (pair_below count (pair_of (word_at ws k))) (pairs_below count (pairs_of (drop (k + 1) ws))) paired
 
-  pub pairs_rest : pairs_below count (pairs_of (take (k - 1) (drop (at + 1) ws))) ≡ true
+  pub pairs_rest : pairs_below count (pairs_of (drop (k + 1) ws)) ≡ true
   unfolding every
-  pairs_rest = rest_passes (pair_below count (pair_of (word_at ws at))) (pairs_below count (pairs_of (take (k - 1) (drop (at + 1) ws)))) paired
+  pairs_rest = rest_passes (pair_below count (pair_of (word_at ws k))) (pairs_below count (pairs_of (drop (k + 1) ws))) paired
 
-module _ (ws : List ℕ) (L : Layout) (resources : List Resource) (k at : ℕ) (goal : Answer) where
-  module _ (a : Answer) (n : k ≡ 0 → ⊥) (h : at + k ≤ length ws) where
-    pub pairs_refused : (a.number ≡ 0 → ⊥) → a ≡ pair_use L resources (pair_of (word_at ws at)) → goal ≡ pair_uses L resources (pairs_of (take k (drop at ws))) → a ≡ goal
+module _ (ws : List ℕ) (L : Layout) (rs : List Resource) (k : ℕ) (goal : Answer) (inv : goal ≡ pair_uses L rs (pairs_of (drop k ws))) where
+  module _ (o : Result Unit Refusal) (h : k < length ws) (e : answer_of o ≡ pair_use L rs (pair_of (word_at ws k))) where
+    pub pairs_refused : (r : Refusal) → o ≡ Err r → refusal_answer r ≡ goal
     unfolding pair_uses
-    pairs_refused z e inv = sym (inv ∙ rw (pairs_cons ws k at n h, ← e, ne_eqb a.number 0 z))
+    pairs_refused r z = sym (inv ∙ rw (pairs_cons ws k h, ← e, z, number_nonzero r.number))
 
-    pub pairs_onward : a.number ≡ 0 → a ≡ pair_use L resources (pair_of (word_at ws at)) → goal ≡ pair_uses L resources (pairs_of (take k (drop at ws)))
-        → goal ≡ pair_uses L resources (pairs_of (take (k - 1) (drop (at + 1) ws)))
+    pub pairs_onward : (v : Unit) → o ≡ Ok v → goal ≡ pair_uses L rs (pairs_of (drop (k + 1) ws))
     unfolding pair_uses
-    pairs_onward z e inv = inv ∙ rw (pairs_cons ws k at n h, ← e, eq-eqb a.number 0 z)
+    pairs_onward v z = inv ∙ rw (pairs_cons ws k h, ← e, z)
 
-  pub pairs_ended : k ≡ 0 → (a : Answer) → a ≡ accepted → goal ≡ pair_uses L resources (pairs_of (take k (drop at ws))) → a ≡ goal
+  pub pairs_ended : length ws ≤ k → k ≤ length ws → accepted ≡ goal
   unfolding pair_uses
-  pairs_ended z a e inv = e ∙ sym (inv ∙ rw (pairs_none (drop at ws) k z))
+  pairs_ended h l = sym (inv ∙ rw (pairs_none ws k h))

@@ -1,56 +1,52 @@
 -- The ways of resources through a provided layout.
-use Rattle.std.proofs.Common.{Option, Some, None}
-use Prim.Native.Nat.{ℕ, ◌+◌, ◌-◌, ◌^◌, ◌<◌, ◌≤◌}
+use Rattle.std.proofs.Common.{Option, Some, None, Result, Ok, Err}
+use Prim.Native.Nat.{ℕ, ◌+◌, ◌^◌, ◌<◌, ◌≤◌}
 use native.Mathlib.Omega.{arith}
-use mathlib.Core.Path.{◌≡◌, refl, sym, ap, ◌∙◌}
+use mathlib.Core.Path.{◌≡◌, refl, sym, ◌∙◌}
 use mathlib.Core.Bool.{Bool, true, false, not, ◌&&◌, true≢false}
 use mathlib.Core.List.{List}
 use lib.Dec.{eqb, ltb}
-use lib.ListN.{length, take, drop}
+use lib.ListN.{length, drop}
 use borrow.Author.Tests.{eq-eqb, ne_eqb, eqb-false, ltb-true, not-true, not-false}
 use Rattle.word.specs.Words.{word_at, kind_of, content_of, bits}
 use Rattle.word.specs.Answers.{accepted}
 use Rattle.word.specs.declared.answer.Answer.{Answer}
-use Rattle.bindings.specs.Rules.{check_binding_use, use_number}
-use Rattle.bindings.specs.Format.{place_well_formed, place_of, type_code, is_buffer_word, space_at, resource_type_of, type_encodable, space_encodable, binding_type_of}
+use Rattle.bindings.specs.Format.{place_well_formed, place_of, type_code, is_buffer_word, space_at, resource_type_of, type_encodable, space_encodable}
 use Rattle.bindings.specs.Answers.{binding_answer}
 use Rattle.bindings.specs.declared.types.ResourceBinding.{ResourceBinding}
 use Rattle.bindings.specs.declared.types.Resource.{Resource}
-use Rattle.bindings.specs.declared.types.ResourceType.{ResourceType}
-use Rattle.bindings.specs.declared.types.BindGroupLayoutEntry.{BindGroupLayoutEntry}
 use Rattle.word.proofs.Truth.{second, by_test, first}
-use Rattle.layouts.specs.Meaning.{Layout, find_entry, entry_nth, sees_bit}
+use Rattle.layouts.specs.Meaning.{Layout, find_entry, entry_nth}
 use Rattle.sizes.specs.Meaning.{Sizes, size_has, size_fits, recorded, size_record_width}
 use Rattle.places.specs.Records.{room_for}
-use Rattle.interface.specs.Format.{stage_code, contents}
+use Rattle.interface.specs.Format.{contents}
 use Rattle.interface.specs.declared.types.ShaderStage.{ShaderStage}
-use Rattle.resource_steps.specs.Inner.Given.{resource_table}
+use Rattle.word.specs.Numbers.{number_of}
+use Rattle.word.specs.declared.refusal.Number.{Number}
+use Rattle.resource_steps.specs.Inner.Stops.{number_or_zero}
+use Rattle.word.specs.Refusals.{answer_of, refusal_answer}
+use Rattle.word.specs.declared.refusal.Refusal.{Refusal}
+use Rattle.word.proofs.Both.{number_nonzero}
 use Rattle.resource_steps.specs.Resources.{resource_nth, sizes_after, record_size, entry_use, provided_use, provide_step, ProvideResult, provide_result, provide_steps}
-use Rattle.resource_steps.proofs.ResourceParts.{nth_at}
-use Rattle.resource_steps.proofs.ResourceWalk.{index_next, index_none, one_more}
-use Rattle.bindings.specs.Format.{size_limit, size_standing, resource, least_size_of}
+use Rattle.resource_steps.proofs.ResourceParts.{contents_cons, contents_none}
+use Rattle.resource_steps.proofs.ResourceWalk.{one_more}
+use Rattle.bindings.specs.Format.{size_limit, resource}
 
 -- ---- the entry of a resource
-
-module _ (stage : ShaderStage) (ty : ResourceType) (e : BindGroupLayoutEntry) (c v : ℕ) (b : Bool) (s : c ≡ stage_code stage) (p : v ≡ e.visibility)
-    (q : b ≡ sees_bit c v) where
-  pub entry_unseen : not b ≡ true → 21 ≡ entry_use stage ty e
-  entry_unseen n = rw (← s, ← p, ← q, not-true b n)
-
-  pub entry_seen : (t least u : ℕ) → not b ≡ false → least ≡ least_size_of e.ty → binding_type_of t (least_size_of e.ty) ≡ e.ty
-      → u ≡ use_number (check_binding_use ty (binding_type_of t least)) → u ≡ entry_use stage ty e
-  entry_seen t least u n g m k =
-      let z : binding_type_of t least ≡ e.ty = ap (binding_type_of t) g ∙ m in
-      rw (← s, ← p, ← q, not-false b n, ← z) k
 
 module _ (stage : ShaderStage) (L : Layout) (r : Resource) (f : Option ℕ) (a : Answer) (q : f ≡ find_entry r.bind L) where
   pub provided_none : f ≡ None → a ≡ binding_answer 20 r.bind → a ≡ provided_use stage L r
   unfolding provided_use
   provided_none n h = rw (← q, n) h
 
-  pub provided_at : (i u : ℕ) → f ≡ Some i → u ≡ entry_use stage r.ty (entry_nth L.entries i) → a ≡ binding_answer u r.bind → a ≡ provided_use stage L r
-  unfolding provided_use
-  provided_at i u n x h = rw (← q, n, ← x) h
+  module _ (i : ℕ) (n : f ≡ Some i) (o : Result Unit Number) (x : number_or_zero o ≡ entry_use stage r.ty (entry_nth L.entries i)) where
+    pub provided_passed : (v : Unit) → o ≡ Ok v → accepted ≡ provided_use stage L r
+    unfolding provided_use
+    provided_passed v z = rw (← q, n, ← x, z)
+
+    pub provided_refused : (number : Number) → o ≡ Err number → a ≡ binding_answer (number_of number) r.bind → a ≡ provided_use stage L r
+    unfolding provided_use
+    provided_refused number z h = rw (← q, n, ← x, z) h
 
 -- ---- the size of a resource
 
@@ -101,29 +97,27 @@ module _ (w size : ℕ) (h : type_encodable (resource_type_of w size) ≡ true) 
         let n : bits 22 0 (0x20000000 + p) ≡ bits 22 0 place = omega arith in
         rw (g, n)
 
-    pub size_recorded_lem : b ≡ true → a ≡ accepted → sizes_after a T ≡ record_size (place_of place) (resource_type_of w size) S
+    pub size_recorded_lem : not b ≡ false → a ≡ accepted → sizes_after a T ≡ record_size (place_of place) (resource_type_of w size) S
     unfolding record_size resource_type_of
-    size_recorded_lem t e = rw (eq-eqb (type_code w) 0 z, ← same_place_lem, ← q, t, r, e)
+    size_recorded_lem t e = rw (eq-eqb (type_code w) 0 z, ← same_place_lem, ← q, not-false b t, r, e)
 
-    pub size_full : b ≡ false → a ≡ binding_answer 5 (place_of place) → sizes_after a T ≡ record_size (place_of place) (resource_type_of w size) S
+    pub size_full : not b ≡ true → a ≡ binding_answer 5 (place_of place) → sizes_after a T ≡ record_size (place_of place) (resource_type_of w size) S
     unfolding record_size resource_type_of
     size_full t e =
-        let n : size_fits (place_of place) S ≡ false = rw (← same_place_lem) (sym q ∙ t) in
+        let n : size_fits (place_of place) S ≡ false = rw (← same_place_lem) (sym q ∙ not-true b t) in
         rw (eq-eqb (type_code w) 0 z, n, r, same_place_lem, not_recorded (place_of place) size S (size_has (place_of place) S.records) (room_for size_record_width S.room) refl refl n, e)
 
 -- ---- one resource, by its index
 
-module _ (ws offsets : List ℕ) (i : ℕ) (k : i < length (resource_table ws offsets)) (o size : ℕ) (q : o ≡ word_at offsets i) (z : size ≡ size_standing ws (o + 2))
-    (stage : ShaderStage) (L : Layout) (S T : Sizes) (a : Answer)
-    (e : sizes_after a T ≡ record_size (place_of (word_at ws o)) (resource_type_of (word_at ws (o + 1)) size) S) where
-  pub provide_ended : (a.number ≡ 0 → ⊥) → sizes_after a T ≡ provide_step stage L (resource_nth (resource_table ws offsets) i) S
+module _ (rs : List Resource) (i p w size : ℕ) (k : resource p w size ≡ resource_nth rs i) (stage : ShaderStage) (L : Layout) (S T : Sizes) (o : Result Unit Refusal)
+    (e : sizes_after (answer_of o) T ≡ record_size (place_of p) (resource_type_of w size) S) where
+  pub provide_ended : (r : Refusal) → o ≡ Err r → sizes_after (refusal_answer r) T ≡ provide_step stage L (resource_nth rs i) S
   unfolding provide_step
-  provide_ended n = rw (nth_at ws offsets i k, ← q, ← z, ← e, ne_eqb a.number 0 n)
+  provide_ended r z = rw (← k, ← e, z, number_nonzero r.number)
 
-  pub provide_went : (b : Answer) → a.number ≡ 0 → b ≡ provided_use stage L (resource (word_at ws o) (word_at ws (o + 1)) size)
-      → sizes_after b T ≡ provide_step stage L (resource_nth (resource_table ws offsets) i) S
+  pub provide_went : (b : Answer) (v : Unit) → o ≡ Ok v → b ≡ provided_use stage L (resource p w size) → sizes_after b T ≡ provide_step stage L (resource_nth rs i) S
   unfolding provide_step
-  provide_went b n h = rw (nth_at ws offsets i k, ← q, ← z, ← e, eq-eqb a.number 0 n, ← h)
+  provide_went b v z h = rw (← k, ← e, z, ← h)
 
 -- ---- one after the other
 
@@ -131,28 +125,18 @@ module _ (ws offsets : List ℕ) (i : ℕ) (k : i < length (resource_table ws of
 abbrev pub provide_behind : ℕ → ProvideResult → ProvideResult
 provide_behind k x = provide_result x.answer (k + x.passed) x.sizes
 
-pub provide_start : (ws : List ℕ) (stage : ShaderStage) (L : Layout) (resources : List Resource) (n at : ℕ) (S : Sizes)
-    → provide_steps stage L resources (contents (take n (drop at ws))) S ≡ provide_behind 0 (provide_steps stage L resources (contents (take (n - 0) (drop at ws))) S)
-provide_start ws stage L resources n at S =
-    let z : n - 0 ≡ n = omega arith in
-    let r : 0 + (provide_steps stage L resources (contents (take n (drop at ws))) S).passed ≡ (provide_steps stage L resources (contents (take n (drop at ws))) S).passed = omega arith in
-    rw (z, r)
-
-module _ (ws offsets : List ℕ) (stage : ShaderStage) (L : Layout) (n k at : ℕ) (S : Sizes) (goal : ProvideResult)
-    (inv : goal ≡ provide_behind k (provide_steps stage L (resource_table ws offsets) (contents (take (n - k) (drop at ws))) S)) where
-  module _ (w i : ℕ) (T : Sizes) (a : Answer) (m : k ≡ n → ⊥) (l : k ≤ n) (h : at + (n - k) ≤ length ws) (p : w ≡ word_at ws at) (q : i ≡ content_of w)
-      (e : sizes_after a T ≡ provide_step stage L (resource_nth (resource_table ws offsets) i) S) where
-    pub provide_refused : (a.number ≡ 0 → ⊥) → provide_result a k T ≡ goal
+module _ (ws : List ℕ) (stage : ShaderStage) (L : Layout) (rs : List Resource) (k : ℕ) (S : Sizes) (goal : ProvideResult)
+    (inv : goal ≡ provide_behind k (provide_steps stage L rs (contents (drop k ws)) S)) where
+  module _ (i : ℕ) (T : Sizes) (o : Result Unit Refusal) (h : k < length ws) (q : i ≡ content_of (word_at ws k))
+      (e : sizes_after (answer_of o) T ≡ provide_step stage L (resource_nth rs i) S) where
+    pub provide_refused : (r : Refusal) → o ≡ Err r → provide_result (refusal_answer r) k T ≡ goal
     unfolding provide_steps
-    provide_refused z =
-        let r : k + 0 ≡ k = omega arith in
-        sym (inv ∙ rw (index_next ws n k at m l h, ← p, ← q, ← e, ne_eqb a.number 0 z, r))
+    provide_refused r z = let s : k + 0 ≡ k = omega arith in sym (inv ∙ rw (contents_cons ws k h, ← q, ← e, z, number_nonzero r.number, s))
 
-    pub provide_onward : a.number ≡ 0
-        → goal ≡ provide_behind (k + 1) (provide_steps stage L (resource_table ws offsets) (contents (take (n - (k + 1)) (drop (at + 1) ws))) T)
+    pub provide_onward : (v : Unit) → o ≡ Ok v → goal ≡ provide_behind (k + 1) (provide_steps stage L rs (contents (drop (k + 1) ws)) T)
     unfolding provide_steps
-    provide_onward z = inv ∙ rw (index_next ws n k at m l h, ← p, ← q, ← e, eq-eqb a.number 0 z, one_more k (provide_steps stage L (resource_table ws offsets) (contents (take (n - (k + 1)) (drop (at + 1) ws))) T).passed)
+    provide_onward v z = inv ∙ rw (contents_cons ws k h, ← q, ← e, z, one_more k (provide_steps stage L rs (contents (drop (k + 1) ws)) T).passed)
 
-  pub provide_done : k ≡ n → (a : Answer) → a ≡ accepted → provide_result a n S ≡ goal
+  pub provide_done : length ws ≤ k → k ≤ length ws → provide_result accepted (length ws) S ≡ goal
   unfolding provide_steps
-  provide_done z a h = let r : k + 0 ≡ n = omega arith in sym (inv ∙ rw (index_none ws n k at z, r, h))
+  provide_done h l = let s : k + 0 ≡ length ws = omega arith in sym (inv ∙ rw (contents_none ws k h, s))

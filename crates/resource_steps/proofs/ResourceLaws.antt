@@ -1,25 +1,15 @@
--- The answer of a place, and positions that were found.
+-- Positions that were found.
 use Rattle.std.proofs.Common.{Option, Some, None}
 use Prim.Native.Nat.{ℕ, ◌^◌, ◌<◌}
 use native.Mathlib.Omega.{arith}
-use mathlib.Core.Path.{◌≡◌, refl, ap, ◌∙◌}
+use mathlib.Core.Path.{◌≡◌, refl}
 use mathlib.Core.Bool.{true}
 use mathlib.Core.List.{List}
 use lib.ListN.{length}
 use borrow.Author.Tests.{lt-ltb, ltb-true}
-use Rattle.word.specs.declared.answer.Answer.{Answer}
-use Rattle.bindings.specs.Format.{place_of}
-use Rattle.bindings.specs.Answers.{binding_answer}
-use Rattle.bindings.specs.declared.types.ResourceBinding.{ResourceBinding}
 use Rattle.places.specs.Places.{found_below}
 use Rattle.layouts.specs.Format.{layout_well_formed, decode_layout}
 use Rattle.layouts.proofs.LayoutStores.{layout_few}
-
-pub answer_there : (number place : ℕ) (bind : ResourceBinding) (a : Answer) → bind ≡ place_of place → a ≡ binding_answer number bind
-    → a ≡ binding_answer number (place_of place)
-answer_there number place bind a e h = h ∙ ap (binding_answer number) e
-
--- ---- positions that were found
 
 -- the position that was found fits into a byte
 pub found_few : (l : List ℕ) (f : Option ℕ) → layout_well_formed l ≡ true → found_below (length (decode_layout l).entries) f ≡ true → found_below 256 f ≡ true

@@ -1,47 +1,46 @@
 -- The words that an entry point's lists take, and the resources at a table of positions.
-use Prim.Native.Nat.{ℕ, zero, suc, ◌+◌, ◌-◌, ◌<◌, ◌≤◌}
+use Prim.Native.Nat.{ℕ, zero, suc, ◌+◌, ◌<◌, ◌≤◌}
 use native.Mathlib.Omega.{arith}
-use native.Mathlib.Numerals.{add-one, sub-one}
-use mathlib.Core.Path.{◌≡◌, refl, ◌∙◌}
+use native.Mathlib.Numerals.{add-one}
+use mathlib.Core.Path.{◌≡◌, refl, sym, ◌∙◌}
 use mathlib.Core.Bool.{true}
 use mathlib.Core.List.{List, [], ◌∷◌}
 use lib.ListN.{length, take, drop, length-take}
 use lib.Seq.{drop-cons, get_or-take}
+use Rattle.std.proofs.lemmas.List.{drop_all}
 use Rattle.word.proofs.Lists.{first_passes, rest_passes}
+use Rattle.word.proofs.Truth.{second}
 use Rattle.word.specs.Words.{word_at, content_of}
 use Rattle.word.specs.Lists.{every}
-use Rattle.bindings.specs.Format.{resource_at, resource_encodable, type_encodable}
+use Rattle.bindings.specs.Format.{resource, resource_at, resource_encodable, place_of, place_encodable, resource_type_of, type_encodable, resource_width, size_standing}
 use Rattle.bindings.specs.declared.types.Resource.{Resource}
 use Rattle.interface.specs.Format.{contents, pair_of, pairs_of}
 use Rattle.interface.specs.Inner.Reads.{resources_at}
 use Rattle.interface.specs.Inner.Parts.{resource_count}
-use Rattle.resource_steps.specs.Inner.Given.{resource_table, each_encodable}
+use Rattle.resource_steps.specs.Inner.Given.{resource_table, Tabled, each_encodable}
 use Rattle.resource_steps.specs.Resources.{resource_nth}
 
--- as many words from a position on
-taken : (ws : List ℕ) (k at : ℕ) → (k ≡ 0 → ⊥) → at + k ≤ length ws → take k (drop at ws) ≡ word_at ws at ∷ take (k - 1) (drop (at + 1) ws)
-taken ws zero at n h = absurd (n refl)
-taken ws (suc k) at n h = rw (sub-one, add-one, drop-cons ws at 0 (omega arith))
+-- the words from a position on
+taken : (ws : List ℕ) (k : ℕ) → k < length ws → drop k ws ≡ word_at ws k ∷ drop (k + 1) ws
+taken ws k h = rw (add-one, drop-cons ws k 0 h)
 
-none_taken : (ws : List ℕ) (k : ℕ) → k ≡ 0 → take k ws ≡ []
-none_taken ws k z = rw z
-
-module _ (ws : List ℕ) (k at : ℕ) (n : k ≡ 0 → ⊥) (h : at + k ≤ length ws) where
-  pub contents_cons : contents (take k (drop at ws)) ≡ content_of (word_at ws at) ∷ contents (take (k - 1) (drop (at + 1) ws))
+module _ (ws : List ℕ) (k : ℕ) (h : k < length ws) where
+  pub contents_cons : contents (drop k ws) ≡ content_of (word_at ws k) ∷ contents (drop (k + 1) ws)
   unfolding contents
-  contents_cons = rw (taken ws k at n h)
+  contents_cons = rw (taken ws k h)
 
-  pub pairs_cons : pairs_of (take k (drop at ws)) ≡ pair_of (word_at ws at) ∷ pairs_of (take (k - 1) (drop (at + 1) ws))
+  pub pairs_cons : pairs_of (drop k ws) ≡ pair_of (word_at ws k) ∷ pairs_of (drop (k + 1) ws)
   unfolding pairs_of
-  pairs_cons = rw (taken ws k at n h)
+  pairs_cons = rw (taken ws k h)
 
-pub contents_none : (ws : List ℕ) (k : ℕ) → k ≡ 0 → contents (take k ws) ≡ []
-unfolding contents
-contents_none ws k z = rw (none_taken ws k z)
+module _ (ws : List ℕ) (k : ℕ) (h : length ws ≤ k) where
+  pub contents_none : contents (drop k ws) ≡ []
+  unfolding contents
+  contents_none = rw (drop_all k ws h)
 
-pub pairs_none : (ws : List ℕ) (k : ℕ) → k ≡ 0 → pairs_of (take k ws) ≡ []
-unfolding pairs_of
-pairs_none ws k z = rw (none_taken ws k z)
+  pub pairs_none : pairs_of (drop k ws) ≡ []
+  unfolding pairs_of
+  pairs_none = rw (drop_all k ws h)
 
 -- the resource of an index stands at the position of that index
 table_length : (ws offsets : List ℕ) → length (resources_at ws offsets) ≡ length offsets
@@ -68,12 +67,40 @@ module _ (ws offsets : List ℕ) (i : ℕ) (h : i < length (resource_table ws of
       let l = table_length ws (take (resource_count ws) offsets) in
       (omega (arith, l, length-take (resource_count ws) offsets), omega (arith, l))
 
-  pub position_there : i < length offsets
-  position_there = omega (arith, counted.1, length-take (resource_count ws) offsets)
+  there : i < length offsets
+  there = omega (arith, counted.1, length-take (resource_count ws) offsets)
 
-  pub nth_at : resource_nth (resource_table ws offsets) i ≡ resource_at ws (word_at offsets i)
+  nth_at : resource_nth (resource_table ws offsets) i ≡ resource_at ws (word_at offsets i)
   unfolding resource_table
   nth_at = listed_at ws (take (resource_count ws) offsets) i counted.1 ∙ rw (get_or-take (resource_count ws) offsets i 0 counted.0)
 
-  pub nth_encodable : each_encodable (resource_table ws offsets) ≡ true → resource_encodable (resource_at ws (word_at offsets i)) ≡ true
-  nth_encodable e = rw nth_at at (listed_encodable (resource_table ws offsets) i e)
+-- the resource of an index, among those that a table gives
+module _ (ws offsets : List ℕ) (rs : List Resource) (v : resource_table ws offsets ≡ rs) (t : Tabled ws offsets) (i : ℕ) (h : i < length rs) where
+  below : i < length (resource_table ws offsets)
+  below = rw v h
+
+  pub position_there : i < length offsets
+  position_there = there ws offsets i below
+
+  pub words_there : word_at offsets i + resource_width ≤ length ws
+  words_there = t.inside.words i below
+
+  nth_there : resource_at ws (word_at offsets i) ≡ resource_nth rs i
+  nth_there = sym (nth_at ws offsets i below) ∙ rw v
+
+  encodable_there : type_encodable (resource_type_of (word_at ws (word_at offsets i + 1)) (size_standing ws (word_at offsets i + 2))) ≡ true
+  encodable_there =
+      second (place_encodable (place_of (word_at ws (word_at offsets i))))
+      (type_encodable (resource_type_of (word_at ws (word_at offsets i + 1)) (size_standing ws (word_at offsets i + 2))))
+      (rw (nth_at ws offsets i below) at (listed_encodable (resource_table ws offsets) i t.encodable))
+
+  module _ (o : ℕ) (q : o ≡ word_at offsets i) where
+    pub place_there : place_of (word_at ws o) ≡ (resource_nth rs i).bind
+    place_there = rw (q, ← nth_there)
+
+    module _ (size : ℕ) (z : size ≡ size_standing ws (o + 2)) where
+      pub words_listed : resource (word_at ws o) (word_at ws (o + 1)) size ≡ resource_nth rs i
+      words_listed = rw (z, q, ← nth_there)
+
+      pub words_encodable : type_encodable (resource_type_of (word_at ws (o + 1)) size) ≡ true
+      words_encodable = rw (z, q) encodable_there

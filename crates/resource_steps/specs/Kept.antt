@@ -1,14 +1,13 @@
 -- What resources leave in the lists that a call lends, said apart from the steps that write it
 -- (document 01, demand 1: a refusal 'keeps exactly the layout and size records made by the steps before it').
-use Rattle.std.specs.Prelude.{ℕ, Bool, List, [], ◌∷◌, Option, Some, None}
+use Rattle.std.specs.Prelude.{ℕ, Bool, List, [], ◌∷◌, Option, Some, None, Result, Ok, Err}
 use Rattle.bindings.specs.Rules.{derive_binding_type}
 use Rattle.bindings.specs.declared.types.ResourceBinding.{ResourceBinding}
 use Rattle.bindings.specs.declared.types.Resource.{Resource}
 use Rattle.bindings.specs.declared.types.ResourceType.{ResourceType}
 use Rattle.bindings.specs.declared.types.ResourceType.TheVariants as Res
 use Rattle.bindings.specs.declared.types.BindingType.{BindingType}
-use Rattle.bindings.specs.declared.types.Derived.{Derived}
-use Rattle.bindings.specs.declared.types.Derived.TheVariants as Der
+use Rattle.bindings.specs.declared.types.BindingError.{BindingError}
 use Rattle.layouts.specs.Meaning.{Layout, find_entry, pushed, joined}
 use Rattle.sizes.specs.Meaning.{Sizes, recorded}
 use Rattle.interface.specs.Format.{stage_code}
@@ -24,9 +23,9 @@ entered_at stage bind ty (Some i) L = joined (stage_code stage) L i
 entered_at stage bind ty None L = pushed L (new_entry stage bind ty)
 
 -- a resource that derives no type enters nothing
-abbrev pub entered_as : ShaderStage → ResourceBinding → Derived → Layout → Layout
-entered_as stage bind (Der.Binding ty) L = entered_at stage bind ty (find_entry bind L) L
-entered_as stage bind Der.WrongBufferAddressSpace L = L
+abbrev pub entered_as : ShaderStage → ResourceBinding → Result BindingType BindingError → Layout → Layout
+entered_as stage bind (Ok ty) L = entered_at stage bind ty (find_entry bind L) L
+entered_as stage bind (Err e) L = L
 
 -- one resource, named as a texture by a pair or not
 abbrev pub entered : ShaderStage → Bool → Resource → Layout → Layout

@@ -1,11 +1,11 @@
 -- The resources of an entry point against a layout, provided or derived, and its pairs of textures and samplers
 -- (document 01, 'Each resource in list order' and 'Provided only: each pair in pack order'; WebGPU, 'validating GPUProgrammableStage').
-use Rattle.std.specs.Prelude.{ℕ, zero, suc, ◌^◌, Bool, true, false, List, [], ◌∷◌, eqb, ltb, Option, Some, None}
+use Rattle.std.specs.Prelude.{ℕ, zero, suc, ◌^◌, Bool, true, false, List, [], ◌∷◌, eqb, ltb, Option, Some, None, Result, Ok, Err}
 use Rattle.word.specs.Choice.{pick, yes}
 use Rattle.word.specs.Numbers as Number
 use Rattle.word.specs.Answers.{answer, accepted, both}
 use Rattle.word.specs.declared.answer.Answer.{Answer}
-use Rattle.bindings.specs.Rules.{check_binding_use, use_number, same_binding, derive_binding_type, derived_number}
+use Rattle.bindings.specs.Rules.{check_binding_use, use_number, error_number, same_binding, derive_binding_type}
 use Rattle.bindings.specs.Format.{place_word}
 use Rattle.bindings.specs.Answers.{binding_answer}
 use Rattle.bindings.specs.declared.types.ResourceBinding.{ResourceBinding}
@@ -18,8 +18,7 @@ use Rattle.bindings.specs.declared.types.SamplerBindingType.TheVariants as Samp
 use Rattle.bindings.specs.declared.types.TextureSampleType.{TextureSampleType}
 use Rattle.bindings.specs.declared.types.TextureSampleType.TheVariants as Sample
 use Rattle.bindings.specs.declared.types.BindGroupLayoutEntry.{BindGroupLayoutEntry}
-use Rattle.bindings.specs.declared.types.Derived.{Derived}
-use Rattle.bindings.specs.declared.types.Derived.TheVariants as Der
+use Rattle.bindings.specs.declared.types.BindingError.{BindingError}
 use Rattle.layouts.specs.Meaning.{Layout, find_entry, entry_nth, sees_bit, pushed, joined, room_for_entry}
 use Rattle.sizes.specs.Meaning.{Sizes, size_fits, recorded}
 use Rattle.interface.specs.Format.{stage_code}
@@ -104,9 +103,9 @@ place_step stage bind ty (Some i) L = occupied stage bind ty i L
 place_step stage bind ty None L = vacant stage bind ty L
 
 -- what was derived, at its place
-abbrev pub derived_step : ShaderStage → ResourceBinding → Derived → Layout → LayoutAfter
-derived_step stage bind (Der.Binding ty) L = place_step stage bind ty (find_entry bind L) L
-derived_step stage bind Der.WrongBufferAddressSpace L = layout_after (binding_answer (derived_number Der.WrongBufferAddressSpace) bind) L
+abbrev pub derived_step : ShaderStage → ResourceBinding → Result BindingType BindingError → Layout → LayoutAfter
+derived_step stage bind (Ok ty) L = place_step stage bind ty (find_entry bind L) L
+derived_step stage bind (Err e) L = layout_after (binding_answer (error_number e) bind) L
 
 -- 'Derived: 20, deriving (24)'; a group that the layout has not is 20
 unfoldable pub derive_step : ShaderStage → Bool → Resource → Layout → LayoutAfter

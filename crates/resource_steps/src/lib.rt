@@ -5,4 +5,5 @@ pub mod derive;
 pub mod pairs;
 pub mod provide;
 pub mod resources;
+pub mod table;
 pub mod types;

@@ -1,36 +1,31 @@
-// What resources need in either mode: the answer of a place, and where entries stand.
+// What resources need in either mode: the refusal of a place, and where entries stand.
 ghost use Rattle.std.specs.Prelude.{◌≡◌, true, ◌<◌};
+ghost use Rattle.word.specs.Numbers.{number_of};
+ghost use Rattle.word.specs.Refusals.{refusal_answer};
 ghost use Rattle.bindings.specs.Format.{place_of};
 ghost use Rattle.bindings.specs.Answers.{binding_answer};
 ghost use Rattle.places.specs.Places.{found_below};
 ghost use Rattle.resource_steps.specs.Inner.Notes.{note_at};
 
-use bindings::answers::binding_answer;
+use bindings::answers::binding_refusal;
 use bindings::resource_words::place_of;
-use word::answer::Answer;
+use word::refusal::{Number, Refusal};
 
-// The answer of a number that names the place of a word.
-pub(crate) fn place_answer(number: u32, place: u32) -> Answer
-    ensures { result ≡ binding_answer number (place_of place) }
+// The refusal of a number that names the place of a word.
+pub(crate) fn place_refusal(number: Number, place: u32) -> Refusal
+    ensures { refusal_answer result ≡ binding_answer (number_of number) (place_of place) }
 {
-    binding_answer(number, place_of(place))
+    binding_refusal(number, place_of(place))
 }
 
 // ---- where the entries of resources stand: positions to try first, which need not be right
-
-// A byte as a position.
-fn wide(b: u8) -> usize
-    ensures { result < 256 }
-{
-    b as usize
-}
 
 // The position that was noted for the resource of an index.
 pub(crate) fn noted(entries: &[u8; 128], i: u32) -> usize
     ensures { result < 256 }
 {
     if i < 128 {
-        wide(entries[i as usize])
+        usize::from(entries[i as usize])
     } else {
         0
     }
@@ -41,12 +36,9 @@ pub(crate) fn note(entries: &mut [u8; 128], i: u32, found: Option<usize>)
     requires { found_below 256 found ≡ true }
     ensures { entries.new ≡ note_at i found entries.old }
 {
-    match found {
-        Some(index) => {
-            if i < 128 {
-                entries[i as usize] = index as u8;
-            }
+    if let Some(index) = found {
+        if i < 128 {
+            entries[i as usize] = index as u8;
         }
-        None => {}
     }
 }

@@ -1,5 +1,5 @@
 -- The ways on through the functions of a stage check.
-use Prim.Native.Nat.{ℕ, ◌+◌, ◌*◌, ◌<◌, ◌≤◌}
+use Prim.Native.Nat.{ℕ, ◌+◌, ◌-◌, ◌*◌, ◌<◌, ◌≤◌}
 use native.Mathlib.Omega.{arith}
 use mathlib.Core.Path.{◌≡◌, sym, ap, ◌∙◌}
 use mathlib.Core.Bool.{Bool, true, false, ◌&&◌}
@@ -7,8 +7,9 @@ use mathlib.Core.List.{List}
 use lib.Dec.{eqb}
 use lib.ListN.{length, take, drop}
 use borrow.Author.Tests.{eq-eqb, ne_eqb, lt-ltb, le-ltb, ltb-true}
+use Rattle.std.specs.Prelude.{Option, Some, None, IfSome}
 use Rattle.word.specs.Words.{word_at, bits}
-use Rattle.word.specs.Answers.{refused}
+use Rattle.word.specs.Answers.{accepted, refused}
 use Rattle.word.specs.declared.answer.Answer.{Answer}
 use Rattle.word.proofs.Tests.{yes_true, yes_false}
 use Rattle.word.proofs.Truth.{first, second}
@@ -23,9 +24,6 @@ use Rattle.interface.specs.Format.{decode, decoded_number, stage_at, contents, p
 use Rattle.interface.specs.Inner.Reads.{standing}
 use Rattle.interface.specs.Inner.Parts.{Placed, Offsets}
 use Rattle.entry_points.specs.Rules.{find_entry_point}
-use Rattle.entry_points.specs.Inner.Walk.{chosen_in}
-use Rattle.entry_points.specs.declared.choose.Chosen.{Chosen}
-use Rattle.entry_points.specs.declared.choose.Chosen.TheVariants as Ch
 use Rattle.interface.specs.declared.types.EntryParts.{EntryParts}
 use Rattle.interface.specs.declared.types.ShaderStage.{ShaderStage}
 use Rattle.output_steps.specs.Inner.Summary.{summary_of}
@@ -37,7 +35,14 @@ use Rattle.stage.specs.declared.types.Codes.{Codes}
 use Rattle.stage.specs.Meaning.{Lent, Call, Outcome, outcome}
 use Rattle.resource_steps.specs.Meaning.{state}
 use Rattle.resource_steps.specs.Resources.{provide_result, provide_steps, derive_result, derive_steps, resource_steps}
-use Rattle.resource_steps.specs.Inner.Given.{resource_table, each_encodable, each_below}
+use Rattle.resource_steps.specs.Inner.Given.{resource_table, each_encodable, each_below, pairs_below}
+use Rattle.resource_steps.specs.Inner.Stops.{stopped_answer}
+use Rattle.resource_steps.specs.declared.types.Stopped.{Stopped}
+use Rattle.std.proofs.Common.{Result, Ok, Err}
+use Rattle.word.specs.Refusals.{answer_of, refusal_answer}
+use Rattle.word.specs.declared.refusal.Refusal.{Refusal}
+use Rattle.word.proofs.Both.{number_nonzero}
+use Rattle.bindings.specs.declared.types.Resource.{Resource}
 use Rattle.stage.specs.Inner.Given.{Named, Given}
 use Rattle.stage.specs.Inner.Judging.{binding_steps}
 use Rattle.stage.specs.Stage.{pair_step, lists_good, request_of, derived_of, out_words, run_body, on_entry_point, on_chosen, on_named}
@@ -47,42 +52,40 @@ use Rattle.stage.proofs.GivenLaws.{given_encodable, given_below, given_pairs, gi
 
 -- ---- the resources of an entry point that stands at positions
 
-module _ (ws : List ℕ) (p : EntryParts) (k n : ℕ) (ek : k ≡ word_at ws p.counts) (en : n ≡ bits 23 18 k) where
-  pub resources_standing : contents (take n (drop p.resources ws)) ≡ (standing ws p).resources
+module _ (ws : List ℕ) (p : EntryParts) (w : Placed ws p) where
+  resources_standing : contents (take (p.pairs - p.resources) (drop p.resources ws)) ≡ (standing ws p).resources
   unfolding standing
-  resources_standing = rw (en, ek)
+  resources_standing = let n : p.pairs - p.resources ≡ bits 23 18 (word_at ws p.counts) = omega (arith, w.resources) in rw n
 
-  pub resources_below : (offsets : List ℕ) (i : Interface) → Given ws offsets i (standing ws p)
-      → each_below (length (resource_table ws offsets)) (contents (take n (drop p.resources ws))) ≡ true
-  resources_below offsets i g = rw (g.table, resources_standing) g.named.below
+  pub resources_below : (rs : List Resource) → each_below (length rs) (standing ws p).resources ≡ true
+      → each_below (length rs) (contents (take (p.pairs - p.resources) (drop p.resources ws))) ≡ true
+  resources_below rs h = rw resources_standing h
 
-  pub resources_in : Placed ws p → p.resources + n ≤ length ws
-  resources_in w =
-      let a : p.pairs ≡ p.resources + n = rw (en, ek) w.resources in
-      omega (arith, a, w.pairs, w.inputs, w.outputs)
+  module _ (rs : List Resource) (stage mode : ℕ) (s : ShaderStage) (L : Layout) (S : Sizes) (o : Result Unit Stopped) (passed : ℕ) (es : s ≡ stage_at stage) where
+    module _ (M : Layout) (t : mode ≡ 1)
+        (h : derive_result (stopped_answer o) passed M
+        ≡ derive_steps s rs (pairs_of (take (p.inputs - p.pairs) (drop p.pairs ws))) (contents (take (p.pairs - p.resources) (drop p.resources ws))) L) where
+      pub resources_derived : (a : Answer) → stopped_answer o ≡ a
+          → state a M S ≡ resource_steps (stage_at stage) (eqb mode 1) rs (standing ws p).pairs (standing ws p).resources L S
+      unfolding resource_steps
+      resources_derived a k =
+          let e = rw (es, pairs_standing ws p w, resources_standing) at h in
+          rw (yes_true (eqb mode 1) (eq-eqb mode 1 t), ← e, k)
 
-  pub pairs_in : (m : ℕ) → m ≡ bits 17 12 k → Placed ws p → p.pairs + m ≤ length ws
-  pairs_in m em w =
-      let b : p.inputs ≡ p.pairs + m = rw (em, ek) w.pairs in
-      omega (arith, b, w.inputs, w.outputs)
+    module _ (T : Sizes) (t : mode ≡ 1 → ⊥)
+        (h : provide_result (stopped_answer o) passed T ≡ provide_steps s L rs (contents (take (p.pairs - p.resources) (drop p.resources ws))) S) where
+      pub resources_provided : (a : Answer) → stopped_answer o ≡ a
+          → state a L T ≡ resource_steps (stage_at stage) (eqb mode 1) rs (standing ws p).pairs (standing ws p).resources L S
+      unfolding resource_steps
+      resources_provided a k =
+          let e = rw (es, resources_standing) at h in
+          rw (yes_false (eqb mode 1) (ne_eqb mode 1 t), ← e, k)
 
-  module _ (offsets : List ℕ) (i : Interface) (stage mode : ℕ) (s : ShaderStage) (L : Layout) (S : Sizes) (a : Answer) (passed : ℕ)
-      (g : Given ws offsets i (standing ws p)) (es : s ≡ stage_at stage) where
-    pub resources_derived : (m : ℕ) (M : Layout) → m ≡ bits 17 12 k → mode ≡ 1
-        → derive_result a passed M ≡ derive_steps s (resource_table ws offsets) (pairs_of (take m (drop p.pairs ws))) (contents (take n (drop p.resources ws))) L
-        → state a M S ≡ resource_steps (stage_at stage) (eqb mode 1) i.resources (standing ws p).pairs (standing ws p).resources L S
-    unfolding resource_steps
-    resources_derived m M em t h =
-        let e = rw (es, g.table, pairs_standing ws p k m ek em, resources_standing) at h in
-        rw (yes_true (eqb mode 1) (eq-eqb mode 1 t), ← e)
+pub stopped_at : (o : Result Unit Stopped) (s : Stopped) (r : Refusal) → o ≡ Err s → r ≡ s.refusal → stopped_answer o ≡ refusal_answer r
+stopped_at o s r z e = rw (z, e)
 
-    pub resources_provided : (T : Sizes) → (mode ≡ 1 → ⊥)
-        → provide_result a passed T ≡ provide_steps s L (resource_table ws offsets) (contents (take n (drop p.resources ws))) S
-        → state a L T ≡ resource_steps (stage_at stage) (eqb mode 1) i.resources (standing ws p).pairs (standing ws p).resources L S
-    unfolding resource_steps
-    resources_provided T t h =
-        let e = rw (es, g.table, resources_standing) at h in
-        rw (yes_false (eqb mode 1) (ne_eqb mode 1 t), ← e)
+pub stopped_nowhere : (o : Result Unit Stopped) (v : Unit) → o ≡ Ok v → stopped_answer o ≡ accepted
+stopped_nowhere o v z = rw z
 
 -- ---- the judgement, and the list out
 
@@ -93,14 +96,24 @@ module _ (ws offsets : List ℕ) (i : Interface) (e : EntryPoint) (g : Given ws 
   pub table_outputs : every output_encodable e.outputs ≡ true
   table_outputs = g.named.outputs
 
--- the pairs behind the resources
-module _ (derived : Bool) (stage : ShaderStage) (i : Interface) (e : EntryPoint) (L : Layout) (S : Sizes) (a : Answer) (M : Layout) (T : Sizes)
-    (steps : state a M T ≡ resource_steps stage derived i.resources e.pairs e.resources L S) where
-  pub bindings_refused : (a.number ≡ 0 → ⊥) → state a M T ≡ binding_steps derived stage i e L S
-  bindings_refused n = rw (← steps, ne_eqb a.number 0 n)
+-- the resources that a table gives, and the pairs behind them
+module _ (ws offsets : List ℕ) (i : Interface) (e : EntryPoint) (g : Given ws offsets i e) (rs : List Resource) (q : rs ≡ resource_table ws offsets) where
+  as_decoded : rs ≡ i.resources
+  as_decoded = q ∙ g.table
 
-  pub bindings_went : (b : Answer) → a.number ≡ 0 → b ≡ pair_step derived i.resources e M → state b M T ≡ binding_steps derived stage i e L S
-  bindings_went b z h = rw (← steps, eq-eqb a.number 0 z, ← h)
+  pub listed_below : each_below (length rs) e.resources ≡ true
+  listed_below = rw as_decoded g.named.below
+
+  pub named_pairs : pairs_below (length rs) e.pairs ≡ true
+  named_pairs = rw as_decoded g.named.pairs
+
+  module _ (derived : Bool) (stage : ShaderStage) (L : Layout) (S : Sizes) (o : Result Unit Refusal) (M : Layout) (T : Sizes)
+      (steps : state (answer_of o) M T ≡ resource_steps stage derived rs e.pairs e.resources L S) where
+    pub bindings_refused : (r : Refusal) → o ≡ Err r → state (refusal_answer r) M T ≡ binding_steps derived stage i e L S
+    bindings_refused r z = rw (← as_decoded, ← steps, z, number_nonzero r.number)
+
+    pub bindings_went : (b : Answer) (v : Unit) → o ≡ Ok v → b ≡ pair_step derived rs e M → state b M T ≡ binding_steps derived stage i e L S
+    bindings_went b v z h = rw (← as_decoded, ← steps, z, ← h)
 
 -- ---- the entry point
 
@@ -128,25 +141,22 @@ module _ (derived : Bool) (q : Request) (t : Lent) (i : Interface) (e : EntryPoi
 pub room_enough : (ws : List ℕ) (p : EntryParts) (s : Summary) (l : ℕ) → Summed ws p s → 2 + 2 * s.locals ≤ l → out_words (standing ws p) ≤ l
 room_enough ws p s l g h = rw (← out_words_lem ws p s g) h
 
-module _ (c : Call) (i : Interface) (s : ShaderStage) (chosen : Chosen) (es : s ≡ (request_of c.codes).stage) (ec : chosen ≡ find_entry_point s c.name i.entries) where
+module _ (c : Call) (i : Interface) (s : ShaderStage) (chosen : Option ℕ) (es : s ≡ (request_of c.codes).stage) (ec : chosen ≡ find_entry_point s c.name i.entries) where
   on_found : (x : Outcome) → x ≡ on_chosen (derived_of c.codes) (request_of c.codes) c.lent i chosen → x ≡ on_named c i
   on_found x h =
       let f : chosen ≡ find_entry_point (request_of c.codes).stage c.name i.entries = ec ∙ rw es in
       h ∙ ap (on_chosen (derived_of c.codes) (request_of c.codes) c.lent i) f
 
-  pub chosen_at : (k : ℕ) (x : Outcome) → chosen ≡ Ch.At k
+  pub chosen_at : (k : ℕ) (x : Outcome) → chosen ≡ Some k
       → x ≡ on_entry_point (derived_of c.codes) (request_of c.codes) c.lent i (entry_point_nth i.entries k) → x ≡ on_named c i
   chosen_at k x e ex = on_found x (rw e ex)
 
   module _ (a : Answer) (l z o : List ℕ) (el : l ≡ c.lent.layout) (ez : z ≡ c.lent.sizes) (eo : o ≡ c.lent.out) (ea : a ≡ refused 10) where
-    pub chosen_absent : chosen ≡ Ch.Absent → outcome a l z o ≡ on_named c i
+    pub chosen_absent : chosen ≡ None → outcome a l z o ≡ on_named c i
     chosen_absent e = on_found (outcome a l z o) (rw (e, ea, el, ez, eo))
 
-    pub chosen_several : chosen ≡ Ch.Several → outcome a l z o ≡ on_named c i
-    chosen_several e = on_found (outcome a l z o) (rw (e, ea, el, ez, eo))
-
-pub chosen_below : (chosen : Chosen) (k n : ℕ) → chosen ≡ Ch.At k → chosen_in chosen n ≡ true → k < n
-chosen_below chosen k n ec h = ltb-true k n (rw ec at h)
+pub chosen_below : (chosen : Option ℕ) (k n : ℕ) → chosen ≡ Some k → IfSome chosen (λ i. i < n) → k < n
+chosen_below chosen k n ec h = rw ec at h
 
 -- ---- the call
 

@@ -1,6 +1,7 @@
 -- The ways on through the steps behind the resources.
 use Rattle.std.proofs.Common.{Option, Some, None}
-use Prim.Native.Nat.{ℕ, ◌+◌, ◌/◌, ◌%◌, ◌<◌}
+use native.Mathlib.Omega.{arith}
+use Prim.Native.Nat.{ℕ, ◌+◌, ◌-◌, ◌/◌, ◌%◌, ◌<◌}
 use mathlib.Core.Path.{◌≡◌, refl, ap, ◌∙◌}
 use mathlib.Core.Bool.{Bool, true, false}
 use mathlib.Core.List.{List}
@@ -35,8 +36,7 @@ use Rattle.output_steps.specs.ListOut.{stage_out}
 use Rattle.input_steps.specs.declared.types.InputWalk.{InputWalk}
 use Rattle.input_steps.specs.declared.types.Walked.{Walked}
 use Rattle.resource_steps.specs.Resources.{pair_uses}
-use Rattle.resource_steps.specs.Inner.Given.{resource_table, pairs_below}
-use Rattle.stage.specs.Inner.Given.{Given}
+use Rattle.resource_steps.specs.Inner.Given.{pairs_below}
 use Rattle.stage.specs.Inner.Judging.{judged_inputs, stop_at, judged}
 use Rattle.stage.specs.Stage.{pair_step, input_walk, behind_inputs, behind_pairs, handed_out}
 use Rattle.interface.specs.declared.types.EntryPointMeshInfo.{EntryPointMeshInfo}
@@ -177,18 +177,18 @@ module _ (ws : List ℕ) (p : EntryParts) where
   workgroup_there a b c x y z ea ex eb ey ec ez = rw (← ea, ← eb, ← ec, ← ex, ← ey, ← ez)
 
 -- the pairs of an entry point that stands at positions
-pub pairs_standing : (ws : List ℕ) (p : EntryParts) (k n : ℕ) → k ≡ word_at ws p.counts → n ≡ bits 17 12 k
-    → pairs_of (take n (drop p.pairs ws)) ≡ (standing ws p).pairs
-unfolding standing
-pairs_standing ws p k n ek en = rw (en, ek)
+module _ (ws : List ℕ) (p : EntryParts) (w : Placed ws p) where
+  pub pairs_standing : pairs_of (take (p.inputs - p.pairs) (drop p.pairs ws)) ≡ (standing ws p).pairs
+  unfolding standing
+  pairs_standing = let n : p.inputs - p.pairs ≡ bits 17 12 (word_at ws p.counts) = omega (arith, w.pairs) in rw n
 
-module _ (ws offsets : List ℕ) (i : Interface) (p : EntryParts) (k n : ℕ) (g : Given ws offsets i (standing ws p)) (ek : k ≡ word_at ws p.counts) (en : n ≡ bits 17 12 k) where
-  pub pairs_given : pairs_below (length (resource_table ws offsets)) (pairs_of (take n (drop p.pairs ws))) ≡ true
-  pairs_given = rw (pairs_standing ws p k n ek en, g.table) g.named.pairs
+  pub pairs_given : (rs : List Resource) → pairs_below (length rs) (standing ws p).pairs ≡ true
+      → pairs_below (length rs) (pairs_of (take (p.inputs - p.pairs) (drop p.pairs ws))) ≡ true
+  pairs_given rs h = rw pairs_standing h
 
-  pub pairs_provided : (L : Layout) (derived : Bool) (r : Answer) → derived ≡ false → r ≡ pair_uses L (resource_table ws offsets) (pairs_of (take n (drop p.pairs ws)))
-      → r ≡ pair_step derived i.resources (standing ws p) L
-  pairs_provided L derived r d h = rw (yes_false derived d, ← g.table) (h ∙ rw (pairs_standing ws p k n ek en))
+  pub pairs_provided : (L : Layout) (rs : List Resource) (derived : Bool) (r : Answer) → derived ≡ false
+      → r ≡ pair_uses L rs (pairs_of (take (p.inputs - p.pairs) (drop p.pairs ws))) → r ≡ pair_step derived rs (standing ws p) L
+  pairs_provided L rs derived r d h = rw (yes_false derived d) (h ∙ rw pairs_standing)
 
 pub pairs_derived : (L : Layout) (rs : List Resource) (e : EntryPoint) (derived : Bool) (r : Answer) → r ≡ accepted → derived ≡ true → r ≡ pair_step derived rs e L
 pairs_derived L rs e derived r h d = rw (yes_true derived d) h

@@ -4,7 +4,10 @@ use mathlib.Core.Path.{◌≡◌, sym, ap, ◌∙◌}
 use mathlib.Core.Bool.{Bool, true, false, ◌&&◌}
 use mathlib.Core.List.{List}
 use native.Mathlib.Omega.{arith}
-use borrow.Author.Tests.{eq-eqb, ne_eqb}
+use Rattle.std.proofs.Common.{Result, Ok, Err}
+use Rattle.word.specs.Refusals.{answer_of, refusal_answer}
+use Rattle.word.specs.declared.refusal.Refusal.{Refusal}
+use Rattle.word.proofs.Both.{number_nonzero}
 use Rattle.word.specs.declared.answer.Answer.{Answer}
 use Rattle.word.specs.Answers.{refused, both}
 use Rattle.word.proofs.Truth.{by_test}
@@ -43,29 +46,29 @@ unfolding stage_body judgement
 body_is derived q i e inputs L S =
     two_behind (resource_steps q.stage derived i.resources e.pairs e.resources L S) (λ L. pair_step derived i.resources e L) (behind_pairs q i e inputs)
 
-module _ (derived : Bool) (q : Request) (t : Lent) (i : Interface) (e : EntryPoint) (a : Answer) (l s : List ℕ)
-    (steps : state a (decode_layout l) (decode_sizes s) ≡ binding_steps derived q.stage i e (decode_layout t.layout) (decode_sizes t.sizes))
+module _ (derived : Bool) (q : Request) (t : Lent) (i : Interface) (e : EntryPoint) (bindings : Result Unit Refusal) (l s : List ℕ)
+    (steps : state (answer_of bindings) (decode_layout l) (decode_sizes s) ≡ binding_steps derived q.stage i e (decode_layout t.layout) (decode_sizes t.sizes))
     (fl : layout_well_formed l ≡ true) (fs : sizes_well_formed s ≡ true) where
   abbrev body : State
   body = stage_body derived q i e (decode_stage t.inputs) (decode_layout t.layout) (decode_sizes t.sizes)
 
-  body_on : body ≡ and_then (state a (decode_layout l) (decode_sizes s)) (λ L S. state (behind_pairs q i e (decode_stage t.inputs)) L S)
+  body_on : body ≡ and_then (state (answer_of bindings) (decode_layout l) (decode_sizes s)) (λ L S. state (behind_pairs q i e (decode_stage t.inputs)) L S)
   body_on =
       body_is derived q i e (decode_stage t.inputs) (decode_layout t.layout) (decode_sizes t.sizes)
       ∙ ap (λ (x : State). and_then x (λ L S. state (behind_pairs q i e (decode_stage t.inputs)) L S)) (sym steps)
 
-  pub body_refused : (o : List ℕ) → o ≡ t.out → (a.number ≡ 0 → ⊥) → outcome a l s o ≡ run_body derived q t i e
+  pub body_refused : (r : Refusal) (a : Answer) (o : List ℕ) → o ≡ t.out → bindings ≡ Err r → a ≡ refusal_answer r → outcome a l s o ≡ run_body derived q t i e
   unfolding run_body finish
-  body_refused o eo n =
-      rw (eo, body_on, ne_eqb a.number 0 n, ne_eqb a.number 0 n, layouts.encode_decode l fl, sizes.encode_decode s fs)
+  body_refused r a o eo z h =
+      rw (eo, h, body_on, z, number_nonzero r.number, number_nonzero r.number, layouts.encode_decode l fl, sizes.encode_decode s fs)
 
   -- by a request that was read from the codes
-  pub body_went : (r : Request) (b : Answer) (o : List ℕ) → a.number ≡ 0 → r ≡ q → b ≡ behind_pairs r i e (decode_stage t.inputs)
+  pub body_went : (r : Request) (b : Answer) (o : List ℕ) (v : Unit) → bindings ≡ Ok v → r ≡ q → b ≡ behind_pairs r i e (decode_stage t.inputs)
       → o ≡ handed_out b r.stage e (input_walk r e (decode_stage t.inputs)).walk t.out → outcome b l s o ≡ run_body derived q t i e
   unfolding run_body finish
-  body_went r b o z er eb eo =
+  body_went r b o v z er eb eo =
       let k : b ≡ behind_pairs q i e (decode_stage t.inputs) = rw (← er) eb in
-      rw (body_on, eq-eqb a.number 0 z, ← k, layouts.encode_decode l fl, sizes.encode_decode s fs, ← er, ← eo)
+      rw (body_on, z, ← k, layouts.encode_decode l fl, sizes.encode_decode s fs, ← er, ← eo)
 
 -- ---- the refusals in front of it
 

@@ -1,5 +1,5 @@
 -- One stage check, whole: 'A stage: 1, 2, 3, 10, 4; then, first failure ending it'.
-use Rattle.std.specs.Prelude.{ℕ, ◌+◌, ◌*◌, Bool, ◌&&◌, List, eqb, ltb, length}
+use Rattle.std.specs.Prelude.{ℕ, ◌+◌, ◌*◌, Bool, ◌&&◌, List, eqb, ltb, length, Option, Some, None}
 use Rattle.word.specs.Choice.{pick, yes}
 use Rattle.word.specs.Numbers as Number
 use Rattle.word.specs.Answers.{accepted, refused, both}
@@ -16,8 +16,6 @@ use Rattle.interface.specs.Format.{Decoded, Damaged, Malformed, Pack, decode, de
 use Rattle.entry_points.specs.Rules.{find_entry_point, find_number}
 use Rattle.interface.specs.declared.types.ShaderStage.{ShaderStage}
 use Rattle.interface.specs.declared.types.Limits.{Limits}
-use Rattle.entry_points.specs.declared.choose.Chosen.{Chosen}
-use Rattle.entry_points.specs.declared.choose.Chosen.TheVariants as Ch
 use Rattle.input_steps.specs.Workgroup.{workgroup_step}
 use Rattle.input_steps.specs.Inputs.{input_steps, start_walk}
 use Rattle.output_steps.specs.Outputs.{slots_step, local_count}
@@ -109,10 +107,9 @@ run_body derived q t i e =
 abbrev pub on_entry_point : Bool → Request → Lent → Interface → EntryPoint → Outcome
 on_entry_point derived q t i e = pick (ltb (length t.out) (out_words e)) (unchanged t Number.short_out) (run_body derived q t i e)
 
-abbrev pub on_chosen : Bool → Request → Lent → Interface → Chosen → Outcome
-on_chosen derived q t i (Ch.At position) = on_entry_point derived q t i (entry_point_nth i.entries position)
-on_chosen derived q t i Ch.Absent = unchanged t (find_number Ch.Absent)
-on_chosen derived q t i Ch.Several = unchanged t (find_number Ch.Several)
+abbrev pub on_chosen : Bool → Request → Lent → Interface → Option ℕ → Outcome
+on_chosen derived q t i (Some position) = on_entry_point derived q t i (entry_point_nth i.entries position)
+on_chosen derived q t i None = unchanged t (find_number None)
 
 -- the entry point of the call's stage and name
 abbrev pub on_named : Call → Interface → Outcome

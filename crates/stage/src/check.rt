@@ -11,7 +11,9 @@ ghost use Rattle.word.specs.Lists.{every};
 ghost use Rattle.output_steps.specs.Inner.Given.{Summed};
 ghost use Rattle.output_steps.specs.Inner.ListOut.{output_encodable};
 ghost use Rattle.stage.specs.Meaning.{lent, call, outcome};
+ghost use Rattle.word.specs.Refusals.{answer_of};
 ghost use Rattle.resource_steps.specs.Meaning.{state};
+ghost use Rattle.resource_steps.specs.Inner.Given.{each_below};
 ghost use Rattle.resource_steps.specs.Resources.{resource_steps};
 ghost use Rattle.stage.specs.Inner.Given.{Given};
 ghost use Rattle.stage.specs.Inner.Judging.{binding_steps};
@@ -19,8 +21,7 @@ ghost use Rattle.stage.specs.Stage.{input_walk, behind_pairs, request_of, derive
 
 use crate::judge::{judge, pair_step};
 use crate::types::Codes;
-use entry_points::choose::{Chosen, find_entry_point};
-use interface::parts::{pairs_counted, resources_counted};
+use entry_points::module::Module;
 use interface::reads::{entry_parts, stage_at};
 use interface::types::EntryParts;
 use layouts::layout::layout_well_formed;
@@ -30,59 +31,41 @@ use output_steps::types::{Request, Summary};
 use pack_check::check_pack::index_pack;
 use resource_steps::derive::derive_steps;
 use resource_steps::provide::provide_steps;
+use resource_steps::table::ResourceTable;
 use sizes::sizes::sizes_well_formed;
 use stage_lists::stage_io::stage_well_formed;
 use word::answer::Answer;
 use word::numbers;
+use word::refusal::Refusal;
 
 // The resources of an entry point against the layout and the sizes.
 fn check_resources(
     pack: &[u32],
     parts: EntryParts,
-    offsets: &[u16],
+    resources: &ResourceTable,
     entries: &mut [u8; 128],
     layout: &mut [u32],
     sizes: &mut [u32],
     codes: Codes,
-) -> Answer
+) -> Result<(), Refusal>
     requires placed { Placed pack.now parts }
-    requires layout_value { (layout_well_formed layout.old ≡ true) × (sizes_well_formed sizes.old ≡ true) }
-    requires given { Given pack.now offsets.now (interface_of (decode pack.now)) (standing pack.now parts) }
-    ensures sizes_after { state result (decode_layout layout.new) (decode_sizes sizes.new)
-        ≡ resource_steps (request_of codes).stage (derived_of codes) (interface_of (decode pack.now)).resources
+    requires well_formed { (layout_well_formed layout.old ≡ true) × (sizes_well_formed sizes.old ≡ true) }
+    requires listed_below { each_below (length resources.now) (standing pack.now parts).resources ≡ true }
+    ensures state_after { state (answer_of result) (decode_layout layout.new) (decode_sizes sizes.new)
+        ≡ resource_steps (request_of codes).stage (derived_of codes) resources.now
         (standing pack.now parts).pairs (standing pack.now parts).resources
         (decode_layout layout.old) (decode_sizes sizes.old) }
-    ensures layout_after { (layout_well_formed layout.new ≡ true) × (sizes_well_formed sizes.new ≡ true) }
+    ensures well_formed_after { (layout_well_formed layout.new ≡ true) × (sizes_well_formed sizes.new ≡ true) }
 {
-    let at = parts.counts;
-    let counts = pack[at];
-    let n = resources_counted(counts) as u32;
     let stage = stage_at(codes.stage);
+    let listed = &pack[parts.resources..parts.pairs];
     if codes.mode == 1 {
-        let pairs = pairs_counted(counts);
-        let derived = derive_steps(
-            pack,
-            offsets,
-            parts.resources,
-            n,
-            parts.pairs,
-            pairs,
-            stage,
-            layout,
-        );
-        return derived.answer;
+        let pairs = &pack[parts.pairs..parts.inputs];
+        derive_steps(resources, listed, pairs, stage, layout)?;
+        return Ok(());
     }
-    let provided = provide_steps(
-        pack,
-        offsets,
-        parts.resources,
-        n,
-        stage,
-        entries,
-        layout,
-        sizes,
-    );
-    provided.answer
+    provide_steps(resources, listed, stage, entries, layout, sizes)?;
+    Ok(())
 }
 
 // The resources, and the pairs where the layout is provided.
@@ -93,21 +76,21 @@ fn check_bindings(
     layout: &mut [u32],
     sizes: &mut [u32],
     codes: Codes,
-) -> Answer
+) -> Result<(), Refusal>
     requires placed { Placed pack.now parts }
-    requires layout_value { (layout_well_formed layout.old ≡ true) × (sizes_well_formed sizes.old ≡ true) }
+    requires well_formed { (layout_well_formed layout.old ≡ true) × (sizes_well_formed sizes.old ≡ true) }
     requires given { Given pack.now offsets.now (interface_of (decode pack.now)) (standing pack.now parts) }
-    ensures sizes_after { state result (decode_layout layout.new) (decode_sizes sizes.new)
+    ensures state_after { state (answer_of result) (decode_layout layout.new) (decode_sizes sizes.new)
         ≡ binding_steps (derived_of codes) (request_of codes).stage (interface_of (decode pack.now)) (standing pack.now parts)
         (decode_layout layout.old) (decode_sizes sizes.old) }
-    ensures layout_after { (layout_well_formed layout.new ≡ true) × (sizes_well_formed sizes.new ≡ true) }
+    ensures well_formed_after { (layout_well_formed layout.new ≡ true) × (sizes_well_formed sizes.new ≡ true) }
 {
+    let resources = ResourceTable::new(pack, offsets);
     let mut entries: [u8; 128] = [0; 128];
-    let resources = check_resources(pack, parts, offsets, &mut entries, layout, sizes, codes);
-    if resources.number != 0 {
-        return resources;
-    }
-    pair_step(pack, parts, offsets, &entries, layout, codes.mode == 1)
+    check_resources(
+        pack, parts, &resources, &mut entries, layout, sizes, codes,
+    )?;
+    pair_step(pack, parts, &resources, &entries, layout, codes.mode == 1)
 }
 
 // The steps behind the pairs, and the list out where all of them passed.
@@ -168,9 +151,8 @@ fn run_body(
         (lent layout.old sizes.old inputs.now out.old)
         (interface_of (decode pack.now)) (standing pack.now parts) }
 {
-    let bindings = check_bindings(pack, parts, offsets, layout, sizes, codes);
-    if bindings.number != 0 {
-        return bindings;
+    if let Err(refusal) = check_bindings(pack, parts, offsets, layout, sizes, codes) {
+        return refusal.into();
     }
     judge_out(pack, parts, outputs, inputs, out, request_of(codes))
 }
@@ -205,6 +187,7 @@ fn on_entry_point(
 }
 
 // The entry point of a stage and a name, if there is one.
+#[tactic(auto, using(crate::proofs::CheckLaws::chosen_below, crate::proofs::CheckLaws::chosen_at, crate::proofs::CheckLaws::chosen_absent))]
 fn on_named(
     pack: &[u32],
     offsets: &[u16],
@@ -221,13 +204,13 @@ fn on_named(
     ensures { outcome result layout.new sizes.new out.new ≡ on_named (call pack.now name.now codes
         (lent layout.old sizes.old inputs.now out.old)) (interface_of (decode pack.now)) }
 {
-    match find_entry_point(pack, heads, stage_at(codes.stage), name) {
-        Chosen::At { position } => on_entry_point(
-            pack, offsets, heads, position, layout, sizes, inputs, out, codes,
-        ),
-        Chosen::Absent => Answer::refused(numbers::ENTRY_ABSENT),
-        Chosen::Several => Answer::refused(numbers::ENTRY_ABSENT),
-    }
+    let module = Module { pack, heads };
+    let Some(position) = module.find_entry_point(stage_at(codes.stage), name) else {
+        return Answer::refused(numbers::ENTRY_ABSENT);
+    };
+    on_entry_point(
+        pack, offsets, heads, position, layout, sizes, inputs, out, codes,
+    )
 }
 
 // Whether the codes of a call are in their ranges.
@@ -310,9 +293,8 @@ pub fn check_stage(
 {
     let mut offsets: [u16; 128] = [0; 128];
     let mut heads: [u16; 16] = [0; 16];
-    let refusal = index_pack(pack, &mut offsets, &mut heads);
-    if refusal != 0 {
-        return Answer::refused(refusal);
+    if let Err(error) = index_pack(pack, &mut offsets, &mut heads) {
+        return Refusal::from(error).into();
     }
     check_call(
         pack, &offsets, &heads, layout, sizes, inputs, out, name, codes,

@@ -1,5 +1,6 @@
 // The steps behind the resources: they alter no list.
-ghost use Rattle.std.specs.Prelude.{◌≡◌, true, false, ◌+◌};
+ghost use Rattle.std.specs.Prelude.{◌≡◌, true, length, IfOk};
+ghost use Rattle.word.specs.Refusals.{answer_of};
 ghost use Rattle.layouts.specs.Format.{layout_well_formed, decode_layout};
 ghost use Rattle.stage_lists.specs.Format.{out_well_formed, decode_stage};
 ghost use Rattle.interface.specs.Format.{decode, decoded_number, interface_of};
@@ -7,22 +8,21 @@ ghost use Rattle.interface.specs.Inner.Reads.{standing};
 ghost use Rattle.interface.specs.Inner.Parts.{Placed};
 ghost use Rattle.output_steps.specs.Inner.Given.{Summed};
 ghost use Rattle.input_steps.specs.Workgroup.{workgroup_step};
-ghost use Rattle.input_steps.specs.Inputs.{walked, start_walk};
-ghost use Rattle.stage.specs.Inner.Given.{Given};
-ghost use Rattle.stage.specs.Inner.Judging.{judged_inputs, judged};
-ghost use Rattle.stage.specs.Stage.{pair_step, behind_inputs};
+ghost use Rattle.resource_steps.specs.Inner.Given.{pairs_below};
+ghost use Rattle.stage.specs.Stage.{pair_step, input_walk, behind_inputs, behind_pairs};
 
 use input_steps::inputs::input_steps;
-use input_steps::types::{InputWalk, Walked};
+use input_steps::types::InputWalk;
 use input_steps::workgroup::workgroup_step;
-use interface::parts::{inputs_counted, pairs_counted};
+use interface::parts::inputs_counted;
 use interface::reads::{limits, topology_at};
 use interface::types::{EntryParts, EntryPointMeshInfo, ShaderStage, WorkgroupSize};
 use last_steps::last::last_step;
 use output_steps::outputs::slots_step;
 use output_steps::types::{Request, Summary};
 use resource_steps::pairs::pair_uses;
-use word::answer::Answer;
+use resource_steps::table::ResourceTable;
+use word::refusal::Refusal;
 use word::{content, word};
 
 // The mesh record of an entry point.
@@ -65,6 +65,7 @@ fn payload_of(pack: &[u32], parts: EntryParts) -> Option<u32>
 }
 
 // Places, outputs and what is judged last, once the inputs passed.
+#[tactic(auto, unfolding(crate::specs::Stage::behind_inputs, last_steps::specs::Last::last_step))]
 fn after_inputs(
     pack: &[u32],
     parts: EntryParts,
@@ -72,109 +73,69 @@ fn after_inputs(
     inputs: &[u32],
     request: Request,
     walk: InputWalk,
-) -> Answer
+) -> Result<(), Refusal>
     requires { (decoded_number (decode pack.now) ≡ 0) × Placed pack.now parts × Summed pack.now parts outputs }
-    ensures { result ≡ behind_inputs request (interface_of (decode pack.now)).limits
+    ensures { answer_of result ≡ behind_inputs request (interface_of (decode pack.now)).limits
         (standing pack.now parts) (decode_stage inputs.now) walk }
 {
-    let slots = slots_step(pack, parts, limits(pack), outputs, request, walk.locals);
-    if slots.number != 0 {
-        return slots;
-    }
-    let mesh = mesh_of(pack, parts);
-    let payload = payload_of(pack, parts);
-    let input = stage_lists::stage_io::payload(inputs);
-    let written = stage_lists::stage_io::primitive_index(inputs);
-    last_step(request, limits(pack), mesh, payload, input, written, walk)
-}
-
-// The inputs, and what follows them.
-fn judge_inputs(
-    pack: &[u32],
-    parts: EntryParts,
-    outputs: Summary,
-    inputs: &[u32],
-    request: Request,
-) -> Walked
-    requires pack_value { (decoded_number (decode pack.now) ≡ 0) × Placed pack.now parts × Summed pack.now parts outputs }
-    requires inputs_value { out_well_formed inputs.now ≡ true }
-    ensures { result ≡ judged_inputs request (interface_of (decode pack.now)).limits
-        (standing pack.now parts) (decode_stage inputs.now) }
-{
-    let counts = parts.counts;
-    let n = inputs_counted(pack[counts]);
-    let stage = request.stage;
-    let w = input_steps(pack, parts.inputs, n, inputs, stage);
-    let answer = w.answer;
-    if answer.number != 0 {
-        return w;
-    }
-    let walk = w.walk;
-    let answer = after_inputs(pack, parts, outputs, inputs, request, walk);
-    Walked { walk, answer }
+    let limits = limits(pack);
+    slots_step(pack, parts, limits, outputs, request, walk.locals)?;
+    last_step(
+        request,
+        limits,
+        mesh_of(pack, parts),
+        payload_of(pack, parts),
+        stage_lists::stage_io::payload(inputs),
+        stage_lists::stage_io::primitive_index(inputs),
+        walk,
+    )
 }
 
 // Pairs, where the layout is provided.
 pub(crate) fn pair_step(
     pack: &[u32],
     parts: EntryParts,
-    offsets: &[u16],
+    resources: &ResourceTable,
     entries: &[u8; 128],
     layout: &[u32],
     derived: bool,
-) -> Answer
+) -> Result<(), Refusal>
     requires placed { Placed pack.now parts × (layout_well_formed layout.now ≡ true) }
-    requires given { Given pack.now offsets.now (interface_of (decode pack.now)) (standing pack.now parts) }
-    ensures { result ≡ pair_step derived (interface_of (decode pack.now)).resources
-        (standing pack.now parts) (decode_layout layout.now) }
+    requires pairs_below { pairs_below (length resources.now) (standing pack.now parts).pairs ≡ true }
+    ensures { answer_of result ≡ pair_step derived resources.now (standing pack.now parts) (decode_layout layout.now) }
 {
     if derived {
-        return Answer::accepted();
+        return Ok(());
     }
-    let counts = parts.counts;
-    let n = pairs_counted(pack[counts]);
-    pair_uses(layout, pack, offsets, entries, parts.pairs, n)
+    let pairs = &pack[parts.pairs..parts.inputs];
+    pair_uses(layout, resources, entries, pairs)
 }
 
 // The workgroup size of an entry point against the limits of its stage.
-fn size_step(pack: &[u32], parts: EntryParts, stage: ShaderStage) -> Answer
+fn size_step(pack: &[u32], parts: EntryParts, stage: ShaderStage) -> Result<(), Refusal>
     requires { (decoded_number (decode pack.now) ≡ 0) × Placed pack.now parts }
-    ensures { result ≡ workgroup_step stage (standing pack.now parts).workgroup (interface_of (decode pack.now)).limits }
+    ensures { answer_of result ≡ workgroup_step stage (standing pack.now parts).workgroup (interface_of (decode pack.now)).limits }
 {
-    let size = workgroup_of(pack, parts);
-    workgroup_step(stage, size, limits(pack))
+    workgroup_step(stage, workgroup_of(pack, parts), limits(pack))
 }
 
-// All steps behind the pairs: the walk over the inputs, and the answer.
+// All steps behind the pairs: the walk over the inputs, where each of them passed.
 pub(crate) fn judge(
     pack: &[u32],
     parts: EntryParts,
     outputs: Summary,
     inputs: &[u32],
     request: Request,
-) -> Walked
-    requires pack_value { (decoded_number (decode pack.now) ≡ 0) × Placed pack.now parts × Summed pack.now parts outputs }
-    requires inputs_value { out_well_formed inputs.now ≡ true }
-    ensures { result ≡ judged request (interface_of (decode pack.now)).limits
-        (standing pack.now parts) (decode_stage inputs.now) }
+) -> Result<InputWalk, Refusal>
+    requires in_pack { (decoded_number (decode pack.now) ≡ 0) × Placed pack.now parts × Summed pack.now parts outputs }
+    requires well_formed { out_well_formed inputs.now ≡ true }
+    ensures answer { answer_of result ≡ behind_pairs request (interface_of (decode pack.now)) (standing pack.now parts) (decode_stage inputs.now) }
+    ensures walk { IfOk result (λ w. w ≡ (input_walk request (standing pack.now parts) (decode_stage inputs.now)).walk) }
 {
-    let stage = request.stage;
-    let size = size_step(pack, parts, stage);
-    if size.number != 0 {
-        return stopped(size);
-    }
-    judge_inputs(pack, parts, outputs, inputs, request)
-}
-
-// A walk that was not begun.
-fn stopped(answer: Answer) -> Walked
-    ensures { result ≡ walked start_walk answer }
-{
-    let walk = InputWalk {
-        primitive_index: false,
-        draw_index: false,
-        per_vertex: false,
-        locals: 0,
-    };
-    Walked { walk, answer }
+    size_step(pack, parts, request.stage)?;
+    let mut walk = InputWalk::START;
+    let n = inputs_counted(pack[parts.counts]);
+    input_steps(pack, parts.inputs, n, inputs, request.stage, &mut walk)?;
+    after_inputs(pack, parts, outputs, inputs, request, walk)?;
+    Ok(walk)
 }

@@ -4,7 +4,7 @@
 // Each answer is given by value and by the rules on words, and has a question mark where the two differ.
 #![tactic(auto)]
 
-ghost use Rattle.std.specs.Prelude.{◌+◌, ◌<◌, ◌^◌};
+ghost use Rattle.std.specs.Prelude.{◌+◌, ◌<◌, ◌≤◌, ◌^◌};
 
 use binding_rules::check_words::{check_words, derive_words};
 use bindings::sizes::word_size;
@@ -50,14 +50,14 @@ fn put(rt: &impl Print, number: u32) -> io::Result<()> {
 
 // Whether the words of a resource and of an entry give the number that was given by value; 2 and 3 are of words that are none.
 fn words_agree(number: u32, resource: &[u32], w: u32, least: u32) -> bool {
-    if number == 2 {
-        return true;
-    }
-    if number == 3 {
+    if number == 2 || number == 3 {
         return true;
     }
     let size = word_size(word(resource, 2));
-    words_use(word(resource, 1), size, w, word_size(least)) == number
+    match words_use(word(resource, 1), size, w, word_size(least)) {
+        Ok(()) => number == 0,
+        Err(error) => error.number() == number,
+    }
 }
 
 fn check(
@@ -87,17 +87,19 @@ fn columns(rt: &impl Print, resource: &[u32], first: u32, n: u32, least: u32) ->
     Ok(())
 }
 
-// Whether the words of a resource give the words that were derived by value; where none can be, 0 for the type.
+// Whether the words of a resource give the words that were derived by value, or the number of the refusal.
 fn derived_agree(answer: Answer, resource: &[u32], named: bool) -> bool {
     let w = word(resource, 1);
-    if answer.number != 0 {
-        return derived_word(w, named) == 0;
+    match derived_word(w, named) {
+        Ok(ty) => {
+            let least = derived_least(w, word_size(word(resource, 2)));
+            answer.number == 0
+                && ty == answer.first
+                && word::kind(answer.second) == 6
+                && least == word_size(answer.second)
+        }
+        Err(error) => error.number() == answer.number,
     }
-    if word::kind(answer.second) != 6 {
-        return false;
-    }
-    let size = word_size(word(resource, 2));
-    derived_word(w, named) == answer.first && derived_least(w, size) == word_size(answer.second)
 }
 
 fn derived(rt: &impl Print, resource: &[u32], named: bool) -> io::Result<()> {
@@ -173,13 +175,20 @@ fn formats(rt: &impl Print) -> io::Result<()> {
     end_line(rt)
 }
 
+// A bit of a type word's content.
+fn bit(place: u32) -> u32
+    requires { place < 23 }
+    ensures { result ≤ 2 ^ 22 }
+{
+    1 << place
+}
+
 // Each bit of a type word alone, in a resource of two or three words and in an entry without and with a least size.
 fn bits(rt: &impl Print, code: u32) -> io::Result<()>
     requires { code < 16 }
 {
-    let mut bit: u32 = 1;
-    while bit < 0x80_0000 {
-        let w = 0x80_0000 * code + bit;
+    for place in 0..23 {
+        let w = 0x80_0000 * code + bit(place);
         let short = [PLACE, 0x8000_0000 + w];
         check(rt, &short, PLACE, 0x9000_0000, NONE, SEEN)?;
         let long = [PLACE, 0x8000_0000 + w, SIZE];
@@ -187,7 +196,6 @@ fn bits(rt: &impl Print, code: u32) -> io::Result<()>
         let uniform = [PLACE, 0x8000_0000, SIZE];
         check(rt, &uniform, PLACE, 0x9000_0000 + w, NONE, SEEN)?;
         check(rt, &uniform, PLACE, 0x9000_0000 + w, SIZE, SEEN)?;
-        bit *= 2;
     }
     end_line(rt)
 }

@@ -8,6 +8,7 @@
 ghost use Rattle.std.specs.Prelude.{◌≡◌, ◌<◌, ◌≤◌, length};
 
 use std::io;
+use word::refusal::Refusal;
 
 // The pack has 83 words; zeros stand behind it.
 const PACK: [u32; 96] = [
@@ -130,7 +131,10 @@ fn answer_on(pack: &[u32]) -> u32 {
     if pack_check::check_pack::index_pack(pack, &mut offsets, &mut heads) != answer {
         return 9;
     }
-    answer
+    match answer {
+        Ok(()) => 0,
+        Err(error) => Refusal::from(error).number.code(),
+    }
 }
 
 // The answer on the pack with some bits of a word flipped.

@@ -10,6 +10,7 @@ use stage::types::Codes;
 use std::io;
 use std::io::Read;
 use test_text::{print, read};
+use word::answer::Answer;
 use word::word;
 
 // Words for the longest lent list, a little past what document 01 takes.
@@ -143,7 +144,7 @@ fn pack_case(
     if word(head, 0) == 0 {
         stage_case(rt, input, pack, head)?;
     } else {
-        print::answer(rt, finalize_entry_point_name(pack, word(head, 7)))?;
+        print::answer(rt, Answer::from(finalize_entry_point_name(pack, word(head, 7))))?;
     }
     print::end(rt)
 }

@@ -7,8 +7,8 @@ use mathlib.Core.List.{List, [], ◌∷◌}
 use borrow.Author.Tests.{eq-eqb, ne_eqb, not-true, not-false}
 use lib.ListN.{get_or, length, drop, length-drop}
 use Rattle.word.specs.Words.{word_at, of_kind}
-use Rattle.word.specs.Parse.{fault, got, next, one, from, behind, rest_at}
-use Rattle.word.proofs.Parse.{rest_from, first_of, others_of, one_fault, one_got, one_in}
+use Rattle.word.specs.Parse.{fault, got, next, one, nowhere, from, behind}
+use Rattle.word.proofs.Parse.{first_of, others_of, one_fault, one_got, one_in}
 use Rattle.varying.specs.Format.{location_well_formed}
 use Rattle.type_lists.specs.Format.{bound_well_formed, built_in_bound, located, read_binding}
 
@@ -53,14 +53,13 @@ module _ (ws : List ℕ) (at w : ℕ) (e : w ≡ word_at ws at) where
     local_now t = rw (head_is, ← k) t
 
     module _ (v : ℕ) (b : Bool) (f : v ≡ word_at ws (at + 1)) (g : b ≡ bound_well_formed v) where
-      pub local_bad : x ≡ true → not b ≡ true → rest_at ws 0 ≡ behind (read_binding (drop at ws))
+      pub local_bad : x ≡ true → not b ≡ true → nowhere ≡ behind (read_binding (drop at ws))
       local_bad t n = rw (is_local_lem (drop at ws) (local_now t), others_of ws at, one_fault bound_well_formed ws (at + 1) v b f g (not-true b n))
 
-      pub local_good : x ≡ true → not b ≡ false → rest_at ws (at + 2) ≡ behind (read_binding (drop at ws))
+      pub local_good : x ≡ true → not b ≡ false → from (drop (at + 2) ws) ≡ behind (read_binding (drop at ws))
       local_good t n =
           let m : at + 1 + 1 ≡ at + 2 = omega arith in
           rw (is_local_lem (drop at ws) (local_now t), others_of ws at, one_got bound_well_formed ws (at + 1) v b f g (not-false b n) bound_zero, m)
-          (rest_from ws (at + 2) (omega arith))
 
       pub local_in : not b ≡ false → at + 2 ≤ length ws
       local_in n = omega (arith, one_in bound_well_formed ws (at + 1) v b f g (not-false b n) bound_zero)
@@ -69,18 +68,18 @@ module _ (ws : List ℕ) (at w : ℕ) (e : w ≡ word_at ws at) where
     other_now t = rw (head_is, ← k) t
 
     module _ (y : Bool) (g : y ≡ built_in_bound w) where
-      pub built_in_good : x ≡ false → y ≡ true → rest_at ws (at + 1) ≡ behind (read_binding (drop at ws))
+      pub built_in_good : x ≡ false → y ≡ true → from (drop (at + 1) ws) ≡ behind (read_binding (drop at ws))
       built_in_good t z =
-          rest_from ws (at + 1) (omega arith) ∙ sym (is_built_in (drop at ws) (other_now t) (rw (head_is, ← g) z) ∙ rw (others_of ws at))
+          sym (is_built_in (drop at ws) (other_now t) (rw (head_is, ← g) z) ∙ rw (others_of ws at))
 
       pub built_in_in : y ≡ true → at + 1 ≤ length ws
       built_in_in z = word_in (λ q. false≢true (rw q at (sym g ∙ z)))
 
-      pub none_good : x ≡ false → y ≡ false → w ≡ of_kind 6 0 → rest_at ws (at + 1) ≡ behind (read_binding (drop at ws))
+      pub none_good : x ≡ false → y ≡ false → w ≡ of_kind 6 0 → from (drop (at + 1) ws) ≡ behind (read_binding (drop at ws))
       none_good t z q =
-          rest_from ws (at + 1) (omega arith) ∙ sym (is_none (drop at ws) (other_now t) (rw (head_is, ← g) z) (head_is ∙ q) ∙ rw (others_of ws at))
+          sym (is_none (drop at ws) (other_now t) (rw (head_is, ← g) z) (head_is ∙ q) ∙ rw (others_of ws at))
 
-      pub neither_good : x ≡ false → y ≡ false → (w ≡ of_kind 6 0 → ⊥) → rest_at ws 0 ≡ behind (read_binding (drop at ws))
+      pub neither_good : x ≡ false → y ≡ false → (w ≡ of_kind 6 0 → ⊥) → nowhere ≡ behind (read_binding (drop at ws))
       neither_good t z q = rw (is_neither (drop at ws) (other_now t) (rw (head_is, ← g) z) (λ p. q (sym head_is ∙ p)))
 
   pub none_in : w ≡ of_kind 6 0 → at + 1 ≤ length ws

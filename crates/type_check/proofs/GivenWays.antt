@@ -1,11 +1,12 @@
--- What a type gives with a binding, by words and notes: the code's ways, and that it is what the definition gives.
+-- What a type gives with a binding, by words and notes, is what the definition gives.
 use Prim.Native.Nat.{ℕ, ◌+◌, ◌<◌, min}
-use mathlib.Core.Path.{◌≡◌, refl, sym, ap, ◌∙◌}
-use mathlib.Core.Bool.{Bool, true, false}
+use native.Mathlib.Omega.{arith}
+use mathlib.Core.Path.{◌≡◌, refl, ap, ◌∙◌}
+use mathlib.Core.Bool.{true, false}
 use mathlib.Core.List.{List, []}
-use borrow.Author.Tests.{ne_eqb, eqb-true, eqb-false}
+use borrow.Author.Tests.{eqb-true, eqb-false}
 use lib.Dec.{eqb}
-use lib.ListN.{get_or, length, drop}
+use lib.ListN.{length, drop}
 use Rattle.word.specs.Choice.{pick, yes}
 use Rattle.word.specs.Words.{word_at, kind_of, content_of, bits}
 use Rattle.word.specs.Lists.{flat}
@@ -20,37 +21,11 @@ use Rattle.type_lists.specs.Meaning.{Binding, Unbound, Location, BuiltIn, TypeIn
 use Rattle.type_lists.specs.Format.{is_clip, shaped, numeric_type}
 use Rattle.type_lists.specs.Rules.{numeric_gives, array_gives, type_gives, populate, nesting}
 use Rattle.type_check.specs.declared.notes.Note.{Note}
+use Rattle.type_check.specs.declared.notes.TypeNote.{TypeNote}
 use Rattle.type_check.specs.Inner.Positions.{binding_at, binding_of, members_at, type_at, struct_at}
-use Rattle.type_check.specs.Inner.Notes.{note, note_of, is_struct, number_note, start_in, note_in, clip_word, bound_note, array_note, lone_note_at, given_note, Noted}
+use Rattle.type_check.specs.Inner.Notes.{note, note_of, is_struct, number_note, start_at, note_at, bound_note, given_note, Noted}
 use Rattle.type_check.proofs.Gives.{lone_gives, struct_ignores}
 use Rattle.type_check.proofs.ClipWays.{type_22, type_23, type_24, clip_bound}
-
--- ---- the code's ways
-
-module _ (depth w : ℕ) (b : Bool) (e : b ≡ clip_word w) where
-  pub array_clip : b ≡ true → note depth 1 1 ≡ array_note depth w
-  unfolding yes
-  array_clip t = rw (← e, t)
-
-  pub array_none : b ≡ false → note depth 0 0 ≡ array_note depth w
-  unfolding yes
-  array_none f = rw (← e, f)
-
-module _ (ws notes : List ℕ) (n w at : ℕ) (t : Note) (x : Bool) (a : t ≡ note_in (get_or notes n 0)) (b : at ≡ start_in (get_or notes n 0)) (e : x ≡ struct_at ws at) where
-  pub given_struct : x ≡ true → t ≡ given_note ws notes n w
-  unfolding given_note
-  given_struct z = rw (← b, ← e, z, ← a)
-
-  given_lone : x ≡ false → given_note ws notes n w ≡ lone_note_at ws at t.depth w
-  unfolding given_note
-  given_lone z = rw (← b, ← e, z) (ap (λ (x : Note). lone_note_at ws at x.depth w) (sym a))
-
-  module _ (v k : ℕ) (r : Note) (z : x ≡ false) (f : v ≡ word_at ws at) (g : k ≡ kind_of v) where
-    pub given_numeric : k ≡ 22 → r ≡ bound_note t.depth w → r ≡ given_note ws notes n w
-    given_numeric y h = h ∙ sym (given_lone z ∙ rw (← f, ← g, y))
-
-    pub given_array : (k ≡ 22 → ⊥) → r ≡ array_note t.depth w → r ≡ given_note ws notes n w
-    given_array y h = h ∙ sym (given_lone z ∙ rw (← f, ← g, ne_eqb k 22 y))
 
 -- ---- what the definition gives
 
@@ -80,27 +55,31 @@ shaped_lone D.Scalar s = refl
 shaped_lone (D.Vector size) s = refl
 shaped_lone (D.Matrix columns rows) s = refl
 
-module _ (types : List TypeInner) (ws notes : List ℕ) (s : Noted types ws notes) (n : ℕ) (h : n < length types) where
-  now_is : type_numbered types n ≡ type_at (drop (start_in (get_or notes n 0)) ws)
+module _ (types : List TypeInner) (ws : List ℕ) (notes : List TypeNote) (s : Noted types ws notes) (n : ℕ) (h : n < length types) where
+  now_is : type_numbered types n ≡ type_at (drop (start_at notes n) ws)
   now_is = (s.each n h).is
 
   -- by what stands there
   pub by_kind : {G : Type 0}
-      → (kind_of (word_at ws (start_in (get_or notes n 0))) ≡ 22 → type_numbered types n ≡ numeric_type (type_of (word_at ws (start_in (get_or notes n 0)))) → G)
-      → (kind_of (word_at ws (start_in (get_or notes n 0))) ≡ 23
-      → type_numbered types n ≡ Array (bits 15 0 (word_at ws (start_in (get_or notes n 0)))) (content_of (word_at ws (start_in (get_or notes n 0) + 1))) → G)
-      → (struct_at ws (start_in (get_or notes n 0)) ≡ true
-      → type_numbered types n ≡ Struct (members_at (bits 15 0 (word_at ws (start_in (get_or notes n 0)))) (drop (start_in (get_or notes n 0) + 1) ws)) → G)
+      → (kind_of (word_at ws (start_at notes n)) ≡ 22 → type_numbered types n ≡ numeric_type (type_of (word_at ws (start_at notes n))) → G)
+      → (kind_of (word_at ws (start_at notes n)) ≡ 23
+      → type_numbered types n ≡ Array (bits 15 0 (word_at ws (start_at notes n))) (content_of (word_at ws (start_at notes n + 1))) → G)
+      → (struct_at ws (start_at notes n) ≡ true
+      → type_numbered types n ≡ Struct (members_at (bits 15 0 (word_at ws (start_at notes n))) (drop (start_at notes n + 1) ws)) → G)
       → G
   by_kind f g i =
-      by_test (eqb (kind_of (word_at ws (start_in (get_or notes n 0)))) 22)
-      (λ t. let k = eqb-true (kind_of (word_at ws (start_in (get_or notes n 0)))) 22 t in f k (now_is ∙ type_22 ws (start_in (get_or notes n 0)) k))
-      λ a. by_test (eqb (kind_of (word_at ws (start_in (get_or notes n 0)))) 23)
-      (λ t. let k = eqb-true (kind_of (word_at ws (start_in (get_or notes n 0)))) 23 t in g k (now_is ∙ type_23 ws (start_in (get_or notes n 0)) k))
-      (λ b. i (rw (a, b)) (now_is ∙ type_24 ws (start_in (get_or notes n 0)) (eqb-false (kind_of (word_at ws (start_in (get_or notes n 0)))) 22 a) (eqb-false (kind_of (word_at ws (start_in (get_or notes n 0)))) 23 b)))
+      by_test (eqb (kind_of (word_at ws (start_at notes n))) 22)
+      (λ t. let k = eqb-true (kind_of (word_at ws (start_at notes n))) 22 t in f k (now_is ∙ type_22 ws (start_at notes n) k))
+      λ a. by_test (eqb (kind_of (word_at ws (start_at notes n))) 23)
+      (λ t. let k = eqb-true (kind_of (word_at ws (start_at notes n))) 23 t in g k (now_is ∙ type_23 ws (start_at notes n) k))
+      (λ b. i (rw (a, b)) (now_is ∙ type_24 ws (start_at notes n) (eqb-false (kind_of (word_at ws (start_at notes n))) 22 a) (eqb-false (kind_of (word_at ws (start_at notes n))) 23 b)))
+
+  -- near the start of the list
+  pub start_near : start_at notes n < 1024
+  start_near = (s.each n h).near
 
   -- how deep structs nest in it
-  pub depth_noted : (note_in (get_or notes n 0)).depth ≡ min (nesting types n) 9
+  pub depth_noted : (note_at notes n).depth ≡ min (nesting types n) 9
   unfolding number_note note_of
   depth_noted =
       ap (λ (x : Note). x.depth) (s.each n h).noted
@@ -114,13 +93,16 @@ module _ (types : List TypeInner) (ws notes : List ℕ) (s : Noted types ws note
   unfolding given_note
   given_is l =
       by_kind
-      (λ k e. let o : is_struct (type_numbered types n) ≡ false = rw e (shaped_lone (type_of (word_at ws (start_in (get_or notes n 0)))).dim (type_of (word_at ws (start_in (get_or notes n 0)))).scalar) in
-      let p : populate types n (binding_at l) ≡ numeric_gives (type_of (word_at ws (start_in (get_or notes n 0)))) (binding_at l) =
+      (λ k e. let o : is_struct (type_numbered types n) ≡ false = rw e (shaped_lone (type_of (word_at ws (start_at notes n))).dim (type_of (word_at ws (start_at notes n))).scalar) in
+      let p : populate types n (binding_at l) ≡ numeric_gives (type_of (word_at ws (start_at notes n))) (binding_at l) =
       lone_gives types n (binding_at l) h o
-      ∙ rw e (shaped_gives (type_of (word_at ws (start_in (get_or notes n 0)))).dim (type_of (word_at ws (start_in (get_or notes n 0)))).scalar (binding_at l)) in
-      rw (k, p, numeric_note (nesting types n) (type_of (word_at ws (start_in (get_or notes n 0)))) l, depth_noted))
+      ∙ rw e (shaped_gives (type_of (word_at ws (start_at notes n))).dim (type_of (word_at ws (start_at notes n))).scalar (binding_at l)) in
+      rw (k, p, numeric_note (nesting types n) (type_of (word_at ws (start_at notes n))) l, depth_noted))
       (λ k e. let o : is_struct (type_numbered types n) ≡ false = rw e in
-      let p : populate types n (binding_at l) ≡ array_gives (content_of (word_at ws (start_in (get_or notes n 0) + 1))) (binding_at l) = lone_gives types n (binding_at l) h o ∙ rw e in
-      rw (k, p, array_by (nesting types n) (content_of (word_at ws (start_in (get_or notes n 0) + 1))) (binding_at l), clip_bound l, depth_noted))
+      let p : populate types n (binding_at l) ≡ array_gives (content_of (word_at ws (start_at notes n + 1))) (binding_at l) = lone_gives types n (binding_at l) h o ∙ rw e in
+      rw (k, p, array_by (nesting types n) (content_of (word_at ws (start_at notes n + 1))) (binding_at l), clip_bound l, depth_noted))
       (λ t e. let o : is_struct (type_numbered types n) ≡ true = rw e in
       rw (t, (s.each n h).noted) (struct_noted (binding_at l) o))
+
+pub start_within : (types : List TypeInner) (ws : List ℕ) (notes : List TypeNote) (n count p : ℕ) → Noted types ws notes → length types ≡ count → n < count → p ≡ start_at notes n → p < 1024
+start_within types ws notes n count p s l h e = rw e (start_near types ws notes s n (omega arith))

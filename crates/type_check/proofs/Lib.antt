@@ -1,7 +1,6 @@
 pub mod Taken
 pub mod Gives
 pub mod Noting
-pub mod Words
 pub mod Bindings
 pub mod ClipWays
 pub mod GivenWays

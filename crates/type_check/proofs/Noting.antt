@@ -1,17 +1,16 @@
--- Notes: of what follows each other, in a word of the table, and of a type with its binding.
-use Prim.Native.Nat.{ℕ, ◌+◌, ◌*◌, ◌/◌, ◌^◌, ◌<◌, ◌≤◌, min, max}
+-- Notes of what follows each other.
+use Prim.Native.Nat.{ℕ, ◌+◌, ◌≤◌, min, max}
 use native.Mathlib.Omega.{arith}
 use mathlib.Core.Path.{◌≡◌, refl, sym}
 use mathlib.Core.List.{List, [], ◌∷◌, ◌++◌, append_assoc}
 use lib.ListN.{length, length-append}
-use Rattle.word.specs.Words.{bits}
 use Rattle.word.specs.Lists.{flat}
 use Rattle.interface.specs.Format.{varying_words}
 use Rattle.interface.specs.declared.types.Varying.{Varying}
 use Rattle.type_lists.specs.Meaning.{StructMember, TypeInner}
 use Rattle.type_lists.specs.Rules.{populate, members_give, nesting, deepest}
 use Rattle.type_check.specs.declared.notes.Note.{Note}
-use Rattle.type_check.specs.Inner.Notes.{words_of, note, note_of, both, member_note, members_note, start_in, note_in, note_word}
+use Rattle.type_check.specs.Inner.Notes.{words_of, note, note_of, both, member_note, members_note}
 
 -- ---- sums that stop at a bound
 
@@ -20,27 +19,12 @@ unfolding flat
 words_append [] ys = refl
 words_append (x ∷ xs) ys = rw (words_append xs ys) (sym (append_assoc (varying_words x) (words_of xs) (words_of ys)))
 
-pub joined_is : (a b : Note) (d c w : ℕ) → d ≡ max a.depth b.depth → c ≡ min (a.count + b.count) 64 → w ≡ min (a.words + b.words) 128 → note d c w ≡ both a b
-unfolding both
-joined_is a b d c w p q r = rw (p, q, r)
-
-pub deeper_is : (n : Note) (d : ℕ) → d ≡ min (n.depth + 1) 9 → note d n.count n.words ≡ note (min (n.depth + 1) 9) n.count n.words
-deeper_is n d e = rw e
-
+-- a sum is below its bounds
 pub record Bounded (n : Note) : Type 0 where
-  pub depth : n.depth ≤ 9
   pub count : n.count ≤ 64
   pub words : n.words ≤ 128
 
-pub of_bounded : (d : ℕ) (vs : List Varying) → Bounded (note_of d vs)
-unfolding note_of
-of_bounded d vs = record { depth = omega arith; count = omega arith; words = omega arith }
-
 module _ (a b r : Note) (e : r ≡ both a b) where
-  pub both_depth : a.depth ≤ 9 → b.depth ≤ 9 → r.depth ≤ 9
-  unfolding both
-  both_depth h k = rw e (omega arith)
-
   pub both_count : r.count ≤ 64
   unfolding both
   both_count = rw e (omega arith)
@@ -94,32 +78,3 @@ members_first types members = both_none (deepest (nesting types) members) (membe
 pub members_end : (types : List TypeInner) (total : Note) → Bounded total → both total (members_note types []) ≡ total
 unfolding deepest members_give note_of flat
 members_end types total b = none_both total b
-
--- ---- a note in a word
-
-pub word_fits : (start : ℕ) (n : Note) → start < 1024 → Bounded n → note_word start n < 2 ^ 32
-word_fits start n h b = omega (arith, b.depth, b.count, b.words)
-
-module _ (s d c w : ℕ) (h : s < 1024) (i : d < 16) (j : c < 128) (k : w < 256) where
-  depth_in : bits 13 10 (s + (2 ^ 10 * d + (2 ^ 14 * c + 2 ^ 21 * w))) ≡ d
-  depth_in = let q : (s + (2 ^ 10 * d + (2 ^ 14 * c + 2 ^ 21 * w))) / 2 ^ 10 ≡ d + 16 * (c + 2 ^ 7 * w) = omega arith in rw q (omega arith)
-
-  count_in : bits 20 14 (s + (2 ^ 10 * d + (2 ^ 14 * c + 2 ^ 21 * w))) ≡ c
-  count_in = let q : (s + (2 ^ 10 * d + (2 ^ 14 * c + 2 ^ 21 * w))) / 2 ^ 14 ≡ c + 2 ^ 7 * w = omega arith in rw q (omega arith)
-
-  words_in : bits 28 21 (s + (2 ^ 10 * d + (2 ^ 14 * c + 2 ^ 21 * w))) ≡ w
-  words_in = let q : (s + (2 ^ 10 * d + (2 ^ 14 * c + 2 ^ 21 * w))) / 2 ^ 21 ≡ w = omega arith in rw q (omega arith)
-
-pub note_back : (start : ℕ) (n : Note) → start < 1024 → Bounded n → note_in (note_word start n) ≡ n
-note_back start n h b =
-    let i : n.depth < 16 = omega (arith, b.depth) in
-    let j : n.count < 128 = omega (arith, b.count) in
-    let k : n.words < 256 = omega (arith, b.words) in
-    rw (
-      depth_in start n.depth n.count n.words h i j k,
-      count_in start n.depth n.count n.words h i j k,
-      words_in start n.depth n.count n.words h i j k,
-    )
-
-pub start_back : (start : ℕ) (n : Note) → start < 1024 → start_in (note_word start n) ≡ start
-start_back start n h = omega arith

@@ -7,3 +7,4 @@ pub mod given;
 pub mod index;
 pub mod members;
 pub mod notes;
+pub mod types;

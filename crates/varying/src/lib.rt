@@ -8,7 +8,8 @@ ghost use Rattle.varying.specs.Rules.{same_payload};
 use numeric::types::NumericType;
 
 // Interpolation is 0 for none, 4 for per vertex and 1 to 3 for the others; sampling is 0 for none and 1 to 5.
-#[derive(Clone, Copy)]
+// Both stay document 01's codes: it names only two of them, and a stage check does no more than compare them.
+#[derive(Clone, Copy, Debug, PartialEq, Eq)]
 pub struct InterfaceVar {
     pub ty: NumericType,
     pub interpolation: u32,
@@ -17,7 +18,7 @@ pub struct InterfaceVar {
 }
 
 // A variable at a location.
-#[derive(Clone, Copy)]
+#[derive(Clone, Copy, Debug, PartialEq, Eq)]
 pub struct Located {
     pub location: u32,
     pub var: InterfaceVar,
@@ -34,22 +35,12 @@ pub fn location_well_formed(w: u32) -> bool
 pub fn var_well_formed(w: u32) -> bool
     ensures { result ≡ var_well_formed w }
 {
-    if word::kind(w) != 13 {
-        return false;
-    }
-    if w / 0x400 % 4 != 0 {
-        return false;
-    }
-    if w / 0x8_0000 % 0x100 != 0 {
-        return false;
-    }
-    if 5 <= w / 0x1000 % 8 {
-        return false;
-    }
-    if 6 <= w / 0x8000 % 8 {
-        return false;
-    }
-    numeric::type_words::type_well_formed(w)
+    word::kind(w) == 13
+        && w / 0x400 % 4 == 0
+        && w / 0x8_0000 % 0x100 == 0
+        && w / 0x1000 % 8 < 5
+        && w / 0x8000 % 8 < 6
+        && numeric::type_words::type_well_formed(w)
 }
 
 // The same where another word is known to be a variable: most of a list are alike, and the like is not tested again.
@@ -57,19 +48,15 @@ pub fn var_good(w: u32, good: u32) -> bool
     requires { var_well_formed good ≡ true }
     ensures { result ≡ var_well_formed w }
 {
-    if w == good {
-        return true;
-    }
-    var_well_formed(w)
+    w == good || var_well_formed(w)
 }
 
 // The variable that a word holds.
 pub fn var_of(w: u32) -> InterfaceVar
     ensures { result ≡ var_of w }
 {
-    let ty = numeric::type_words::type_of(w);
     InterfaceVar {
-        ty,
+        ty: numeric::type_words::type_of(w),
         interpolation: w / 0x1000 % 8,
         sampling: w / 0x8000 % 8,
         per_primitive: w / 0x4_0000 % 2 == 1,

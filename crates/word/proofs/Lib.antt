@@ -4,4 +4,6 @@ pub mod Lists
 pub mod Sums
 pub mod Parse
 pub mod ParseReads
+pub mod Rests
 pub mod Both
+pub mod Loops

@@ -1,5 +1,5 @@
 -- Readers of a format: from words to a meaning and the words behind it, or a fault.
-use Rattle.std.specs.Prelude.{ℕ, zero, suc, Bool, List, [], ◌∷◌, drop}
+use Rattle.std.specs.Prelude.{ℕ, zero, suc, Bool, Option, Some, None, List, [], ◌∷◌, drop}
 use Rattle.word.specs.Choice.{pick}
 
 pub data Parsed (A : Type 0) : Type 0 where
@@ -34,3 +34,8 @@ behind (got a rest) = from rest
 abbrev pub rest_at : List ℕ → ℕ → Rest
 rest_at ws zero = nowhere
 rest_at ws (suc n) = from (drop (suc n) ws)
+
+-- a position as the words from there on, if there is one
+abbrev pub rest_of : List ℕ → Option ℕ → Rest
+rest_of ws None = nowhere
+rest_of ws (Some at) = from (drop at ws)

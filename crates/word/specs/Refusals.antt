@@ -22,3 +22,8 @@ answer_of (Err r) = refusal_answer r
 abbrev pub answer_with : Result ℕ Refusal → Answer
 answer_with (Ok first) = answer 0 first 0 0
 answer_with (Err r) = refusal_answer r
+
+-- a test that names a number where it refuses; 0 is none
+abbrev pub number_or_none : {A : Type 0} → Result A Number → ℕ
+number_or_none (Ok value) = 0
+number_or_none (Err n) = number_of n

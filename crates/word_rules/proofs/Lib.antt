@@ -1,3 +1,1 @@
-pub mod TextureLaws
-pub mod UseLaws
 pub mod DeriveLaws

@@ -1,5 +1,5 @@
 -- What the functions that check an entry point and names carry along; only contracts of inner functions cite these.
-use Rattle.std.specs.Prelude.{ℕ, zero, suc, ◌+◌, ◌-◌, Bool, true, false, ◌&&◌, List, [], ◌∷◌, ◌++◌, length, take, drop, replicate, ◌==◌, slice_index, slice_set}
+use Rattle.std.specs.Prelude.{ℕ, zero, suc, ◌+◌, ◌-◌, Bool, true, false, ◌&&◌, List, [], ◌∷◌, ◌++◌, length, take, drop, replicate, ◌==◌, slice_index_or, slice_set}
 use Rattle.word.specs.Choice.{pick}
 use Rattle.word.specs.Words.{word_at, bits, bit}
 use Rattle.word.specs.Parse.{Parsed, fault, got, one, several, Rest, nowhere, from, behind}
@@ -8,6 +8,8 @@ use Rattle.bindings.specs.declared.types.Resource.{Resource}
 use Rattle.bindings.specs.declared.types.ResourceType.{ResourceType}
 use Rattle.bindings.specs.declared.types.ResourceType.TheVariants as Res
 use Rattle.varying.specs.Format.{payload_well_formed}
+use Rattle.entry_check.specs.declared.role.Role.{Role}
+use Rattle.entry_check.specs.declared.role.Role.TheVariants.{Other, Sampler, Texture}
 use Rattle.interface.specs.Format.{most_resources, read_varying, is_clip, read_name, head_well_formed, of_word, read_workgroup, read_mesh, counts_well_formed, index_well_formed, contents}
 use Rattle.interface.specs.Format.{sampled_class, pair_well_formed, bytes_of, name_words, same_bytes}
 
@@ -65,33 +67,47 @@ entry_behind resources ws =
 
 -- ---- resources by their part in a pair
 
--- 2 for a texture that is sampled, 1 for a sampler, else 0
-abbrev pub pair_role : ResourceType → ℕ
-pair_role (Res.Buffer size space) = 0
-pair_role (Res.Sampler comparison) = 1
-pair_role (Res.Texture dim arrayed class) = pick (sampled_class class) 2 0
-pair_role (Res.AccelerationStructure returns) = 0
+abbrev pub pair_role : ResourceType → Role
+pair_role (Res.Buffer size space) = Other
+pair_role (Res.Sampler comparison) = Sampler
+pair_role (Res.Texture dim arrayed class) = pick (sampled_class class) Texture Other
+pair_role (Res.AccelerationStructure returns) = Other
 
-unfoldable pub pair_roles : List Resource → List ℕ
+unfoldable pub pair_roles : List Resource → List Role
 pair_roles [] = []
 pair_roles (r ∷ rs) = pair_role r.ty ∷ pair_roles rs
 
 -- the same in a table for the most resources
-unfoldable pub role_table : List Resource → List ℕ
-role_table rs = pair_roles rs ++ drop (length rs) (replicate most_resources 0)
+unfoldable pub role_table : List Resource → List Role
+role_table rs = pair_roles rs ++ drop (length rs) (replicate most_resources Other)
 
 -- the pack's resources, behind its two heads and thirteen limits
 abbrev pub pack_resources : ℕ → List ℕ → List Resource
 pack_resources count ws = listed (several count read_resource (drop 15 ws))
 
+-- the role at an index of a table
+abbrev pub role_in : List Role → ℕ → Role
+role_in table i = slice_index_or table i Other
+
 -- a table in which the listed resources have their part
-unfoldable pub roles_of : List ℕ → List ℕ → List ℕ → List ℕ
+unfoldable pub roles_of : List Role → List ℕ → List Role → List Role
 roles_of roles [] table = table
-roles_of roles (i ∷ is) table = roles_of roles is (slice_set table i (slice_index roles i))
+roles_of roles (i ∷ is) table = roles_of roles is (slice_set table i (role_in roles i))
+
+abbrev pub texture_role : Role → Bool
+texture_role Other = false
+texture_role Sampler = false
+texture_role Texture = true
+
+abbrev pub sampler_role : Role → Bool
+sampler_role Other = false
+sampler_role Sampler = true
+sampler_role Texture = false
 
 -- a pair of a listed texture and a listed sampler
-abbrev pub pair_by_roles : List ℕ → ℕ → Bool
-pair_by_roles table w = of_word 5 w && (bits 26 16 w == 0 && (slice_index table (bits 15 8 w) == 2 && slice_index table (bits 7 0 w) == 1))
+abbrev pub pair_by_roles : List Role → ℕ → Bool
+pair_by_roles table w =
+    of_word 5 w && (bits 26 16 w == 0 && (texture_role (role_in table (bits 15 8 w)) && sampler_role (role_in table (bits 7 0 w))))
 
 -- ---- entry points by the positions of their first words
 

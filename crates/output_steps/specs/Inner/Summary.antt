@@ -1,5 +1,5 @@
 -- What one pass over varyings gathers.
-use Rattle.std.specs.Prelude.{ℕ, ◌+◌, max, ◌||◌, List, [], ◌∷◌}
+use Rattle.std.specs.Prelude.{ℕ, ◌+◌, max, false, ◌||◌, List, [], ◌∷◌}
 use Rattle.interface.specs.declared.types.Varying.{Varying}
 use Rattle.interface.specs.declared.types.Varying.TheVariants as Var
 use Rattle.output_steps.specs.declared.types.Summary.{Summary}
@@ -25,6 +25,9 @@ summary_of vs =
       depth = any_of is_depth vs;
       primitive = any_of is_primitive vs;
     }
+
+abbrev pub nothing : Summary
+nothing = record { locals = 0; clip_slots = 0; built_in_slots = 0; reach = 0; depth = false; primitive = false }
 
 -- what two passes gather together
 abbrev pub plus : Summary → Summary → Summary

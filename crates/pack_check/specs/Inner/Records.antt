@@ -2,18 +2,20 @@
 use Rattle.std.specs.Prelude.{ℕ, ◌<◌, ◌≤◌, ◌≡◌, List, [], ◌∷◌, eqb, length, drop}
 use Rattle.word.specs.Choice.{pick}
 use Rattle.word.specs.Words.{word_at, bits}
-use Rattle.word.specs.Parse.{Parsed, several, Rest, nowhere, from, behind, rest_at}
+use Rattle.word.specs.Parse.{Parsed, several, Rest, nowhere, from, behind}
 use Rattle.bindings.specs.Format.{read_resource, type_code}
 use Rattle.bindings.specs.declared.types.Resource.{Resource}
 use Rattle.interface.specs.Meaning.{EntryPoint}
 use Rattle.interface.specs.Format.{stage_at, distinct_names, read_entry_point}
+use Rattle.entry_check.specs.declared.role.Role.{Role}
+use Rattle.entry_check.specs.declared.role.Role.TheVariants.{Other, Sampler, Texture}
 use Rattle.entry_check.specs.Inner.Walks.{thence, pack_resources, name_behind}
 
--- the part of a resource in a pair from the word of kind 16: 2 for a texture that is sampled, 1 for a sampler, else 0
-abbrev pub role_of : ℕ → ℕ
+-- the part of a resource in a pair from the word of kind 16
+abbrev pub role_of : ℕ → Role
 role_of w =
-    pick (eqb (type_code w) 1) 1
-    (pick (eqb (type_code w) 2) 2 (pick (eqb (type_code w) 3) 2 (pick (eqb (type_code w) 5) 2 0)))
+    pick (eqb (type_code w) 1) Sampler
+    (pick (eqb (type_code w) 2) Texture (pick (eqb (type_code w) 3) Texture (pick (eqb (type_code w) 5) Texture Other)))
 
 -- an entry point's stage and name stand at a position
 pub record HeadAt (ws : List ℕ) (h : ℕ) (e : EntryPoint) : Type 0 where
@@ -37,9 +39,8 @@ records_behind totals ws = thence (several (bits 26 16 totals) read_resource ws)
 
 -- a position where a reader stops
 pub record Stop {A : Type 0} (p : Parsed A) (ws : List ℕ) (at : ℕ) : Type 0 where
-  pub some : 1 ≤ at
   pub within : at ≤ length ws
-  pub rest : rest_at ws at ≡ behind p
+  pub rest : from (drop at ws) ≡ behind p
 
 -- so many positions of a table: at each stops the reader of as many records as stand before it
 pub record Stops {A : Type 0} (read : List ℕ → Parsed A) (ws : List ℕ) (start n : ℕ) (table : List ℕ) : Type 0 where

@@ -1,24 +1,18 @@
 -- What the functions that write varyings carry along.
-use Rattle.std.specs.Prelude.{ℕ, zero, suc, ◌+◌, ◌<◌, ◌≤◌, min, ◌≡◌, Bool, false, List, [], ◌∷◌, eqb, length, set, get_or}
-use Rattle.word.specs.Choice.{pick}
+use Rattle.std.specs.Prelude.{ℕ, ◌+◌, ◌<◌, ◌≤◌, min, ◌≡◌, List, [], ◌∷◌, Option, Some, None, eqb, length, set, get_or}
 use Rattle.word.specs.Words.{bits, bit}
 use Rattle.numeric.specs.declared.types.NumericType.{NumericType}
 use Rattle.varying.specs.declared.InterfaceVar.{InterfaceVar}
 use Rattle.interface.specs.declared.types.Varying.{Varying}
 use Rattle.type_lists.specs.Meaning.{Binding, Unbound, TypeInner}
 use Rattle.type_lists.specs.Rules.{populate, members_give}
-use Rattle.type_check.specs.Inner.Positions.{struct_at, members_at}
-use Rattle.type_check.specs.Inner.Notes.{words_of, start_in, note_in}
+use Rattle.type_check.specs.Inner.Positions.{members_at}
+use Rattle.type_check.specs.Inner.Notes.{words_of}
 
 -- words written into a list from a position on: the position behind them, and the list
 unfoldable pub put : List ℕ → ℕ → List ℕ → ℕ × List ℕ
 put l to [] = (to, l)
 put l to (w ∷ ws) = put (set l to w) (to + 1) ws
-
--- words of a list written again from a position on
-unfoldable pub again : List ℕ → ℕ → ℕ → ℕ → ℕ × List ℕ
-again l from to zero = (to, l)
-again l from to (suc n) = again (set l to (get_or l from 0)) (from + 1) (to + 1) n
 
 -- how far varyings are written: as far as a list goes, and no further than 63 of them take
 abbrev pub room : List ℕ → ℕ
@@ -33,14 +27,9 @@ pub record Stood (out : List ℕ) (from : ℕ) (ws : List ℕ) (to : ℕ) : Type
   pub inside : from + length ws ≤ to
   pub same : (k : ℕ) → k < length ws → get_or out (from + k) 0 ≡ get_or ws k 0
 
--- a table by type number: 0, or one more than where the varyings of a struct stand in what is written
-pub record Written (types : List TypeInner) (written out : List ℕ) (to : ℕ) : Type 0 where
-  pub each : (n from : ℕ) → n < length types → get_or written n 0 ≡ from + 1 → Stood out from (words_of (populate types n Unbound)) to
-
--- a struct gives something and was not yet written
-unfoldable pub walks_at : List ℕ → List ℕ → List ℕ → ℕ → Bool
-walks_at ws notes written n =
-    pick (eqb (note_in (get_or notes n 0)).words 0) false (pick (eqb (get_or written n 0) 0) (struct_at ws (start_in (get_or notes n 0))) false)
+-- a table by type number: where the varyings of a struct stand in what is written, if they do
+pub record Written (types : List TypeInner) (written : List (Option ℕ)) (out : List ℕ) (to : ℕ) : Type 0 where
+  pub each : (n from : ℕ) → n < length types → get_or written n None ≡ Some from → Stood out from (words_of (populate types n Unbound)) to
 
 -- a type with what a word says of a variable
 abbrev pub bound_var : NumericType → ℕ → InterfaceVar

@@ -1,8 +1,8 @@
 -- What the steps over resources and pairs are given: the resources by a table of their positions, and indexes that stand in it.
 use Rattle.std.specs.Prelude.{ℕ, ◌+◌, ◌<◌, ◌≤◌, ◌≡◌, Bool, true, ◌&&◌, List, ltb, length, take}
-use Rattle.word.specs.Words.{word_at, of_kind}
+use Rattle.word.specs.Words.{word_at}
 use Rattle.word.specs.Lists.{every}
-use Rattle.bindings.specs.Format.{resource_encodable, binding_type_of, binding_code, least_size_of, format_encodable, resource_width}
+use Rattle.bindings.specs.Format.{resource_encodable, binding_type_of, resource_width}
 use Rattle.bindings.specs.declared.types.Resource.{Resource}
 use Rattle.bindings.specs.declared.types.BindingType.{BindingType}
 use Rattle.interface.specs.Inner.Reads.{resources_at}
@@ -21,6 +21,11 @@ pub record Inside (ws offsets : List ℕ) : Type 0 where
 abbrev pub each_encodable : List Resource → Bool
 each_encodable rs = every resource_encodable rs
 
+-- a table of the resources of a pack: their words stand in the pack, and each is one that a pack can hold
+pub record Tabled (ws offsets : List ℕ) : Type 0 where
+  pub inside : Inside ws offsets
+  pub encodable : each_encodable (resource_table ws offsets) ≡ true
+
 -- each index is below the number of resources
 abbrev pub each_below : ℕ → List ℕ → Bool
 each_below count is = every (λ i. ltb i count) is
@@ -31,12 +36,6 @@ pair_below count p = ltb p.texture count && ltb p.sampler count
 
 abbrev pub pairs_below : ℕ → List SamplingPair → Bool
 pairs_below count ps = every (pair_below count) ps
-
--- the type word and the least size of a binding type that a layout list can hold
-pub record TypeWords (type least : ℕ) (ty : BindingType) : Type 0 where
-  pub encodable : format_encodable ty ≡ true
-  pub type_word : type ≡ of_kind 18 (binding_code ty)
-  pub least_size : least ≡ least_size_of ty
 
 -- a type is the one that a word means, with whatever least size
 abbrev pub WordMeans : ℕ → BindingType → Type 0

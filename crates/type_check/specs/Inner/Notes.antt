@@ -1,5 +1,7 @@
 -- What is noted of a type by its number: where it stands, how deep structs nest in it, how many varyings it gives and how many words they take.
-use Rattle.std.specs.Prelude.{ℕ, ◌+◌, ◌*◌, ◌^◌, ◌<◌, ◌≤◌, min, max, ◌≡◌, Bool, true, false, ◌&&◌, List, ◌∷◌, eqb, leb, length, drop, get_or}
+use Rattle.std.specs.Prelude.{ℕ, ◌+◌, ◌<◌, ◌≤◌, min, max, ◌≡◌, Bool, true, false, ◌&&◌, List, ◌∷◌, Option, Some, None, eqb, leb, length, drop, get_or}
+use mathlib.Core.Sum.{⊎_set}
+use Rattle.std.proofs.Props.{props}
 use Rattle.word.specs.Choice.{pick, yes}
 use Rattle.word.specs.Words.{word_at, kind_of, bits}
 use Rattle.word.specs.Lists.{flat}
@@ -7,10 +9,11 @@ use Rattle.word.specs.Parse.{Parsed, fault, got, next}
 use Rattle.interface.specs.Format.{varying_words}
 use Rattle.interface.specs.declared.types.Varying.{Varying}
 use Rattle.type_lists.specs.Meaning.{Unbound, StructMember, TypeInner, Scalar, Vector, Matrix, Array, Struct, type_numbered}
-use Rattle.type_lists.specs.Format.{most_types}
+use Rattle.type_lists.specs.Format.{most_types, most_words}
 use Rattle.type_lists.specs.Rules.{populate, members_give, nesting, deepest}
 use Rattle.type_check.specs.Inner.Positions.{type_at, struct_at, names_below}
 use Rattle.type_check.specs.declared.notes.Note.{Note}
+use Rattle.type_check.specs.declared.notes.TypeNote.{TypeNote}
 use Rattle.type_check.specs.declared.notes.Reading.{Reading}
 
 -- the words of varyings, one behind the other
@@ -48,26 +51,33 @@ lone_note depth = note (min depth 9) 1 1
 unfoldable pub number_note : List TypeInner → ℕ → Note
 number_note types n = pick (is_struct (type_numbered types n)) (note_of (nesting types n) (populate types n Unbound)) (lone_note (nesting types n))
 
--- ---- a note in a word of the table
+-- ---- the table of notes
 
-abbrev pub start_in : ℕ → ℕ
-start_in w = bits 9 0 w
+abbrev pub unnoted : TypeNote
+unnoted = record { start = 0; note = note 0 0 0 }
 
-abbrev pub note_in : ℕ → Note
-note_in w = note (bits 13 10 w) (bits 20 14 w) (bits 28 21 w)
+-- where the type of a number stands
+abbrev pub start_at : List TypeNote → ℕ → ℕ
+start_at notes n = (get_or notes n unnoted).start
 
-abbrev pub note_word : ℕ → Note → ℕ
-note_word start n = start + (2 ^ 10 * n.depth + (2 ^ 14 * n.count + 2 ^ 21 * n.words))
+-- what is noted of it
+abbrev pub note_at : List TypeNote → ℕ → Note
+note_at notes n = (get_or notes n unnoted).note
 
 -- a type stands where the table says, names lower numbers only, and is noted
-pub record Stands (types : List TypeInner) (ws : List ℕ) (n w : ℕ) : Type 0 where
-  pub is : type_numbered types n ≡ type_at (drop (start_in w) ws)
+pub record Stands (types : List TypeInner) (ws : List ℕ) (n : ℕ) (e : TypeNote) : Type 0 where
+  pub is : type_numbered types n ≡ type_at (drop e.start ws)
   pub below : names_below n (type_numbered types n) ≡ true
-  pub noted : note_in w ≡ number_note types n
+  pub noted : e.note ≡ number_note types n
+  pub near : e.start < most_words
 
-pub record Noted (types : List TypeInner) (ws notes : List ℕ) : Type 0 where
-  pub each : (n : ℕ) → n < length types → Stands types ws n (get_or notes n 0)
+pub record Noted (types : List TypeInner) (ws : List ℕ) (notes : List TypeNote) : Type 0 where
+  pub each : (n : ℕ) → n < length types → Stands types ws n (get_or notes n unnoted)
   pub few : length types ≤ most_types
+
+-- a fact has one proof at most
+pub Noted-prop : (types : List TypeInner) (ws : List ℕ) (notes : List TypeNote) → IsProp (Noted types ws notes)
+Noted-prop types ws notes = Prim.hlevel (props, ⊎_set)
 
 -- ---- readers, by where they stopped and what is noted of what they read
 
@@ -75,9 +85,9 @@ pub data Reached : Type 0 where
   nowhere : Reached
   upto : List ℕ → Note → Reached
 
--- position 0 is nowhere
-abbrev pub reached_at : List ℕ → Reading → Reached
-reached_at ws r = pick (eqb r.next 0) nowhere (upto (drop r.next ws) r.note)
+abbrev pub reached_at : List ℕ → Option Reading → Reached
+reached_at ws None = nowhere
+reached_at ws (Some r) = upto (drop r.next ws) r.note
 
 abbrev pub reached : {A : Type 0} → (A → Note) → Parsed A → Reached
 reached note_by fault = nowhere
@@ -120,6 +130,5 @@ abbrev pub lone_note_at : List ℕ → ℕ → ℕ → ℕ → Note
 lone_note_at ws at depth w = pick (eqb (kind_of (word_at ws at)) 22) (bound_note depth w) (array_note depth w)
 
 -- the type of a number with such a binding
-unfoldable pub given_note : List ℕ → List ℕ → ℕ → ℕ → Note
-given_note ws notes n w =
-    pick (struct_at ws (start_in (get_or notes n 0))) (note_in (get_or notes n 0)) (lone_note_at ws (start_in (get_or notes n 0)) (note_in (get_or notes n 0)).depth w)
+unfoldable pub given_note : List ℕ → List TypeNote → ℕ → ℕ → Note
+given_note ws notes n w = pick (struct_at ws (start_at notes n)) (note_at notes n) (lone_note_at ws (start_at notes n) (note_at notes n).depth w)

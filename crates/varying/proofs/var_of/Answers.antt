@@ -1,5 +1,7 @@
-use Rattle.varying.proofs.Ways.{var_parts}
+use Rattle.std.proofs.Common.{rules}
+use Rattle.varying.specs.Format.{var_of}
 use Rattle.varying.proofs.var_of.Goals as goal
 
 pub returns : goal.returns
-returns c = search var_parts
+unfolding var_of
+returns c = search rules

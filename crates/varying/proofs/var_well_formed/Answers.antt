@@ -1,21 +1,12 @@
-use Rattle.varying.proofs.Ways.{var_kind}
-use Rattle.word.proofs.Tests.{tests}
+use Rattle.std.proofs.Common.{arith}
+use Rattle.std.proofs.lemmas.Bool.Decides.{nat_tests}
+use Rattle.varying.specs.Format.{var_well_formed}
 use Rattle.varying.proofs.var_well_formed.Goals as goal
 
-pub returns-then-kind-ne13 : goal.returns-then-kind-ne13
-returns-then-kind-ne13 c = search (var_kind, tests)
+pub returns-then-w-lt6 : goal.returns-then-w-lt6
+unfolding var_well_formed
+returns-then-w-lt6 c = grind (arith, nat_tests)
 
-pub returns-then-w-ne0 : goal.returns-then-w-ne0
-returns-then-w-ne0 c = search (var_kind, tests)
-
-pub returns-then-w-ne0-2 : goal.returns-then-w-ne0-2
-returns-then-w-ne0-2 c = search (var_kind, tests)
-
-pub returns-then-w-ge5 : goal.returns-then-w-ge5
-returns-then-w-ge5 c = search (var_kind, tests)
-
-pub returns-then-w-ge6 : goal.returns-then-w-ge6
-returns-then-w-ge6 c = search (var_kind, tests)
-
-pub returns : goal.returns
-returns c = search (var_kind, tests)
+pub returns-else-w-lt6 : goal.returns-else-w-lt6
+unfolding var_well_formed
+returns-else-w-lt6 c = grind (arith, nat_tests)

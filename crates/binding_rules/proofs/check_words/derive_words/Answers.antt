@@ -10,8 +10,8 @@ binding_word-requires c = search derive_encodable
 pub least_word-requires : goal.least_word-requires
 least_word-requires c = search derive_encodable
 
-pub returns-in-Binding : goal.returns-in-Binding
-returns-in-Binding c = search derive_found
+pub returns-in-Ok : goal.returns-in-Ok
+returns-in-Ok c = search derive_found
 
-pub returns-in-WrongBufferAddressSpace : goal.returns-in-WrongBufferAddressSpace
-returns-in-WrongBufferAddressSpace c = search derive_none
+pub returns-in-Err : goal.returns-in-Err
+returns-in-Err c = search derive_none

@@ -1,8 +1,8 @@
 use Rattle.entry_check.proofs.CheckSteps.{steps}
 use Rattle.entry_check.proofs.check_entry.varying_lists_next.Goals as goal
 
-pub returns-then-outputs-eq0-clause-result_value : goal.returns-then-outputs-eq0-clause-result_value
-returns-then-outputs-eq0-clause-result_value c = search steps
+pub returns-in_err-outputs-clause-rest : goal.returns-in_err-outputs-clause-rest
+returns-in_err-outputs-clause-rest c = search (steps, c.in_err-outputs.ensures.rest)
 
-pub returns-clause-result_value : goal.returns-clause-result_value
-returns-clause-result_value c = search steps
+pub returns-clause-rest : goal.returns-clause-rest
+returns-clause-rest c = search (steps, c.in_ok-outputs.ensures.rest)

@@ -1,14 +1,19 @@
-use Rattle.entry_check.proofs.CheckHeads.{same_words_lem}
+use Rattle.std.proofs.Common.{◌≡◌, arith}
+use Rattle.entry_check.proofs.CheckHeads.{same_1, same_2, same_3, same_4}
 use Rattle.entry_check.proofs.check_names.same_first.Goals as goal
 
-pub returns-then-left-eq1 : goal.returns-then-left-eq1
-returns-then-left-eq1 c = search same_words_lem
+pub returns-in-1 : goal.returns-in-1
+returns-in-1 c = search same_1
 
-pub returns-then-left-eq2 : goal.returns-then-left-eq2
-returns-then-left-eq2 c = search same_words_lem
+pub returns-in-2 : goal.returns-in-2
+returns-in-2 c = search same_2
 
-pub returns-then-left-eq3 : goal.returns-then-left-eq3
-returns-then-left-eq3 c = search same_words_lem
+pub returns-in-3 : goal.returns-in-3
+returns-in-3 c = search same_3
 
-pub returns : goal.returns
-returns c = search same_words_lem
+pub returns-in_default : goal.returns-in_default
+returns-in_default c =
+    let one : c.args.left ≡ 1 → ⊥ = λ z. omega arith in
+    let two : c.args.left ≡ 2 → ⊥ = λ z. omega arith in
+    let three : c.args.left ≡ 3 → ⊥ = λ z. omega arith in
+    search (same_4, one, two, three)

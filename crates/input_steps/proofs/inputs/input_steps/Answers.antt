@@ -1,52 +1,51 @@
-use Rattle.std.proofs.Common.{◌≡◌, ℕ, ◌+◌, drop, [], ◌∷◌, List, refl, arith}
-use Rattle.word.specs.Words.{word_at}
-use Rattle.word.specs.declared.answer.Answer.{Answer}
-use Rattle.stage_lists.specs.Format.{decode_stage}
-use Rattle.interface.specs.Inner.Reads.{varying, varying_width}
-use Rattle.interface.proofs.ReadsParts.{varyings_start, varying_there, varyings_left as ends_left}
+use Rattle.std.proofs.Common.{rules, refl, ◌+◌, ◌∙◌, ap}
 use Rattle.interface.proofs.ReadsWays.{width_there}
-use Rattle.input_steps.specs.declared.types.InputWalk.{InputWalk}
-use Rattle.input_steps.specs.declared.types.Walked.{Walked}
-use Rattle.input_steps.specs.Inputs.{walked, input_step}
+use Rattle.stage_lists.specs.Format.{decode_stage}
 use Rattle.input_steps.proofs.InputLaws.{inputs_refused, inputs_onward, inputs_ended, locals_left}
-use Rattle.input_steps.proofs.VaryingLaws.{varying_words_lem}
+use Rattle.input_steps.proofs.VaryingLaws.{here, beside, end_onward, varying_words_lem}
 use Rattle.input_steps.proofs.inputs.input_steps.Goals as goal
 
-in_parts : (w : InputWalk) (a : Answer) (s : Walked) → a ≡ s.answer → w ≡ s.walk → walked w a ≡ s
-in_parts w a s e f = rw (e, f)
+pub offset_bounds-pack-at : goal.offset_bounds-pack-at
+offset_bounds-pack-at c = search (rules, here c.args.pack.now c.args.n c.loop-i._i c.loop-i.at c.loop-i.invariant.0)
 
--- a step onward from an input that was accepted
-wide : (ws : List ℕ) (at x next : ℕ) → x ≡ word_at ws at → next ≡ at + varying_width (x ∷ []) → next ≡ at + varying_width (drop at ws)
-wide ws at x next e h = rw (← width_there ws at x e) h
-
-pub word_in-first-requires : goal.word_in-first-requires
-word_in-first-requires c = varyings_start _ _ _ c.loop-left.invariant.0
+pub bounds-pack-at : goal.bounds-pack-at
+bounds-pack-at c = here c.args.pack.now c.args.n c.loop-i._i c.loop-i.at c.loop-i.invariant.0
 
 pub overflow_add-at : goal.overflow_add-at
-overflow_add-at c = omega (arith, varyings_start _ _ _ c.loop-left.invariant.0)
+overflow_add-at c = search (rules, here c.args.pack.now c.args.n c.loop-i._i c.loop-i.at c.loop-i.invariant.0)
 
-pub word_in-second-requires : goal.word_in-second-requires
-word_in-second-requires c = varying_there _ _ _ c.loop-left.invariant.0 c.loop-left-test.true
+pub offset_bounds-pack-at-in-loop-i : goal.offset_bounds-pack-at-in-loop-i
+offset_bounds-pack-at-in-loop-i c = search (rules, here c.args.pack.now c.args.n c.loop-i._i c.loop-i.at c.loop-i.invariant.0)
 
-pub returns-then-answer-ne0 : goal.returns-then-answer-ne0
-returns-then-answer-ne0 c =
-    let e = c.input_step-answer.ensures in
-    inputs_refused c.args.stage (decode_stage c.args.inputs.now).varyings c.args.pack.now c.loop-left.left c.loop-left.at c.loop-left.walk _ c.loop-left.invariant.2 _ (walked c.input_step-answer.new.walk c.input_step-answer.result) c.loop-left-test.true
-    (varying_words_lem c.args.pack.now c.loop-left.at _ _ c.word_in-first.ensures c.word_in-second.ensures) (in_parts _ _ _ e.0 e.1) c.if-answer-ne0.true
+pub bounds-pack-at-in-loop-i : goal.bounds-pack-at-in-loop-i
+bounds-pack-at-in-loop-i c = beside c.args.pack.now c.args.n c.loop-i._i c.loop-i.at c.loop-i.invariant.0 c.loop-i-test.true
 
-pub past_input-at-requires : goal.past_input-at-requires
-past_input-at-requires c = omega (arith, varyings_start _ _ _ c.loop-left.invariant.0)
+pub returns-in_err-input_step-clause-answer : goal.returns-in_err-input_step-clause-answer
+returns-in_err-input_step-clause-answer c =
+    let e = c.input_step.ensures in
+    let stopped = inputs_refused c.args.stage (decode_stage c.args.inputs.now).varyings c.args.pack.now c.args.n c.loop-i._i c.loop-i.at c.loop-i.walk _ c.loop-i.invariant.2 c.loop-i-test.true _ (varying_words_lem c.args.pack.now c.loop-i.at _ _ refl refl) _ _ e.answer e.walk _ c.in_err-input_step.was in
+    rw stopped (search rules)
 
-pub loop-left-preserved : goal.loop-left-preserved
-loop-left-preserved c =
-    let e = c.input_step-answer.ensures in
-    let s : walked c.input_step-answer.new.walk c.input_step-answer.result ≡ input_step c.args.stage (decode_stage c.args.inputs.now).varyings (varying (c.word_in-first.result ∷ c.word_in-second.result ∷ [])) c.loop-left.walk = in_parts _ _ _ e.0 e.1 in
-    let on = wide c.args.pack.now _ _ _ c.word_in-first.ensures c.past_input-at.ensures in (
-      rw on (ends_left _ _ _ c.loop-left.invariant.0 c.loop-left-test.true _ refl),
-      locals_left _ _ _ _ _ _ s c.loop-left-test.true c.loop-left.invariant.1,
-      inputs_onward c.args.stage (decode_stage c.args.inputs.now).varyings c.args.pack.now c.loop-left.left c.loop-left.at c.loop-left.walk _ c.loop-left.invariant.2 _ _ c.loop-left-test.true (varying_words_lem c.args.pack.now c.loop-left.at _ _ c.word_in-first.ensures c.word_in-second.ensures) s _
-          c.if-answer-ne0.false on,
+pub returns-in_err-input_step-clause-walk : goal.returns-in_err-input_step-clause-walk
+returns-in_err-input_step-clause-walk c =
+    let e = c.input_step.ensures in
+    let stopped = inputs_refused c.args.stage (decode_stage c.args.inputs.now).varyings c.args.pack.now c.args.n c.loop-i._i c.loop-i.at c.loop-i.walk _ c.loop-i.invariant.2 c.loop-i-test.true _ (varying_words_lem c.args.pack.now c.loop-i.at _ _ refl refl) _ _ e.answer e.walk _ c.in_err-input_step.was in
+    rw stopped
+
+pub overflow_add-at-in-loop-i : goal.overflow_add-at-in-loop-i
+overflow_add-at-in-loop-i c = search (rules, here c.args.pack.now c.args.n c.loop-i._i c.loop-i.at c.loop-i.invariant.0)
+
+pub loop-i-preserved : goal.loop-i-preserved
+loop-i-preserved c =
+    let e = c.input_step.ensures in
+    let next = ap (λ w. c.loop-i.at + w) (c.varying_width-at.ensures.value ∙ width_there c.args.pack.now c.loop-i.at _ refl) in (
+      end_onward c.args.pack.now c.args.n c.loop-i._i c.loop-i.at c.loop-i.invariant.0 c.loop-i-test.true _ next,
+      locals_left c.args.stage (decode_stage c.args.inputs.now).varyings _ c.loop-i.walk _ c.args.n c.loop-i._i e.walk c.loop-i-test.true c.loop-i.invariant.1,
+      inputs_onward c.args.stage (decode_stage c.args.inputs.now).varyings c.args.pack.now c.args.n c.loop-i._i c.loop-i.at c.loop-i.walk _ c.loop-i.invariant.2 c.loop-i-test.true _ (varying_words_lem c.args.pack.now c.loop-i.at _ _ refl refl) _ _ e.answer e.walk _ _ c.in_ok-input_step.was next,
     )
 
-pub returns : goal.returns
-returns c = inputs_ended c.args.stage (decode_stage c.args.inputs.now).varyings c.args.pack.now c.loop-left.left c.loop-left.at c.loop-left.walk _ c.loop-left.invariant.2 _ c.loop-left-test.false c.accepted.ensures
+pub returns-clause-answer : goal.returns-clause-answer
+returns-clause-answer c = rw (inputs_ended c.args.stage (decode_stage c.args.inputs.now).varyings c.args.pack.now c.args.n c.loop-i._i c.loop-i.at c.loop-i.walk _ c.loop-i.invariant.2 c.loop-i-test.false)
+
+pub returns-clause-walk : goal.returns-clause-walk
+returns-clause-walk c = rw (inputs_ended c.args.stage (decode_stage c.args.inputs.now).varyings c.args.pack.now c.args.n c.loop-i._i c.loop-i.at c.loop-i.walk _ c.loop-i.invariant.2 c.loop-i-test.false)

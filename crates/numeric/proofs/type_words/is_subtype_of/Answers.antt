@@ -1,11 +1,15 @@
-use Rattle.numeric.proofs.TypeWords.{both_types, second_bad, first_bad}
+use Rattle.std.proofs.Common.{rules}
+use Rattle.numeric.specs.TypeWords.{compare_types}
 use Rattle.numeric.proofs.type_words.is_subtype_of.Goals as goal
 
-pub returns-in-Numeric-read_type : goal.returns-in-Numeric-read_type
-returns-in-Numeric-read_type c = search both_types
+pub returns-in_err-read_type : goal.returns-in_err-read_type
+unfolding compare_types
+returns-in_err-read_type c = search rules
 
-pub returns-in-Bad-read_type : goal.returns-in-Bad-read_type
-returns-in-Bad-read_type c = search second_bad
+pub returns-in_err-read_type-2 : goal.returns-in_err-read_type-2
+unfolding compare_types
+returns-in_err-read_type-2 c = search rules
 
-pub returns-in-Bad : goal.returns-in-Bad
-returns-in-Bad c = search first_bad
+pub returns : goal.returns
+unfolding compare_types
+returns c = search rules

@@ -1,14 +1,12 @@
-use Rattle.numeric.proofs.TypeWords.{other_word, more_bits, when_well_formed, when_malformed}
+use Rattle.std.proofs.Common.{arith}
+use Rattle.std.proofs.lemmas.Bool.Decides.{nat_tests}
+use Rattle.numeric.specs.TypeWords.{read_type}
 use Rattle.numeric.proofs.type_words.read_type.Goals as goal
 
 pub returns-then-kind-ne13 : goal.returns-then-kind-ne13
-returns-then-kind-ne13 c = search other_word
-
-pub returns-then-w-ne0 : goal.returns-then-w-ne0
-returns-then-w-ne0 c = search more_bits
-
-pub returns-then-type_well_formed : goal.returns-then-type_well_formed
-returns-then-type_well_formed c = search when_well_formed
+unfolding read_type
+returns-then-kind-ne13 c = grind (arith, nat_tests)
 
 pub returns : goal.returns
-returns c = search when_malformed
+unfolding read_type
+returns c = grind (arith, nat_tests)

@@ -1,16 +1,24 @@
+use Rattle.word.proofs.Loops.{all_left, one_less, left_some, none_left}
+use Rattle.std.proofs.Common.{rules, refl, ◌-◌}
+use Rattle.word.specs.Numbers.{number_of}
 use Rattle.input_steps.proofs.VaryingLaws.{ahead}
 use Rattle.output_steps.proofs.OutputLaws.{ahead_by, locations_refused, locations_onward, locations_ended}
-use borrow.Author.Rules.{rules}
 use Rattle.output_steps.proofs.outputs.location_uses.Goals as goal
 
-pub loop-left-init : goal.loop-left-init
-loop-left-init c = (search ahead, search rules)
+pub loop-i-init : goal.loop-i-init
+loop-i-init c = rw (all_left c.args.n) (search ahead, search rules)
 
-pub returns-then-a-ne0 : goal.returns-then-a-ne0
-returns-then-a-ne0 c = search locations_refused
+pub returns-in_err-location_use : goal.returns-in_err-location_use
+returns-in_err-location_use c = search (rules, locations_refused, left_some)
 
-pub loop-left-preserved : goal.loop-left-preserved
-loop-left-preserved c = (search ahead_by, search locations_onward)
+pub loop-i-preserved : goal.loop-i-preserved
+loop-i-preserved c =
+    let some = left_some _ _ c.loop-i-test.true in
+    rw (one_less c.args.n c.loop-i._i) (
+      search (ahead_by, some),
+      locations_onward (number_of c.args.number) c.args.past c.args.limit c.args.pack.now (c.args.n - c.loop-i._i) c.loop-i.at _ c.loop-i.invariant.1 _ _ some refl c.location_use.ensures _ _ c.in_ok-location_use.was
+          c.varying_width-at.ensures.value,
+    )
 
 pub returns : goal.returns
-returns c = search locations_ended
+returns c = search (locations_ended, none_left)

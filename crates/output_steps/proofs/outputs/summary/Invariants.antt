@@ -1,3 +1,4 @@
+use Rattle.std.proofs.Common.{◌-◌}
 use mathlib.Core.Path.{◌≡◌}
 use lib.ListN.{drop}
 use Rattle.interface.specs.Inner.Reads.{varyings}
@@ -6,9 +7,6 @@ use Rattle.input_steps.proofs.VaryingLaws.{Ahead}
 use Rattle.output_steps.proofs.OutputLaws.{Within}
 use Rattle.output_steps.proofs.outputs.summary.Given as goal
 
-abbrev pub invariant-loop-left : goal.invariant-loop-left
-invariant-loop-left l =
-    Ahead l.pack l.left l.at × Within l.s l.left × (summary_of (varyings l.n (drop l.from l.pack)) ≡ plus l.s (summary_of (varyings l.left (drop l.at l.pack))))
-
-abbrev pub decreases-loop-left : goal.decreases-loop-left
-decreases-loop-left l = l.left
+abbrev pub invariant-loop-i : goal.invariant-loop-i
+invariant-loop-i l =
+    Ahead l.pack (l.n - l._i) l.at × Within l.s (l.n - l._i) × (summary_of (varyings l.n (drop l.from l.pack)) ≡ plus l.s (summary_of (varyings (l.n - l._i) (drop l.at l.pack))))

@@ -1,22 +1,12 @@
-use mathlib.Core.Path.{refl}
-use borrow.Author.Rules.{counted_is}
-use Rattle.pack_check.proofs.CheckPack.{entries_stop, entries_twice, entries_go, heads_long}
+use Rattle.entry_check.proofs.CheckSteps.{none_behind}
+use Rattle.pack_check.proofs.CheckPack.{entries_stop, entries_twice, entries_go}
 use Rattle.pack_check.proofs.check_pack.entries_next.Goals as goal
 
-pub returns-then-end-eq0-clause-result_value : goal.returns-then-end-eq0-clause-result_value
-returns-then-end-eq0-clause-result_value c = search entries_stop
+pub returns-in_err-end-clause-rest : goal.returns-in_err-end-clause-rest
+returns-in_err-end-clause-rest c = search (none_behind, entries_stop, c.in_err-end.ensures.rest)
 
-pub returns-then-end-eq0-clause-stops : goal.returns-then-end-eq0-clause-stops
-returns-then-end-eq0-clause-stops c = λ n. absurd (n refl)
+pub returns-then-not-names_distinct-clause-rest : goal.returns-then-not-names_distinct-clause-rest
+returns-then-not-names_distinct-clause-rest c = search (entries_twice, c.in_ok-end.ensures.rest, c.in_ok-end.ensures.headed)
 
-pub slice_bounds-names_distinct-end-2 : goal.slice_bounds-names_distinct-end-2
-slice_bounds-names_distinct-end-2 c = search (counted_is, heads_long)
-
-pub returns-then-not-names_distinct-clause-result_value : goal.returns-then-not-names_distinct-clause-result_value
-returns-then-not-names_distinct-clause-result_value c = search entries_twice
-
-pub returns-then-not-names_distinct-clause-stops : goal.returns-then-not-names_distinct-clause-stops
-returns-then-not-names_distinct-clause-stops c = λ n. absurd (n refl)
-
-pub returns-clause-result_value : goal.returns-clause-result_value
-returns-clause-result_value c = search entries_go
+pub returns-clause-rest : goal.returns-clause-rest
+returns-clause-rest c = search (entries_go, c.in_ok-end.ensures.rest, c.in_ok-end.ensures.headed)

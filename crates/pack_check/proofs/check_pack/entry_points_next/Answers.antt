@@ -1,37 +1,29 @@
-use mathlib.Core.Path.{refl}
 use borrow.Author.Rules.{rules}
-use Rattle.word.proofs.Parse.{several_begins, several_more, several_stops, several_ended}
-use Rattle.pack_check.proofs.CheckEntries.{heads_begin, heads_go, heads_end}
-use Rattle.pack_check.proofs.CheckPositions.{stops_none, stops_more, stops_all}
+use Rattle.word.proofs.Rests.{none_read, one_read, one_unread}
+use Rattle.entry_check.proofs.CheckSteps.{none_behind}
+use Rattle.pack_check.proofs.CheckEntries.{heads_begin, heads_go}
+use Rattle.pack_check.proofs.CheckPositions.{stops_none, stops_more}
 use Rattle.pack_check.proofs.CheckTables.{positions_begin, positions_more, positions_stop, positions_ended}
 use Rattle.pack_check.proofs.check_pack.entry_points_next.Goals as goal
 
 pub loop-i-init : goal.loop-i-init
-loop-i-init c = (search rules, search rules, search rules, search rules, search rules, search several_begins, search heads_begin, search stops_none, search positions_begin)
+loop-i-init c = (search rules, search rules, search none_read, search heads_begin, search stops_none, search positions_begin)
 
-pub returns-then-next-eq0-clause-result_value : goal.returns-then-next-eq0-clause-result_value
-returns-then-next-eq0-clause-result_value c = search several_stops
+pub returns-in_err-next-clause-rest : goal.returns-in_err-next-clause-rest
+returns-in_err-next-clause-rest c = search (none_behind, one_unread, c.in_err-next.ensures.rest)
 
-pub returns-then-next-eq0-clause-headed : goal.returns-then-next-eq0-clause-headed
-returns-then-next-eq0-clause-headed c = λ n. absurd (n refl)
-
-pub returns-then-next-eq0-clause-stops : goal.returns-then-next-eq0-clause-stops
-returns-then-next-eq0-clause-stops c = λ n. absurd (n refl)
-
-pub returns-then-next-eq0-clause-heads_after : goal.returns-then-next-eq0-clause-heads_after
-returns-then-next-eq0-clause-heads_after c = search positions_stop
+pub returns-in_err-next-clause-heads_after : goal.returns-in_err-next-clause-heads_after
+returns-in_err-next-clause-heads_after c = search (positions_stop, c.in_err-next.ensures.rest)
 
 pub loop-i-preserved : goal.loop-i-preserved
-loop-i-preserved c = (search rules, search rules, search rules, search rules, search rules, search several_more, search heads_go, search stops_more, search positions_more)
-
-pub returns-clause-result_value : goal.returns-clause-result_value
-returns-clause-result_value c = search several_ended
-
-pub returns-clause-headed : goal.returns-clause-headed
-returns-clause-headed c = λ n. search heads_end
-
-pub returns-clause-stops : goal.returns-clause-stops
-returns-clause-stops c = λ n. search stops_all
+loop-i-preserved c = (
+  search c.in_ok-next.ensures.end,
+  search rules,
+  search (one_read, c.in_ok-next.ensures.rest),
+  search (heads_go, c.in_ok-next.ensures.rest),
+  search stops_more,
+  search (positions_more, c.in_ok-next.ensures.rest, c.in_ok-next.ensures.end),
+)
 
 pub returns-clause-heads_after : goal.returns-clause-heads_after
 returns-clause-heads_after c = search positions_ended

@@ -1,28 +1,16 @@
-use mathlib.Core.Path.{refl}
-use borrow.Author.Rules.{rules}
-use Rattle.pack_check.proofs.CheckLimits.{limits_lack, limits_begin, limits_more, limits_all, limits_none}
+use Rattle.std.proofs.Common.{◌≡◌, true, ◌&&◌, fold, rules, tests}
+use Rattle.std.proofs.lemmas.Iterator.{YieldsList-from_slice}
+use Rattle.std.proofs.lemmas.Iterator.Consumers.{fold_from_yields_List}
+use Rattle.interface.specs.Format.{of_word}
+use Rattle.entry_check.proofs.CheckSteps.{none_behind}
+use Rattle.pack_check.proofs.CheckLimits.{limits_lack, limits_tested}
 use Rattle.pack_check.proofs.check_pack.limits_next.Goals as goal
 
-pub returns-then-body-lt15-clause-result_value : goal.returns-then-body-lt15-clause-result_value
-returns-then-body-lt15-clause-result_value c = search limits_lack
+pub returns-in_err-limits-clause-rest : goal.returns-in_err-limits-clause-rest
+returns-in_err-limits-clause-rest c = none_behind _ _ _ c.from_residual.ensures (limits_lack c.args.body.now c.in_err-limits.ensures.lookup.0)
 
-pub returns-then-body-lt15-clause-value : goal.returns-then-body-lt15-clause-value
-returns-then-body-lt15-clause-value c = λ n. absurd (n refl)
-
-pub loop-i-init : goal.loop-i-init
-loop-i-init c = (search rules, search rules, search limits_begin)
-
-pub loop-i-preserved : goal.loop-i-preserved
-loop-i-preserved c = (search rules, search rules, search limits_more)
-
-pub returns-then-good-clause-result_value : goal.returns-then-good-clause-result_value
-returns-then-good-clause-result_value c = search limits_all
-
-pub returns-then-good-clause-value : goal.returns-then-good-clause-value
-returns-then-good-clause-value c = λ n. refl
-
-pub returns-else-good-clause-result_value : goal.returns-else-good-clause-result_value
-returns-else-good-clause-result_value c = search limits_none
-
-pub returns-else-good-clause-value : goal.returns-else-good-clause-value
-returns-else-good-clause-value c = λ n. absurd (n refl)
+pub returns-clause-rest : goal.returns-clause-rest
+returns-clause-rest c =
+    let all : c.fold-good.result ≡ fold (λ good w. good && of_word 3 w) true c.in_ok-limits.limits.now =
+    fold_from_yields_List _ (λ good w. good && of_word 3 w) true _ c.fold-good.ensures.ran (YieldsList-from_slice c.in_ok-limits.limits.now cc) (λ a x b q k. search (rules, tests)) in
+    limits_tested _ _ _ _ all c.in_ok-limits.ensures.lookup.0 c.then_some.ensures

@@ -2,7 +2,7 @@ use Prim.Native.Nat.{◌-◌, ◌≤◌}
 use mathlib.Core.Path.{◌≡◌}
 use mathlib.Core.List.{◌++◌}
 use lib.ListN.{length, take, drop}
-use Rattle.word.specs.Parse.{several, behind, rest_at}
+use Rattle.word.specs.Parse.{several, from, behind}
 use Rattle.bindings.specs.Format.{read_resource}
 use Rattle.entry_check.specs.Inner.Walks.{listed, pair_roles}
 use Rattle.pack_check.specs.Inner.Records.{Stops}
@@ -11,11 +11,7 @@ use Rattle.pack_check.proofs.check_pack.resources_next.Given as goal
 
 abbrev pub invariant-loop-i : goal.invariant-loop-i
 invariant-loop-i l =
-    (1 ≤ l.at) × (l.at ≤ length l.body) × (l.i ≤ l.n) × (128 ≤ length l.offsets) × (length l.offsets ≡ length l.initial.offsets)
-    × (rest_at l.body l.at ≡ behind (several l.i read_resource (drop l.from l.body)))
+    (l.at ≤ length l.body) × (128 ≤ length l.offsets) × (from (drop l.at l.body) ≡ behind (several l.i read_resource (drop l.from l.body)))
     × (l.roles ≡ pair_roles (listed (several l.i read_resource (drop l.from l.body))) ++ drop l.i l.initial.roles)
     × Stops read_resource l.body l.from l.i l.offsets
     × (over (positions read_resource l.body l.n l.from) l.initial.offsets ≡ take l.i l.offsets ++ over (positions read_resource l.body (l.n - l.i) l.at) (drop l.i l.offsets))
-
-abbrev pub decreases-loop-i : goal.decreases-loop-i
-decreases-loop-i l = l.n - l.i

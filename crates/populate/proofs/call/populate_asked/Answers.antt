@@ -1,21 +1,18 @@
-use Rattle.populate.proofs.WalkWays.{number_small}
+use Rattle.std.proofs.Common.{rules}
 use Rattle.populate.proofs.CallWays.{too_deep, too_many, too_short, enough, all_put}
 use Rattle.populate.proofs.call.populate_asked.Goals as goal
 
-pub given_note-note-requires : goal.given_note-note-requires
-given_note-note-requires c = search number_small
-
 pub returns-then-note-gt8 : goal.returns-then-note-gt8
-returns-then-note-gt8 c = search too_deep
+returns-then-note-gt8 c = search (rules, too_deep)
 
 pub returns-then-note-gt63 : goal.returns-then-note-gt63
-returns-then-note-gt63 c = search too_many
+returns-then-note-gt63 c = search (rules, too_many)
 
-pub returns-then-out-note : goal.returns-then-out-note
-returns-then-out-note c = search too_short
+pub returns-then-out-from : goal.returns-then-out-from
+returns-then-out-from c = search (rules, too_short)
 
-pub put_varyings-requires-clause-var_bound : goal.put_varyings-requires-clause-var_bound
-put_varyings-requires-clause-var_bound c = search enough
+pub put_varyings-requires-clause-room : goal.put_varyings-requires-clause-room
+put_varyings-requires-clause-room c = search enough
 
 pub returns : goal.returns
-returns c = search all_put
+returns c = search (rules, all_put)

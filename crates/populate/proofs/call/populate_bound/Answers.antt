@@ -1,18 +1,12 @@
-use Rattle.populate.proofs.WalkWays.{number_small}
-use Rattle.populate.proofs.CallWays.{binding_fault, words_over, element_there, binding_bad, binding_good_lem}
+use Rattle.std.proofs.Common.{rules}
+use Rattle.populate.proofs.CallWays.{not_whole, binding_bad, binding_well_formed}
 use Rattle.populate.proofs.call.populate_bound.Goals as goal
 
-pub returns-then-end-eq0 : goal.returns-then-end-eq0
-returns-then-end-eq0 c = search binding_fault
-
-pub returns-then-end-bound : goal.returns-then-end-bound
-returns-then-end-bound c = search words_over
-
-pub binding_good-requires : goal.binding_good-requires
-binding_good-requires c = (search number_small, search element_there)
+pub returns-then-ne : goal.returns-then-ne
+returns-then-ne c = search (rules, not_whole)
 
 pub returns-then-not-binding_good : goal.returns-then-not-binding_good
-returns-then-not-binding_good c = search binding_bad
+returns-then-not-binding_good c = search (rules, binding_bad)
 
 pub returns : goal.returns
-returns c = search binding_good_lem
+returns c = search (rules, binding_well_formed)

@@ -1,8 +1,5 @@
-use Rattle.populate.proofs.CallWays.{written_none, list_put}
+use Rattle.populate.proofs.CallWays.{written_none}
 use Rattle.populate.proofs.call.put_varyings.Goals as goal
 
-pub populate-requires-clause-written : goal.populate-requires-clause-written
-populate-requires-clause-written c = search written_none
-
-pub returns : goal.returns
-returns c = search list_put
+pub populate-requires-clause-before : goal.populate-requires-clause-before
+populate-requires-clause-before c = search written_none

@@ -1,12 +1,6 @@
-use Rattle.populate.specs.Inner.Written.{again}
-use lib.ListN.{length}
-use mathlib.Core.Path.{◌≡◌}
-use Prim.Native.Nat.{◌+◌, ◌≤◌}
+use Rattle.populate.specs.Inner.Written.{put}
+use Rattle.std.proofs.Common.{◌≡◌, ◌+◌, take, drop, length}
 use Rattle.populate.proofs.put.put_again.Given as goal
 
-abbrev pub invariant-loop-left : goal.invariant-loop-left
-invariant-loop-left l =
-    (l.from + l.left ≤ l.to) × (l.to + l.left ≤ length l.out) × (length l.out ≡ length l.initial.out) × (again l.initial.out l.first l.position l.count ≡ again l.out l.from l.to l.left)
-
-abbrev pub decreases-loop-left : goal.decreases-loop-left
-decreases-loop-left l = l.left
+abbrev pub invariant-loop-i : goal.invariant-loop-i
+invariant-loop-i l = (length l.out ≡ length l.initial.out) × ((l.to + l.i, l.out) ≡ put l.initial.out l.to (take l.i (drop l.first l.initial.out)))

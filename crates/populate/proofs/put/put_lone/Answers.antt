@@ -7,8 +7,8 @@ put_bound-requires c = search numeric_room
 pub returns-then-kind-eq22 : goal.returns-then-kind-eq22
 returns-then-kind-eq22 c = search numeric_put
 
-pub put_clip-requires-clause-var_in_bounds : goal.put_clip-requires-clause-var_in_bounds
-put_clip-requires-clause-var_in_bounds c = search array_room
+pub put_clip-requires-clause-room : goal.put_clip-requires-clause-room
+put_clip-requires-clause-room c = search array_room
 
 pub returns : goal.returns
 returns c = search array_put

@@ -1,15 +1,15 @@
-use Rattle.resource_steps.proofs.PairLaws.{pair_below_lem, pairs_rest, pairs_refused, pairs_onward, pairs_ended}
 use borrow.Author.Rules.{rules}
+use Rattle.resource_steps.proofs.PairLaws.{pair_below_lem, pairs_rest, pairs_refused, pairs_onward, pairs_ended}
 use Rattle.resource_steps.proofs.pairs.pair_uses.Goals as goal
 
-pub pair_use-a-requires-clause-w_value : goal.pair_use-a-requires-clause-w_value
-pair_use-a-requires-clause-w_value c = (search pair_below_lem, search rules)
+pub pair_use-requires-clause-pair_below : goal.pair_use-requires-clause-pair_below
+pair_use-requires-clause-pair_below c = search pair_below_lem
 
-pub returns-then-a-ne0 : goal.returns-then-a-ne0
-returns-then-a-ne0 c = search pairs_refused
+pub returns-in_err-pair_use : goal.returns-in_err-pair_use
+returns-in_err-pair_use c = search (rules, pairs_refused, c.in_err-pair_use.was)
 
-pub loop-left-preserved : goal.loop-left-preserved
-loop-left-preserved c = (search rules, search pairs_rest, search pairs_onward)
+pub loop-w-preserved : goal.loop-w-preserved
+loop-w-preserved c = (search pairs_rest, search (pairs_onward, c.in_ok-pair_use.was))
 
 pub returns : goal.returns
 returns c = search pairs_ended

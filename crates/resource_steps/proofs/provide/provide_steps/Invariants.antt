@@ -1,11 +1,10 @@
-use Prim.Native.Nat.{◌+◌, ◌-◌, ◌≤◌}
 use mathlib.Core.Path.{◌≡◌}
-use lib.ListN.{length, take, drop}
+use lib.ListN.{length, drop}
 use mathlib.Core.Bool.{true}
 use Rattle.sizes.specs.Format.{sizes_well_formed, decode_sizes}
 use Rattle.layouts.specs.Format.{decode_layout}
 use Rattle.interface.specs.Format.{contents}
-use Rattle.resource_steps.specs.Inner.Given.{resource_table, each_below}
+use Rattle.resource_steps.specs.Inner.Given.{each_below}
 use Rattle.resource_steps.specs.Inner.Notes.{provide_notes}
 use Rattle.resource_steps.specs.Resources.{provide_steps}
 use Rattle.resource_steps.proofs.ProvideLaws.{provide_behind}
@@ -13,12 +12,8 @@ use Rattle.resource_steps.proofs.provide.provide_steps.Given as goal
 
 abbrev pub invariant-loop-passed : goal.invariant-loop-passed
 invariant-loop-passed l =
-    (l.passed ≤ l.n) × (l.at + (l.n - l.passed) ≤ length l.pack) × (length l.sizes ≡ length l.initial.sizes) × (sizes_well_formed l.sizes ≡ true)
-    × (each_below (length (resource_table l.pack l.offsets)) (contents (take (l.n - l.passed) (drop l.at l.pack))) ≡ true)
-    × (provide_steps l.stage (decode_layout l.layout) (resource_table l.pack l.offsets) (contents (take l.n (drop l.from l.pack))) (decode_sizes l.initial.sizes)
-    ≡ provide_behind l.passed (provide_steps l.stage (decode_layout l.layout) (resource_table l.pack l.offsets) (contents (take (l.n - l.passed) (drop l.at l.pack))) (decode_sizes l.sizes)))
-    × (provide_notes l.stage (decode_layout l.layout) (resource_table l.pack l.offsets) (contents (take l.n (drop l.from l.pack))) (decode_sizes l.initial.sizes) l.initial.entries
-    ≡ provide_notes l.stage (decode_layout l.layout) (resource_table l.pack l.offsets) (contents (take (l.n - l.passed) (drop l.at l.pack))) (decode_sizes l.sizes) l.entries)
-
-abbrev pub decreases-loop-passed : goal.decreases-loop-passed
-decreases-loop-passed l = l.n - l.passed
+    (sizes_well_formed l.sizes ≡ true) × (each_below (length l.resources) (contents (drop l.passed l.listed)) ≡ true)
+    × (provide_steps l.stage (decode_layout l.layout) l.resources (contents l.listed) (decode_sizes l.initial.sizes)
+    ≡ provide_behind l.passed (provide_steps l.stage (decode_layout l.layout) l.resources (contents (drop l.passed l.listed)) (decode_sizes l.sizes)))
+    × (provide_notes l.stage (decode_layout l.layout) l.resources (contents l.listed) (decode_sizes l.initial.sizes) l.initial.entries
+    ≡ provide_notes l.stage (decode_layout l.layout) l.resources (contents (drop l.passed l.listed)) (decode_sizes l.sizes) l.entries)

@@ -1,19 +1,16 @@
-use Rattle.type_check.proofs.Noting.{both_depth, both_count, both_words}
-use Rattle.type_check.proofs.MemberWays.{members_begin, members_stop, members_on, members_done, none_depth, none_count, none_words}
+use Rattle.type_check.proofs.Noting.{both_count, both_words}
+use Rattle.type_check.proofs.MemberWays.{members_begin, members_stop, members_on, members_done}
 use borrow.Author.Rules.{rules}
 use Rattle.type_check.proofs.index.members_read.Goals as goal
 
-pub loop-left-init : goal.loop-left-init
-loop-left-init c = (search rules, search rules, search none_depth, search none_count, search none_words, search members_begin)
+pub loop-k-init : goal.loop-k-init
+loop-k-init c = (search rules, search rules, search rules, search members_begin)
 
-pub returns-then-r-eq0-clause-result_value : goal.returns-then-r-eq0-clause-result_value
-returns-then-r-eq0-clause-result_value c = search members_stop
+pub returns-in_err-r-clause-reached : goal.returns-in_err-r-clause-reached
+returns-in_err-r-clause-reached c = rw c.from_residual.ensures (search (members_stop, c.in_err-r.ensures.reached))
 
-pub returns-then-r-eq0-clause-next_in_bounds : goal.returns-then-r-eq0-clause-next_in_bounds
-returns-then-r-eq0-clause-next_in_bounds c = (search rules, search none_depth, search none_count, search none_words)
+pub loop-k-preserved : goal.loop-k-preserved
+loop-k-preserved c = (search (rules, c.in_ok-r.ensures.within), search both_count, search both_words, search (members_on, c.in_ok-r.ensures.reached))
 
-pub loop-left-preserved : goal.loop-left-preserved
-loop-left-preserved c = (search rules, search rules, search both_depth, search both_count, search both_words, search members_on)
-
-pub returns-clause-result_value : goal.returns-clause-result_value
-returns-clause-result_value c = search members_done
+pub returns-clause-reached : goal.returns-clause-reached
+returns-clause-reached c = search members_done

@@ -1,30 +1,17 @@
 use lib.ListN.{length-set}
-use mathlib.Core.Path.{refl}
 use native.Mathlib.Omega.{arith}
-use Rattle.type_check.proofs.ListWays.{types_begin, noted_none, earlier_length, types_stop, type_inside, types_on, noted_on, types_done, noted_all}
+use Rattle.type_check.proofs.ListWays.{types_begin, none_noted, earlier_length, types_stop, types_on, noted_on}
 use borrow.Author.Rules.{rules}
 use Rattle.type_check.proofs.index.types_read.Goals as goal
 
 pub loop-i-init : goal.loop-i-init
-loop-i-init c = (search rules, search rules, search rules, search rules, search types_begin, search noted_none)
+loop-i-init c = (search rules, search rules, search types_begin, search none_noted)
 
-pub type_read-r-requires-clause-n_len : goal.type_read-r-requires-clause-n_len
-type_read-r-requires-clause-n_len c = (search earlier_length, search rules, search rules)
+pub invariant_of-earlier-clause-counted : goal.invariant_of-earlier-clause-counted
+invariant_of-earlier-clause-counted c = search earlier_length
 
-pub returns-then-r-eq0-clause-result_value : goal.returns-then-r-eq0-clause-result_value
-returns-then-r-eq0-clause-result_value c = search types_stop
-
-pub returns-then-r-eq0-clause-noted : goal.returns-then-r-eq0-clause-noted
-returns-then-r-eq0-clause-noted c = λ z. absurd (z refl)
-
-pub note_word-requires : goal.note_word-requires
-note_word-requires c = (search type_inside, search rules, search rules, search rules)
+pub returns-in_err-r-clause-position : goal.returns-in_err-r-clause-position
+returns-in_err-r-clause-position c = rw c.from_residual.ensures (search (types_stop, c.in_err-r.ensures.reached))
 
 pub loop-i-preserved : goal.loop-i-preserved
-loop-i-preserved c = (search rules, search rules, search rules, simp length-set (omega arith), search types_on, search noted_on)
-
-pub returns-clause-result_value : goal.returns-clause-result_value
-returns-clause-result_value c = search types_done
-
-pub returns-clause-noted : goal.returns-clause-noted
-returns-clause-noted c = λ z. search noted_all
+loop-i-preserved c = (search (rules, c.in_ok-r.ensures.within), simp length-set (omega arith), search (types_on, c.in_ok-r.ensures.reached), search (noted_on, c.in_ok-r.ensures.reached))

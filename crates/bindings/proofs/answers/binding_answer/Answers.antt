@@ -1,8 +1,0 @@
-use Rattle.word.proofs.Tests.{tests}
-use Rattle.bindings.proofs.answers.binding_answer.Goals as goal
-
-pub returns-then-number-eq0 : goal.returns-then-number-eq0
-returns-then-number-eq0 c = search tests
-
-pub returns : goal.returns
-returns c = search tests
