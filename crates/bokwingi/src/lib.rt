@@ -70,8 +70,8 @@ pub extern "C" fn bokwingi_check_stage(
         dual_source,
         depth,
     };
-    let a = check_stage(pack, layout, sizes, inputs, out, name, codes);
-    hand_out(a, details)
+    let outcome = check_stage(pack, layout, sizes, inputs, out, name, codes);
+    hand_out(Answer::from(outcome), details)
 }
 
 // Chooses the entry point of a stage where no name is given: its position among all is the first detail.
@@ -130,6 +130,6 @@ pub extern "C" fn bokwingi_populate(
     ensures handed { Handed (populate_call types.now asked binding.now out.old).0 result details.old details.new }
     ensures out_after { out.new ≡ (populate_call types.now asked binding.now out.old).1 }
 {
-    let a = populate_types(types, asked, binding, out);
-    hand_out(a, details)
+    let outcome = populate_types(types, asked, binding, out);
+    hand_out(Answer::from(outcome), details)
 }

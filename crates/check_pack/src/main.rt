@@ -9,11 +9,13 @@ ghost use Rattle.std.specs.Io.{ReadsAtMost};
 ghost use Rattle.std.specs.Io.KnownBytes.{Appends, Consumes, IsAtEnd};
 ghost use Rattle.report.specs.Report.{report};
 
+use report::report_text;
 use std::io;
 use std::io::{Read, Write};
 use std::process::ExitCode;
 
 // Reads until the room is full or the input ends, and answers how many bytes were read.
+// Each read gives as many bytes as it likes, so this is no counted loop.
 fn read_bytes<R: Read>(input: &mut R, room: &mut [u8]) -> io::Result<usize>
     ensures bound { ReadsAtMost result room.new }
     ensures bytes { IfOk result (λ n. Consumes (R.remaining input.old) (R.remaining input.new) (take n room.new)) }
@@ -55,9 +57,8 @@ fn read_input<R: Read>(input: &mut R, room: &mut [u8]) -> io::Result<usize>
 fn print_report<W: Write>(output: &mut W, bytes: &[u8]) -> io::Result<()>
     ensures { OnOk result (Appends (W.contents output.old) (W.contents output.new) (report bytes.now)) }
 {
-    let mut text = [0u8; 12288];
-    let n = report::report_text(bytes, &mut text);
-    output.write_all(&text[..n])
+    let text = report_text(bytes);
+    output.write_all(text.as_slice())
 }
 
 // Says on standard error what failed. Where that cannot be written either, nobody is told.

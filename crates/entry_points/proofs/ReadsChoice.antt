@@ -18,8 +18,9 @@ use Rattle.word.specs.Words.{word_at}
 use Rattle.word.specs.Answers.{refused}
 use Rattle.word.specs.Refusals.{refusal_answer}
 use Rattle.word.specs.declared.refusal.Refusal.{Refusal}
-use Rattle.pack_check.specs.Errors.{error_number}
+use Rattle.pack_check.specs.Errors.{error_number, pack_refusal}
 use Rattle.pack_check.specs.declared.check_pack.PackError.{PackError}
+use Rattle.pack_check.specs.declared.check_pack.PackError.TheVariants as Error
 use Rattle.pack_check.proofs.Errors.{error_some}
 use Rattle.word.specs.declared.answer.Answer.{Answer}
 use Rattle.interface.specs.Meaning.{EntryPoint, entry_point_nth}
@@ -124,14 +125,16 @@ module _ (stage : ShaderStage) (es : List EntryPoint) (i : ℕ) (only : Option �
 -- ---- where no name is given
 
 module _ (d : Decoded) (stage n : ℕ) (e : n ≡ decoded_number d) where
-  pub pack_refused : (error : PackError) (r : Refusal) → n ≡ error_number error → refusal_answer r ≡ refused (error_number error) → refusal_answer r ≡ finalize_name d stage
+  pub pack_refused : (error : PackError) (r : Refusal) → n ≡ error_number error → r ≡ pack_refusal error → refusal_answer r ≡ finalize_name d stage
   unfolding finalize_name
-  pack_refused error r f h = h ∙ by d (sym f ∙ e)
+  pack_refused error r f h = rw h (by d error (sym f ∙ e))
     where
-      by : (d : Decoded) → error_number error ≡ decoded_number d → refused (error_number error) ≡ finalize_name d stage
-      by Damaged g = rw g
-      by Malformed g = rw g
-      by (Pack i) g = absurd (error_some error g)
+      by : (d : Decoded) (error : PackError) → error_number error ≡ decoded_number d → refusal_answer (pack_refusal error) ≡ finalize_name d stage
+      by Damaged Error.Damaged g = refl
+      by Damaged Error.Malformed g = absurd (omega (arith, g))
+      by Malformed Error.Damaged g = absurd (omega (arith, g))
+      by Malformed Error.Malformed g = refl
+      by (Pack i) error g = absurd (error_some error g)
 
   module _ (z : n ≡ 0) (x : Answer) where
     accepted_answer : x ≡ pick (ltb stage 5) (only_answer (only_entry_point (stage_at stage) (interface_of d).entries)) (refused 3) → x ≡ finalize_name d stage

@@ -46,9 +46,6 @@ module _ (ws : List ℕ) (n : ℕ) (f : layout_well_formed ws ≡ true) (en : n 
 pub head_there : (ws : List ℕ) → layout_well_formed ws ≡ true → 1 ≤ length ws
 head_there ws f = omega (arith, (well_formed ws f).holds)
 
-pub entries_within : (ws : List ℕ) (n : ℕ) → layout_well_formed ws ≡ true → n ≡ count_of ws → 1 + 4 * n ≤ length ws
-entries_within ws n f e = omega (arith, (well_formed ws f).holds)
-
 -- a list of 1,024 words has at most 255 entries
 pub layout_few : (ws : List ℕ) → layout_well_formed ws ≡ true → length (decode_layout ws).entries ≤ 255
 layout_few ws f = omega (arith, (well_formed ws f).holds, (well_formed ws f).short, entries_counted ws)

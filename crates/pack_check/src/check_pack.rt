@@ -2,13 +2,11 @@
 ghost use Rattle.std.specs.Prelude.{◌≡◌, ◌++◌, ◌+◌, ◌<◌, ◌≤◌, length, take, drop, IfSome};
 ghost use Rattle.word.specs.Words.{word_at, bits};
 ghost use Rattle.word.specs.Parse.{one, several, behind, rest_of};
-ghost use Rattle.word.specs.Answers.{refused};
-ghost use Rattle.word.specs.Refusals.{refusal_answer};
 ghost use Rattle.bindings.specs.Format.{read_resource};
 ghost use Rattle.interface.specs.Format.{of_word, edition_well_formed, totals_well_formed, read_entry_point, read_pack, damaged, decode, decoded_number};
 ghost use Rattle.interface.specs.Inner.Parts.{resource_count, Offsets, Heads};
 ghost use Rattle.entry_check.specs.Inner.Walks.{listed, pair_roles, pack_resources};
-ghost use Rattle.pack_check.specs.Errors.{error_number, pack_number};
+ghost use Rattle.pack_check.specs.Errors.{pack_number, pack_refusal};
 ghost use Rattle.pack_check.specs.Inner.Records.{role_of, Headed, entries_behind, records_behind, Stops, EntryStops};
 ghost use Rattle.pack_check.specs.Inner.Positions.{over, positions, entries_from, resources_noted, entries_noted, resource_positions, entry_positions};
 
@@ -26,7 +24,7 @@ pub enum PackError {
 }
 
 impl From<PackError> for Refusal {
-    ghost from_gives = { λ e r. refusal_answer r ≡ refused (error_number e) };
+    ghost from_gives = { λ e r. r ≡ pack_refusal e };
 
     fn from(error: PackError) -> Self {
         match error {

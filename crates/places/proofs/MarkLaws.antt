@@ -1,13 +1,13 @@
 -- Places with a mark, and places distinct from some record on.
 use Prim.Native.Nat.{ℕ, zero, suc, ◌+◌, ◌-◌, ◌*◌, ◌/◌, ◌%◌, ◌^◌, ◌<◌, ◌≤◌, max}
 use native.Mathlib.Omega.{arith}
-use native.Mathlib.Nat.{mul-suc, mul-zero, mul-add, mul-le-mul_left, mul-le-mul_right}
-use mathlib.Core.Path.{◌≡◌, refl, sym, ap, ap₂, ◌∙◌}
-use mathlib.Core.Bool.{Bool, true, false, false≢true}
+use native.Mathlib.Nat.{mul-suc, mul-zero}
+use mathlib.Core.Path.{◌≡◌, refl, sym, ap₂, ◌∙◌}
+use mathlib.Core.Bool.{Bool, true, false}
 use mathlib.Core.List.{List, [], ◌∷◌}
 use lib.Dec.{eqb}
 use lib.ListN.{length, drop, get_or, set}
-use lib.Seq.{get_or-set_same, get_or-set_other}
+use lib.Seq.{get_or-set_same, get_or-set_other, drop-drop}
 use lib.Pow.{pow-lt, shl-shr}
 use lib.Bits.{bit_or, or_shr, or_step}
 use borrow.Author.Tests.{eqb-true, eqb-false, eq-eqb, ne_eqb}
@@ -18,12 +18,13 @@ use Rattle.word.proofs.Lists.{first_passes, rest_passes}
 use Rattle.bindings.specs.Format.{place_of}
 use Rattle.bindings.specs.declared.types.ResourceBinding.{ResourceBinding}
 use Rattle.places.specs.Places.{same_place, place_in, distinct_places, read_place, places}
-use Rattle.places.specs.Records.{count_of, records}
+use Rattle.places.specs.Records.{records}
 use Rattle.places.specs.Inner.Marks.{slot, marked, bit_of, taken}
 use Rattle.word.proofs.Parse.{first_of}
 use Rattle.places.proofs.PlaceLaws.{same_place_eq}
 use Rattle.places.proofs.PlaceWays.{content_place}
-use Rattle.places.proofs.Records.{one_less, left_cons, left_none}
+use Rattle.places.proofs.Records.{records_at, left_none}
+use Rattle.places.proofs.Words.{slice_from, slice_from_is}
 
 -- ---- marks
 
@@ -92,129 +93,85 @@ module _ (mask b : ℕ) (h : b < 64) where
       let o : mask / 2 ^ bit_of p % 2 ≡ 1 = eqb-true (mask / 2 ^ bit_of p % 2) 1 t in
       eq-eqb (bit_or mask (1 * 2 ^ b % 2 ^ 64) / 2 ^ bit_of p % 2) 1 (omega (arith, or_bit mask (1 * 2 ^ b % 2 ^ 64) (bit_of p)))
 
--- ---- positions
-
--- the records of a list end at a position that fits
-module _ (width n m : ℕ) (w : width ≤ 4) (h : n < 0x1_0000) (k : 0x8_0000 ≤ m) where
-  pub records_fit : width * n < m
-  records_fit = let q : width * n ≤ 4 * n = mul-le-mul_right n w in omega arith
-
-  pub end_fits : 1 + width * n < m
-  end_fits = let q : width * n ≤ 4 * n = mul-le-mul_right n w in omega arith
-
-module _ (width at left : ℕ) (e : at ≡ 1 + width * left) (h : left ≡ 0 → ⊥) where
-  pub record_fits : width ≤ at
-  record_fits = omega (arith, one_less width left h)
-
-  pub record_within : (n c m : ℕ) → left ≤ n → n ≡ c → 0 < width → 1 + width * c ≤ m → at - width < m
-  record_within n c m k en o b =
-      let w : 1 + width * n ≤ m = rw en b in
-      let q : width * left ≤ width * n = mul-le-mul_left width k in
-      omega (arith, one_less width left h)
-
-  pub record_starts : at - width ≡ 1 + width * (left - 1)
-  record_starts = omega (arith, one_less width left h)
-
--- those behind a record end where all end
-pub behind_within : (width at left n c m : ℕ) → at ≡ 1 + width * left → left ≤ n → n ≡ c → 1 + width * c ≤ m → at + width * (n - left) ≤ m
-behind_within width at left n c m e k en b =
-    let h : 1 + width * n ≤ m = rw en b in
-    let s : left + (n - left) ≡ n = omega arith in
-    let q : width * left + width * (n - left) ≡ width * n = sym (mul-add width left (n - left)) ∙ ap (λ j. width * j) s in
-    omega arith
-
--- ---- the records from a position on
-
--- one place twice behind some records is so in the whole list
-twice_behind : (width : ℕ) (l : List ℕ) (j k at : ℕ) → distinct_places (places width k (drop (at + width * j) l)) ≡ false
-    → distinct_places (places width (j + k) (drop at l)) ≡ false
-unfolding distinct_places
-twice_behind width l zero k at h =
-    let z : at + width * 0 ≡ at = rw mul-zero (omega arith) in
-    let o : 0 + k ≡ k = omega arith in
-    rw o (rw z at h)
-twice_behind width l (suc j) k at h =
-    let a : at + width * suc j ≡ at + width + width * j = rw mul-suc (omega arith) in
-    let z : suc j + k ≡ 0 → ⊥ = λ e. omega arith in
-    let m : suc j + k - 1 ≡ j + k = omega arith in
-    let r : distinct_places (places width (j + k) (drop (at + width) l)) ≡ false = twice_behind width l j k (at + width) (rw a at h) in
-    rw (left_cons width read_place l (suc j + k) at z, m)
-    (by_test (place_in (read_place (drop at l)) (places width (j + k) (drop (at + width) l))) (λ t. rw t) (λ f. rw f r))
-
 -- ---- the code's ways from the last record to the first
 
-pub marks_begin : (test : ResourceBinding → Bool) (width n : ℕ) (ws : List ℕ) → every test (places width (n - n) ws) ≡ true
-unfolding every
-marks_begin test width n ws = let z : n - n ≡ 0 = omega arith in rw (left_none width read_place (n - n) ws z)
+-- one place twice behind some records is so among all
+twice_behind : (width j k : ℕ) (l : List ℕ) → distinct_places (places width k (drop (width * j) l)) ≡ false → distinct_places (places width (j + k) l) ≡ false
+unfolding distinct_places records
+twice_behind width zero k l h = let o : 0 + k ≡ k = omega arith in rw o (rw mul-zero at h)
+twice_behind width (suc j) k l h =
+    let e : width + width * j ≡ width * suc j = rw mul-suc (omega arith) in
+    let s : suc j + k ≡ suc (j + k) = omega arith in
+    let r : distinct_places (places width (j + k) (drop width l)) ≡ false = twice_behind width j k (drop width l) (rw (drop-drop (width * j) width l, e) h) in
+    rw s (by_test (place_in (read_place l) (places width (j + k) (drop width l))) (λ t. rw t) (λ f. rw f r))
 
-pub marked_begins : (width n : ℕ) (ws : List ℕ) → distinct_places (places width (n - n) ws) ≡ true
-unfolding distinct_places
-marked_begins width n ws = let z : n - n ≡ 0 = omega arith in rw (left_none width read_place (n - n) ws z)
-
-module _ (width n left at : ℕ) (l : List ℕ) (fits : left ≤ n) (e : at ≡ 1 + width * left) (h : left ≡ 0 → ⊥) where
-  abbrev p : ResourceBinding
-  p = place_of (word_at l (at - width) % 0x800_0000)
-
-  one_more : places width (n - (left - 1)) (drop (at - width) l) ≡ p ∷ places width (n - left) (drop at l)
-  one_more =
-      let z : n - (left - 1) ≡ 0 → ⊥ = λ q. omega arith in
-      let k : n - (left - 1) - 1 ≡ n - left = omega arith in
-      let a : at - width + width ≡ at = omega (arith, record_fits width at left e h) in
-      left_cons width read_place l (n - (left - 1)) (at - width) z ∙ rw (first_of l (at - width), content_place (word_at l (at - width)), k, a)
-
-  all_onward : (test more : ResourceBinding → Bool) → ((q : ResourceBinding) → test q ≡ true → more q ≡ true) → more p ≡ true
-      → every test (places width (n - left) (drop at l)) ≡ true → every more (places width (n - (left - 1)) (drop (at - width) l)) ≡ true
+module _ (width n : ℕ) (ws : List ℕ) where
+  pub marks_begin : (test : ResourceBinding → Bool) → every test (places width (n - n) ws) ≡ true
   unfolding every
-  all_onward test more s m t = rw (one_more, m) (marks_stay test more (places width (n - left) (drop at l)) s t)
+  marks_begin test = let z : n - n ≡ 0 = omega arith in rw (left_none width read_place (n - n) ws z)
 
-  pub marks_onward : (marks : List ℕ) (s : ℕ) → s ≡ slot p → s < 1024 → length marks ≡ 1024 → every (marked marks) (places width (n - left) (drop at l)) ≡ true
-      → every (marked (set marks s 1)) (places width (n - (left - 1)) (drop (at - width) l)) ≡ true
+  pub distinct_begins : distinct_places (places width (n - n) ws) ≡ true
+  unfolding distinct_places
+  distinct_begins = let z : n - n ≡ 0 = omega arith in rw (left_none width read_place (n - n) ws z)
+
+module _ (width n i : ℕ) (l : List ℕ) (fits : i ≤ n) (h : 0 < i) where
+  abbrev p : ResourceBinding
+  p = place_of (word_at l (width * (i - 1)) % 0x800_0000)
+
+  -- the places of the records behind one, and the same at the position behind it
+  abbrev after : List ResourceBinding
+  after = places width (n - i) (drop (width * i) l)
+
+  abbrev behind : List ResourceBinding
+  behind = places width (n - (i - 1 + 1)) (slice_from l (width * (i - 1 + 1)))
+
+  behind_is : behind ≡ after
+  behind_is = let e : i - 1 + 1 ≡ i = omega arith in rw (slice_from_is l (width * (i - 1 + 1)), e)
+
+  one_more : places width (n - (i - 1)) (drop (width * (i - 1)) l) ≡ p ∷ behind
+  one_more = records_at width n (i - 1) (omega arith) read_place l ∙ rw (slice_from_is l (width * (i - 1 + 1)), first_of l (width * (i - 1)), content_place (word_at l (width * (i - 1))))
+
+  all_onward : (test more : ResourceBinding → Bool) → ((q : ResourceBinding) → test q ≡ true → more q ≡ true) → more p ≡ true → every test after ≡ true
+      → every more (places width (n - (i - 1)) (drop (width * (i - 1)) l)) ≡ true
+  unfolding every
+  all_onward test more s m t = rw (one_more, m, behind_is) (marks_stay test more after s t)
+
+  pub marks_onward : (marks : List ℕ) (s : ℕ) → s ≡ slot p → s < 1024 → length marks ≡ 1024 → every (marked marks) after ≡ true
+      → every (marked (set marks s 1)) (places width (n - (i - 1)) (drop (width * (i - 1)) l)) ≡ true
   marks_onward marks s es b m t =
       let k : s < length marks = omega arith in
       all_onward (marked marks) (marked (set marks s 1)) (mark_stays marks s k) (mark_there marks s k p es) t
 
-  pub bits_onward : (mask b : ℕ) → b ≡ bit_of p → b < 64 → every (taken mask) (places width (n - left) (drop at l)) ≡ true
-      → every (taken (bit_or mask (1 * 2 ^ b % 2 ^ 64))) (places width (n - (left - 1)) (drop (at - width) l)) ≡ true
-  bits_onward mask b e h t = all_onward (taken mask) (taken (bit_or mask (1 * 2 ^ b % 2 ^ 64))) (bit_stays mask b h) (bit_there mask b h p e) t
+  pub bits_onward : (mask b : ℕ) → b ≡ bit_of p → b < 64 → every (taken mask) after ≡ true
+      → every (taken (bit_or mask (1 * 2 ^ b % 2 ^ 64))) (places width (n - (i - 1)) (drop (width * (i - 1)) l)) ≡ true
+  bits_onward mask b e k t = all_onward (taken mask) (taken (bit_or mask (1 * 2 ^ b % 2 ^ 64))) (bit_stays mask b k) (bit_there mask b k p e) t
 
-  module _ (b : Bool) (eb : b ≡ place_in p (places width (n - left) (drop at l))) where
-    pub marked_twice : n ≡ count_of l → b ≡ true → false ≡ distinct_places (places width (count_of l) (drop 1 l))
+  module _ (b : Bool) (eb : b ≡ place_in p behind) where
+    pub marked_twice : b ≡ true → false ≡ distinct_places (places width n l)
     unfolding distinct_places
-    marked_twice en t =
-        let d : distinct_places (places width (n - (left - 1)) (drop (at - width) l)) ≡ false = rw (one_more, ← eb, t) in
-        let m : left - 1 + (n - (left - 1)) ≡ count_of l = omega arith in
-        sym (rw m at (twice_behind width l (left - 1) (n - (left - 1)) 1 (rw (record_starts width at left e h) at d)))
+    marked_twice t =
+        let d : distinct_places (places width (n - (i - 1)) (drop (width * (i - 1)) l)) ≡ false = rw (one_more, ← eb, t) in
+        let m : i - 1 + (n - (i - 1)) ≡ n = omega arith in
+        sym (rw m at (twice_behind width (i - 1) (n - (i - 1)) l d))
 
-    pub marked_onward : b ≡ false → distinct_places (places width (n - left) (drop at l)) ≡ true
-        → distinct_places (places width (n - (left - 1)) (drop (at - width) l)) ≡ true
+    pub marked_onward : b ≡ false → distinct_places after ≡ true → distinct_places (places width (n - (i - 1)) (drop (width * (i - 1)) l)) ≡ true
     unfolding distinct_places
-    marked_onward f d = rw (one_more, ← eb, f) d
+    marked_onward f d = rw (one_more, ← eb, f, behind_is) d
 
-  pub bits_apart : (mask b : ℕ) → b ≡ bit_of p → (mask / 2 ^ b % 2 ≡ 1 → ⊥) → every (taken mask) (places width (n - left) (drop at l)) ≡ true
-      → distinct_places (places width (n - left) (drop at l)) ≡ true → distinct_places (places width (n - (left - 1)) (drop (at - width) l)) ≡ true
-  bits_apart mask b e z t = marked_onward false (unmarked (taken mask) p (places width (n - left) (drop at l)) t (bit_lacks mask p b e z)) refl
+  pub bits_apart : (mask b : ℕ) → b ≡ bit_of p → (mask / 2 ^ b % 2 ≡ 1 → ⊥) → every (taken mask) after ≡ true → distinct_places after ≡ true
+      → distinct_places (places width (n - (i - 1)) (drop (width * (i - 1)) l)) ≡ true
+  bits_apart mask b e z t = marked_onward false (unmarked (taken mask) p behind (rw behind_is t) (bit_lacks mask p b e z)) refl
 
-pub marked_ended : (width n left at : ℕ) (l : List ℕ) → n ≡ count_of l → at ≡ 1 + width * left → left ≡ 0
-    → distinct_places (places width (n - left) (drop at l)) ≡ true → true ≡ distinct_places (places width (count_of l) (drop 1 l))
-marked_ended width n left at l en e h d =
-    let a : at ≡ 1 = e ∙ rw (h, mul-zero) in
-    let k : n - left ≡ count_of l = omega arith in
-    sym (rw (k, a) at d)
+pub distinct_ended : (width n i : ℕ) (l : List ℕ) → i ≤ 0 → distinct_places (places width (n - i) (drop (width * i) l)) ≡ true → distinct_places (places width n l) ≡ true
+distinct_ended width n i l h d =
+    let z : i ≡ 0 = omega arith in
+    let k : n - 0 ≡ n = omega arith in
+    rw (z, mul-zero, k) at d
 
 -- ---- a list of a few records
 
-pub differ_not : (A : Type 0) → false ≡ true → A
-differ_not A h = absurd (false≢true h)
-
-pub differ_all : (width n left at : ℕ) (l : List ℕ) → n ≡ count_of l → at ≡ 1 + width * left → left ≡ 0
-    → distinct_places (places width (n - left) (drop at l)) ≡ true → true ≡ true → distinct_places (places width (count_of l) (drop 1 l)) ≡ true
-differ_all width n left at l en e h d t = sym (marked_ended width n left at l en e h d)
-
-pub differ_distinct : (b d : Bool) → (b ≡ true → d ≡ true) → b ≡ true → true ≡ d
-differ_distinct b d h t = sym (h t)
-
-pub few_distinct : (width n c : ℕ) (ws : List ℕ) → n ≡ c → n < 2 → true ≡ distinct_places (places width c ws)
+pub few_distinct : (width n : ℕ) (ws : List ℕ) → n < 2 → true ≡ distinct_places (places width n ws)
 unfolding distinct_places records place_in
-few_distinct width n zero ws e h = refl
-few_distinct width n (suc zero) ws e h = refl
-few_distinct width n (suc (suc c)) ws e h = absurd (omega arith)
+few_distinct width zero ws h = refl
+few_distinct width (suc zero) ws h = refl
+few_distinct width (suc (suc n)) ws h = absurd (omega arith)

@@ -2,12 +2,10 @@
 use Rattle.std.proofs.Common.{Option, Some, None}
 use Prim.Native.Nat.{ℕ, ◌+◌, ◌-◌, ◌*◌, ◌%◌, ◌<◌, ◌≤◌, ◌^◌}
 use native.Mathlib.Omega.{arith}
-use native.Mathlib.Nat.{mul-suc, mul-le-mul_left, mul-le-mul_right}
 use mathlib.Core.Path.{◌≡◌, refl, sym, ap, ◌∙◌}
 use mathlib.Core.Bool.{Bool, true, false}
 use mathlib.Core.List.{List, [], ◌∷◌}
 use lib.ListN.{drop, get_or}
-use lib.Seq.{drop-drop}
 use borrow.Author.Tests.{eq-eqb, eqb-true, ltb-true}
 use Rattle.word.specs.Choice.{pick}
 use Rattle.word.specs.Words.{word_at, content_of, kind_of, bits}
@@ -18,14 +16,9 @@ use Rattle.places.specs.Places.{same_place, place_from, place_in, distinct_place
 use Rattle.word.proofs.Lists.{first_passes, rest_passes}
 use Rattle.places.specs.Records.{each}
 use Rattle.places.specs.Inner.Begins.{place_first}
-use Rattle.places.proofs.Records.{each_cons, one_less, read_length, nth_record, left_cons, left_none}
+use Rattle.places.proofs.Records.{each_at, read_length, nth_record, records_at, left_none}
 use Rattle.word.proofs.Parse.{first_of}
 use Rattle.places.proofs.PlaceLaws.{same_place_eq, found_nth}
-
--- ---- a place sought
-
-pub sought_begins : (place : ResourceBinding) (width n : ℕ) (ws : List ℕ) → place_from place (places width n ws) 0 ≡ place_from place (places width n ws) (n - n)
-sought_begins place width n ws = let e : n - n ≡ 0 = omega arith in rw e
 
 -- ---- a place sought by the content of its word
 
@@ -52,31 +45,33 @@ module _ (w content : ℕ) (h : content < 2 ^ 27) where
       absurd (n (omega arith)))
       (λ f. f)
 
-module _ (width : ℕ) (l : List ℕ) (n left at content : ℕ) (goal : Option ℕ) (inv : goal ≡ place_from (place_of content) (places width left (drop at l)) (n - left)) where
-  module _ (h : left ≡ 0 → ⊥) (encodable : content < 2 ^ 27) where
-    pub content_found : word_at l at % 0x800_0000 ≡ content → Some (n - left) ≡ goal
-    unfolding place_from
-    content_found e = sym (inv ∙ rw (left_cons width read_place l left at h, first_of l at, content_same (word_at l at) content encodable e))
+-- one of the records that are left has a place
+module _ (width n i content : ℕ) (l : List ℕ) (goal : Bool) (inv : goal ≡ place_in (place_of content) (places width (n - i) (drop (width * i) l))) where
+  module _ (h : i < n) (encodable : content < 2 ^ 27) where
+    pub content_found : word_at l (width * i) % 0x800_0000 ≡ content → true ≡ goal
+    unfolding place_in
+    content_found e = sym (inv ∙ rw (records_at width n i h read_place l, first_of l (width * i), content_same (word_at l (width * i)) content encodable e))
 
-    pub content_onward : left ≤ n → (word_at l at % 0x800_0000 ≡ content → ⊥)
-        → goal ≡ place_from (place_of content) (places width (left - 1) (drop (at + width) l)) (n - (left - 1))
-    unfolding place_from
-    content_onward m e =
-        let k : n - left + 1 ≡ n - (left - 1) = omega arith in
-        inv ∙ rw (left_cons width read_place l left at h, first_of l at, content_other (word_at l at) content encodable e, k)
+    pub content_onward : (word_at l (width * i) % 0x800_0000 ≡ content → ⊥) → goal ≡ place_in (place_of content) (places width (n - (i + 1)) (drop (width * (i + 1)) l))
+    unfolding place_in
+    content_onward e = inv ∙ rw (records_at width n i h read_place l, first_of l (width * i), content_other (word_at l (width * i)) content encodable e)
 
-  pub content_nowhere : left ≡ 0 → None ≡ goal
-  unfolding place_from
-  content_nowhere z = sym (inv ∙ rw (left_none width read_place left (drop at l) z))
+  pub content_nowhere : n ≤ i → false ≡ goal
+  unfolding place_in
+  content_nowhere z = let k : n - i ≡ 0 = omega arith in sym (inv ∙ rw (left_none width read_place (n - i) (drop (width * i) l) k))
 
 -- ---- a place sought by its word, among records that begin with a place's word
 
-module _ (width : ℕ) (l : List ℕ) (left at : ℕ) (h : left ≡ 0 → ⊥) (t : each width place_first left (drop at l) ≡ true) where
-  first_is_place : kind_of (word_at l at) ≡ 4
-  first_is_place = rw (first_of l at) at (eqb-true (kind_of (word_at (drop at l) 0)) 4 (first_passes (place_first (drop at l)) (each width place_first (left - 1) (drop (at + width) l)) (rw (each_cons width place_first l left at h) at t)))
+module _ (width n i : ℕ) (l : List ℕ) (h : i < n) (t : each width place_first (n - i) (drop (width * i) l) ≡ true) where
+  abbrev others : Bool
+  others = each width place_first (n - (i + 1)) (drop (width * (i + 1)) l)
 
-  pub places_onward : each width place_first (left - 1) (drop (at + width) l) ≡ true
-  places_onward = rest_passes (place_first (drop at l)) (each width place_first (left - 1) (drop (at + width) l)) (rw (each_cons width place_first l left at h) at t)
+  first_is_place : kind_of (word_at l (width * i)) ≡ 4
+  first_is_place =
+      rw (first_of l (width * i)) at (eqb-true (kind_of (word_at (drop (width * i) l) 0)) 4 (first_passes (place_first (drop (width * i) l)) others (rw (each_at width n i place_first l h) at t)))
+
+  pub places_onward : others ≡ true
+  places_onward = rest_passes (place_first (drop (width * i) l)) others (rw (each_at width n i place_first l h) at t)
 
 module _ (w place : ℕ) (k : kind_of w ≡ 4) (m : kind_of place ≡ 4) where
   word_other : (w ≡ place → ⊥) → same_place (place_of w) (place_of place) ≡ false
@@ -86,22 +81,21 @@ module _ (w place : ℕ) (k : kind_of w ≡ 4) (m : kind_of place ≡ 4) where
 same_itself : (p : ResourceBinding) → same_place p p ≡ true
 same_itself p = rw (eq-eqb p.group p.group refl, eq-eqb p.binding p.binding refl)
 
-module _ (width : ℕ) (l : List ℕ) (n left at place : ℕ) (goal : Option ℕ) (inv : goal ≡ place_from (place_of place) (places width left (drop at l)) (n - left)) where
-  module _ (h : left ≡ 0 → ⊥) where
-    pub word_found : word_at l at ≡ place → Some (n - left) ≡ goal
+module _ (width n i place : ℕ) (l : List ℕ) (goal : Option ℕ) (inv : goal ≡ place_from (place_of place) (places width (n - i) (drop (width * i) l)) i) where
+  module _ (h : i < n) where
+    pub word_found : word_at l (width * i) ≡ place → Some i ≡ goal
     unfolding place_from
-    word_found e = sym (inv ∙ rw (left_cons width read_place l left at h, first_of l at, e, same_itself (place_of place)))
+    word_found e = sym (inv ∙ rw (records_at width n i h read_place l, first_of l (width * i), e, same_itself (place_of place)))
 
-    pub word_onward : kind_of place ≡ 4 → each width place_first left (drop at l) ≡ true → left ≤ n → (word_at l at ≡ place → ⊥)
-        → goal ≡ place_from (place_of place) (places width (left - 1) (drop (at + width) l)) (n - (left - 1))
+    pub word_onward : kind_of place ≡ 4 → each width place_first (n - i) (drop (width * i) l) ≡ true → (word_at l (width * i) ≡ place → ⊥)
+        → goal ≡ place_from (place_of place) (places width (n - (i + 1)) (drop (width * (i + 1)) l)) (i + 1)
     unfolding place_from
-    word_onward m t b e =
-        let k : n - left + 1 ≡ n - (left - 1) = omega arith in
-        inv ∙ rw (left_cons width read_place l left at h, first_of l at, word_other (word_at l at) place (first_is_place width l left at h t) m e, k)
+    word_onward m t e =
+        inv ∙ rw (records_at width n i h read_place l, first_of l (width * i), word_other (word_at l (width * i)) place (first_is_place width n i l h t) m e)
 
-  pub word_nowhere : left ≡ 0 → None ≡ goal
+  pub word_nowhere : n ≤ i → None ≡ goal
   unfolding place_from
-  word_nowhere z = sym (inv ∙ rw (left_none width read_place left (drop at l) z))
+  word_nowhere z = let k : n - i ≡ 0 = omega arith in sym (inv ∙ rw (left_none width read_place (n - i) (drop (width * i) l) k))
 
 -- the word of a content is a place's, and tells the same place
 module _ (content : ℕ) (h : content < 2 ^ 27) where
@@ -114,17 +108,6 @@ module _ (content : ℕ) (h : content < 2 ^ 27) where
       let n : bits 22 0 (0x20000000 + content) ≡ bits 22 0 content = omega arith in
       rw (g, n) at f
 
--- the records that are left lie within the words
-module _ (width left at m : ℕ) (h : at + width * left ≤ m) (k : left ≡ 0 → ⊥) where
-  pub within : 0 < width → at < m
-  within o = omega (arith, one_less width left k)
-
-  pub within_onward : at + width + width * (left - 1) ≤ m
-  within_onward = omega (arith, one_less width left k)
-
-pub found_below_lem : (n left : ℕ) → left ≤ n → (left ≡ 0 → ⊥) → n - left < n
-found_below_lem n left h k = omega arith
-
 -- a word tells the place that its content tells
 pub content_tells : (ps : List ResourceBinding) (r : Option ℕ) (w c : ℕ) → c ≡ content_of w → r ≡ place_from (place_of c) ps 0 → r ≡ place_from (place_of w) ps 0
 content_tells ps r w c e f =
@@ -134,35 +117,15 @@ content_tells ps r w c e f =
 
 -- ---- a position that is tried first: no other record has its place
 
-module _ (width n i : ℕ) (h : i < n) where
-  before_next : width * i + width ≤ width * n
-  before_next = rw (← mul-suc width i) (mul-le-mul_left width (omega arith))
-
-  pub near_inside : (m : ℕ) → 0 < width → 1 + width * n ≤ m → 1 + width * i < m
-  near_inside m o b = omega (arith, before_next)
-
-  module _ (m : ℕ) (w : width ≤ 4) (k : n < 2 ^ 32) (b : 2 ^ 60 ≤ m) where
-    near_low : width * i < 2 ^ 34
-    near_low = let q : width * i ≤ 4 * i = mul-le-mul_right i w in omega arith
-
-    pub near_scaled : width * i < m
-    near_scaled = omega (arith, near_low)
-
-    pub near_placed : 1 + width * i < m
-    near_placed = omega (arith, near_low)
-
-    pub near_bytes : (1 + width * i) * 4 < m
-    near_bytes = omega (arith, near_low)
-
-  pub near_record : (l : List ℕ) (content : ℕ) → distinct_places (places width n (drop 1 l)) ≡ true → word_at l (1 + width * i) % 0x800_0000 ≡ content
-      → Some i ≡ place_from (place_of content) (places width n (drop 1 l)) 0
-  near_record l content d q =
-      let ps = places width n (drop 1 l) in
-      let g : get_or ps i (place_of content) ≡ place_of content
-      = nth_record width read_place n i (drop 1 l) (place_of content) h
-      ∙ rw (drop-drop (width * i) 1 l, first_of l (1 + width * i)) (sym (content_place (word_at l (1 + width * i))) ∙ ap place_of q) in
-      let z : 0 + i ≡ i = omega arith in
-      sym (rw (g, z) at (found_nth ps 0 i (place_of content) d (omega (arith, read_length width read_place n (drop 1 l)))))
+pub near_record : (width n i : ℕ) (l : List ℕ) (content : ℕ) → i < n → distinct_places (places width n l) ≡ true → word_at l (width * i) % 0x800_0000 ≡ content
+    → Some i ≡ place_from (place_of content) (places width n l) 0
+near_record width n i l content h d q =
+    let ps = places width n l in
+    let g : get_or ps i (place_of content) ≡ place_of content
+    = nth_record width read_place n i l (place_of content) h
+    ∙ rw (first_of l (width * i)) (sym (content_place (word_at l (width * i))) ∙ ap place_of q) in
+    let z : 0 + i ≡ i = omega arith in
+    sym (rw (g, z) at (found_nth ps 0 i (place_of content) d (omega (arith, read_length width read_place n l))))
 
 -- ---- a position that was found
 

@@ -52,6 +52,17 @@ module _ {A : Type 0} (width : ℕ) (read : List ℕ → A) where
   unfolding records
   left_none k ws h = rw h
 
+-- of those from one on: that one, and the others
+module _ (width n i : ℕ) (h : i < n) where
+  next_at : width * (i + 1) ≡ width * i + width
+  next_at = let e : i + 1 ≡ suc i = omega arith in rw e (mul-suc width i)
+
+  pub records_at : {A : Type 0} (read : List ℕ → A) (l : List ℕ)
+      → records width read (n - i) (drop (width * i) l) ≡ read (drop (width * i) l) ∷ records width read (n - (i + 1)) (drop (width * (i + 1)) l)
+  records_at read l =
+      let k : n - i - 1 ≡ n - (i + 1) = omega arith in
+      left_cons width read l (n - i) (width * i) (λ z. omega arith) ∙ rw (k, next_at)
+
 pub past_drop : (width n : ℕ) (ws : List ℕ) → past width n ws ≡ drop (width * n) ws
 unfolding past
 past_drop width zero ws = rw mul-zero
@@ -99,6 +110,13 @@ module _ (width : ℕ) (test : List ℕ → Bool) where
   pub each_none : (k : ℕ) (ws : List ℕ) → k ≡ 0 → each width test k ws ≡ true
   unfolding each
   each_none k ws h = rw h
+
+-- of those from one on: that one passes, and the others
+module _ (width n i : ℕ) (test : List ℕ → Bool) (l : List ℕ) (h : i < n) where
+  pub each_at : each width test (n - i) (drop (width * i) l) ≡ pick (test (drop (width * i) l)) (each width test (n - (i + 1)) (drop (width * (i + 1)) l)) false
+  each_at =
+      let k : n - i - 1 ≡ n - (i + 1) = omega arith in
+      each_cons width test l (n - i) (width * i) (λ z. omega arith) ∙ rw (k, next_at width n i h)
 
 -- ---- a test of each
 

@@ -1,5 +1,6 @@
 -- The code's ways through tests joined by `&&`, and through a loop that tests each record.
-use Prim.Native.Nat.{ℕ, ◌+◌, ◌-◌, ◌≤◌}
+use Prim.Native.Nat.{ℕ, ◌+◌, ◌-◌, ◌*◌, ◌<◌, ◌≤◌}
+use native.Mathlib.Omega.{arith}
 use mathlib.Core.Path.{◌≡◌, sym, ◌∙◌}
 use mathlib.Core.Bool.{Bool, true, false, not, ◌&&◌}
 use mathlib.Core.List.{List}
@@ -7,7 +8,8 @@ use lib.Dec.{leb}
 use lib.ListN.{drop}
 use borrow.Author.Tests.{not-true, not-false, le-leb}
 use Rattle.places.specs.Records.{each}
-use Rattle.places.proofs.Records.{each_cons, each_none}
+use Rattle.places.proofs.Records.{each_at, each_none}
+use Rattle.places.proofs.Words.{slice_from, slice_from_is}
 
 -- a test that a call answered: it fails, or what is left decides
 module _ (b test rest : Bool) (e : b ≡ test) where
@@ -21,15 +23,17 @@ module _ (b test rest : Bool) (e : b ≡ test) where
 pub short_passes : (n m : ℕ) (rest r : Bool) → n ≤ m → r ≡ rest → r ≡ (leb n m && rest)
 short_passes n m rest r h k = rw (le-leb n m h) k
 
-pub each_begins : (width : ℕ) (test : List ℕ → Bool) (m n : ℕ) (ws : List ℕ) → n ≡ m → each width test m ws ≡ each width test n ws
-each_begins width test m n ws e = rw e
+-- a loop over the records: one fails, one more passes, all have passed
+module _ (width n i : ℕ) (test : List ℕ → Bool) (l : List ℕ) (goal : Bool) (inv : goal ≡ each width test (n - i) (drop (width * i) l)) where
+  module _ (h : i < n) (b : Bool) (e : b ≡ test (slice_from l (width * i))) where
+    tested : b ≡ test (drop (width * i) l)
+    tested = rw slice_from_is at e
 
-module _ (width : ℕ) (test : List ℕ → Bool) (l : List ℕ) (k at : ℕ) (goal : Bool) (inv : goal ≡ each width test k (drop at l)) where
-  pub each_fails : (b : Bool) → (k ≡ 0 → ⊥) → b ≡ test (drop at l) → not b ≡ true → false ≡ goal
-  each_fails b h e n = sym (inv ∙ rw (each_cons width test l k at h, ← e, not-true b n))
+    pub each_fails : not b ≡ true → false ≡ goal
+    each_fails f = sym (inv ∙ rw (each_at width n i test l h, ← tested, not-true b f))
 
-  pub each_onward : (b : Bool) → (k ≡ 0 → ⊥) → b ≡ test (drop at l) → not b ≡ false → goal ≡ each width test (k - 1) (drop (at + width) l)
-  each_onward b h e n = inv ∙ rw (each_cons width test l k at h, ← e, not-false b n)
+    pub each_onward : not b ≡ false → goal ≡ each width test (n - (i + 1)) (drop (width * (i + 1)) l)
+    each_onward t = inv ∙ rw (each_at width n i test l h, ← tested, not-false b t)
 
-  pub each_ended : k ≡ 0 → true ≡ goal
-  each_ended h = sym (inv ∙ each_none width test k (drop at l) h)
+  pub each_ended : n ≤ i → true ≡ goal
+  each_ended h = let k : n - i ≡ 0 = omega arith in sym (inv ∙ each_none width test (n - i) (drop (width * i) l) k)

@@ -1,14 +1,25 @@
 -- Words at a position, and words written there.
-use Prim.Native.Nat.{ℕ, suc, ◌+◌, ◌≤◌}
+use Prim.Native.Nat.{ℕ, suc, ◌+◌, ◌-◌, ◌≤◌}
 use native.Mathlib.Omega.{arith}
 use native.Mathlib.Numerals.{add-one}
 use mathlib.Core.Path.{◌≡◌, refl, sym, ap, ◌∙◌}
 use mathlib.Core.List.{List, [], ◌∷◌, ◌++◌, append_assoc}
 use lib.ListN.{length, take, drop, set, length-append, length-drop, take-append-drop}
 use lib.Seq.{take-append-add, get_or-drop, sets-eq, take_at, drop_at, drop-drop, length-take-le}
+use Rattle.std.proofs.lemmas.List.{take_rest}
 use Rattle.word.specs.Words.{word_at}
 use Rattle.places.specs.Records.{put}
 use Rattle.word.proofs.Parse.{first_of}
+
+-- the words from a position on, as a slice has them
+abbrev pub slice_from : List ℕ → ℕ → List ℕ
+slice_from l at = take (length l - at) (drop at l)
+
+pub slice_from_is : (l : List ℕ) (at : ℕ) → slice_from l at ≡ drop at l
+slice_from_is l at = take_rest l at
+
+pub slice_holds : (l : List ℕ) (at n : ℕ) → at + n ≤ length l → n ≤ length (slice_from l at)
+slice_holds l at n h = rw (slice_from_is l at) (omega (arith, length-drop at l))
 
 pub there : (l : List ℕ) (at k : ℕ) → word_at (drop at l) k ≡ word_at l (at + k)
 there l at k = get_or-drop at l k 0

@@ -1,57 +1,33 @@
 -- Laws of bytes as words.
-use Prim.Native.Nat.{ℕ, zero, suc, ◌+◌, ◌*◌, ◌/◌, ◌<◌, ◌≤◌}
+use Prim.Native.Nat.{ℕ, zero, suc, ◌/◌, ◌≤◌}
 use native.Mathlib.Omega.{arith}
 use mathlib.Core.Path.{◌≡◌, refl}
-use mathlib.Core.List.{List, [], ◌∷◌, ◌++◌}
-use lib.ListN.{length, take, set, get_or}
+use mathlib.Core.List.{List, [], ◌∷◌, map}
+use lib.ListN.{length, take}
+use lib.Seq.{take_all}
+use Rattle.std.specs.Int.{w32, from_le_bytes}
+use Rattle.std.specs.Simd.{first_chunks}
 use Rattle.report.specs.Text.{words_of, word_of}
-use Rattle.report.specs.Inner.Written.{Wrote}
-use Rattle.report.proofs.Writing.{wrote_none, wrote_byte, wrote_more}
 
--- the word of the four bytes from a position on
-abbrev word_from : List ℕ → ℕ → ℕ
-word_from bs at = word_of (get_or bs at 0) (get_or bs (at + 1) 0) (get_or bs (at + 2) 0) (get_or bs (at + 3) 0)
+word_is : (a b c d : ℕ) → from_le_bytes w32 (a ∷ b ∷ c ∷ d ∷ []) ≡ word_of a b c d
+word_is a b c d = omega arith
 
-words_more : (i : ℕ) (bs : List ℕ) → i < length bs / 4 → words_of (take (4 * i + 4) bs) ≡ words_of (take (4 * i) bs) ++ (word_from bs (4 * i) ∷ [])
+by_fours : (n : ℕ) (bs : List ℕ) → n ≡ length bs / 4 → map (from_le_bytes w32) (first_chunks 4 n bs) ≡ words_of bs
 unfolding words_of
-words_more i [] h = absurd (omega arith)
-words_more i (a ∷ []) h = absurd (omega arith)
-words_more i (a ∷ b ∷ []) h = absurd (omega arith)
-words_more i (a ∷ b ∷ c ∷ []) h = absurd (omega arith)
-words_more zero (a ∷ b ∷ c ∷ d ∷ bs) h = refl
-words_more (suc i) (a ∷ b ∷ c ∷ d ∷ bs) h =
-    let j : i < length bs / 4 = omega arith in
-    let e : (k : ℕ) → 4 * suc i + k ≡ suc (suc (suc (suc (4 * i + k)))) = λ k. omega arith in
-    let f : 4 * suc i ≡ suc (suc (suc (suc (4 * i)))) = omega arith in
-    rw (e 4, e 1, e 2, e 3, f, words_more i bs j)
+by_fours zero [] h = refl
+by_fours (suc n) [] h = absurd (omega arith)
+by_fours zero (a ∷ []) h = refl
+by_fours (suc n) (a ∷ []) h = absurd (omega arith)
+by_fours zero (a ∷ b ∷ []) h = refl
+by_fours (suc n) (a ∷ b ∷ []) h = absurd (omega arith)
+by_fours zero (a ∷ b ∷ c ∷ []) h = refl
+by_fours (suc n) (a ∷ b ∷ c ∷ []) h = absurd (omega arith)
+by_fours zero (a ∷ b ∷ c ∷ d ∷ bs) h = absurd (omega arith)
+by_fours (suc n) (a ∷ b ∷ c ∷ d ∷ bs) h = rw (word_is a b c d, by_fours n bs (omega arith))
 
-words_all : (i : ℕ) (bs : List ℕ) → i ≡ length bs / 4 → words_of (take (4 * i) bs) ≡ words_of bs
-unfolding words_of
-words_all zero [] h = refl
-words_all (suc i) [] h = absurd (omega arith)
-words_all zero (a ∷ []) h = refl
-words_all (suc i) (a ∷ []) h = absurd (omega arith)
-words_all zero (a ∷ b ∷ []) h = refl
-words_all (suc i) (a ∷ b ∷ []) h = absurd (omega arith)
-words_all zero (a ∷ b ∷ c ∷ []) h = refl
-words_all (suc i) (a ∷ b ∷ c ∷ []) h = absurd (omega arith)
-words_all zero (a ∷ b ∷ c ∷ d ∷ bs) h = absurd (omega arith)
-words_all (suc i) (a ∷ b ∷ c ∷ d ∷ bs) h =
-    let j : i ≡ length bs / 4 = omega arith in
-    let f : 4 * suc i ≡ suc (suc (suc (suc (4 * i)))) = omega arith in
-    rw (f, words_all i bs j)
+-- the words of bytes are those of their chunks of four
+words_by_fours : (bs : List ℕ) → map (from_le_bytes w32) (first_chunks 4 (length bs / 4) bs) ≡ words_of bs
+words_by_fours bs = by_fours (length bs / 4) bs refl
 
--- the loop over the words: its start, one word more, its end
-pub words_begin : (t bs : List ℕ) → Wrote t t 0 0 (words_of (take (4 * 0) bs))
-unfolding words_of
-words_begin t bs = wrote_none t 0 (omega arith)
-
-pub words_onward : (t u bs : List ℕ) (i w : ℕ) → Wrote t u 0 i (words_of (take (4 * i) bs)) → i < length bs / 4 → length bs / 4 ≤ length u → w ≡ word_from bs (4 * i)
-    → Wrote t (set u i w) 0 (i + 1) (words_of (take (4 * (i + 1)) bs))
-words_onward t u bs i w f h l e =
-    let j : i < length u = omega arith in
-    let k : 4 * (i + 1) ≡ 4 * i + 4 = omega arith in
-    rw (k, words_more i bs h, ← e) (wrote_more f (wrote_byte u i w j))
-
-pub words_ended : (t u bs : List ℕ) (i : ℕ) → Wrote t u 0 i (words_of (take (4 * i) bs)) → i ≤ length bs / 4 → length bs / 4 ≤ i → Wrote t u 0 i (words_of bs)
-words_ended t u bs i f h k = rw (words_all i bs (omega arith)) at f
+pub words_ended : (bs ws : List ℕ) (fours : List (List ℕ)) (i : ℕ) → fours ≡ first_chunks 4 (length bs / 4) bs → length fours ≤ i → ws ≡ map (from_le_bytes w32) (take i fours) → ws ≡ words_of bs
+words_ended bs ws fours i e h f = rw (take_all i fours h, e, words_by_fours bs) at f

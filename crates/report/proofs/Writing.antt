@@ -1,106 +1,99 @@
--- Laws of a text written from a position on.
-use Prim.Native.Nat.{ℕ, zero, suc, ◌+◌, ◌-◌, ◌*◌, ◌/◌, ◌%◌, ◌<◌, ◌≤◌}
+-- Laws of numbers as text.
+use Prim.Native.Nat.{ℕ, ◌+◌, ◌/◌, ◌%◌, ◌^◌, ◌<◌}
 use native.Mathlib.Omega.{arith}
-use native.Mathlib.Numerals.{add-one, sub-one}
-use mathlib.Core.Path.{◌≡◌, refl, sym, ◌∙◌}
+use mathlib.Core.Path.{◌≡◌, refl, sym}
 use mathlib.Core.List.{List, [], ◌∷◌, ◌++◌, append_assoc, append-nil}
 use borrow.Author.Tests.{lt-ltb, le-ltb}
-use lib.ListN.{length, take, drop, set, get_or, length-append, length-drop, take-append-drop}
-use lib.Seq.{length-take-le, take-suc, take-length, set_split, take_at, drop_at, drop-drop}
+use borrow.Author.Count.{below_none, below_more}
+use lib.ListN.{length, take, get_or}
+use Rattle.std.proofs.lemmas.List.{take_more}
+use Rattle.std.proofs.lemmas.Fmt.{AppendsLastDigit, decimal_from_appends, length-decimal-le}
+use Rattle.std.specs.Fmt as Fmt
+use Rattle.std.specs.Int.{w32, to_be_bytes}
+use Rattle.std.specs.Prelude.{slice_index}
+use Rattle.hex.specs.Hex.{lower_digits, encode_with, encode_lower}
 use Rattle.word.specs.declared.answer.Answer.{Answer}
 use Rattle.report.specs.Text.{digits, decimal, hex_digit, hex_half, hex_line, hex_lines, answer_text, line}
-use Rattle.report.specs.Inner.Written.{Wrote}
 
-module _ {t u : List ℕ} {at end : ℕ} {bytes : List ℕ} (w : Wrote t u at end bytes) where
-  front : length (take at t ++ bytes) ≡ end
-  front = rw (length-append (take at t) bytes, length-take-le at t (omega (arith, w.ends, w.within))) (sym w.ends)
-
-  split : u ≡ take at t ++ bytes ++ drop end t
-  split = w.text ∙ sym (append_assoc (take at t) bytes (drop end t))
-
-  -- what was written, behind what stood before it; and what stands behind it
-  pub wrote_before : take end u ≡ take at t ++ bytes
-  wrote_before = rw split (take_at (take at t ++ bytes) (drop end t) end front)
-
-  pub wrote_behind : drop end u ≡ drop end t
-  wrote_behind = rw split (drop_at (take at t ++ bytes) (drop end t) end front)
-
-  pub wrote_length : length u ≡ length t
-  wrote_length = rw (split, length-append (take at t ++ bytes) (drop end t), front, length-drop end t) (omega (arith, w.within))
-
-pub wrote_none : (t : List ℕ) (at : ℕ) → at ≤ length t → Wrote t t at at []
-wrote_none t at h = record { text = sym (take-append-drop at t); ends = omega arith; within = h }
-
-pub wrote_byte : (t : List ℕ) (at b : ℕ) → at < length t → Wrote t (set t at b) at (at + 1) (b ∷ [])
-wrote_byte t at b h = record { text = rw (add-one at) (set_split t at b h); ends = refl; within = omega arith }
-
--- two texts, the second from where the first ends
-pub wrote_more : {t u v : List ℕ} {a b c : ℕ} {xs ys : List ℕ} → Wrote t u a b xs → Wrote u v b c ys → Wrote t v a c (xs ++ ys)
-wrote_more {t} {u} {v} {a} {b} {c} {xs} {ys} f g =
-    let e : drop c u ≡ drop c t = rw (g.ends, ← drop-drop (length ys) b u, ← drop-drop (length ys) b t, wrote_behind f) in
-    record {
-      text = g.text ∙ rw (wrote_before f, e) (append_assoc (take a t) xs (ys ++ drop c t) ∙ rw (append_assoc xs ys (drop c t)));
-      ends = omega (arith, f.ends, g.ends, length-append xs ys);
-      within = omega (arith, g.within, wrote_length f);
-    }
+-- two texts, one behind the other
+pub both_put : (t u v xs ys : List ℕ) → u ≡ t ++ xs → v ≡ u ++ ys → v ≡ t ++ (xs ++ ys)
+both_put t u v xs ys f g = rw (g, f) (append_assoc t xs ys)
 
 -- ---- decimal
 
-pub digits_none : (most n : ℕ) (t : List ℕ) (at : ℕ) → most ≡ 0 → at + most ≤ length t → Wrote t t at at (digits most n)
+by_last_digit : AppendsLastDigit digits
 unfolding digits
-digits_none most n t at e h = rw e (wrote_none t at (omega arith))
+by_last_digit = record { one = λ k n h. rw (lt-ltb n 10 h); more = λ k n h. rw (le-ltb n 10 h) }
 
-pub digits_last : (most n : ℕ) (t u : List ℕ) (at end : ℕ) → (most ≡ 0 → ⊥) → n < 10 → Wrote t u at end ((48 + n) ∷ []) → Wrote t u at end (digits most n)
-unfolding digits
-digits_last zero n t u at end h s w = absurd (h refl)
-digits_last (suc k) n t u at end h s w = rw (lt-ltb n 10 s) w
+-- a number in decimal is what the library writes of it
+pub decimal_is : (n : ℕ) → n < 2 ^ 32 → Fmt.decimal n ≡ decimal n
+decimal_is n h = sym (decimal_from_appends digits by_last_digit 10 n (omega arith) (length-decimal-le 10 n (omega arith) (omega arith) (omega arith)))
 
-pub digits_more : (most n : ℕ) (t u v : List ℕ) (at next end : ℕ) → (most ≡ 0 → ⊥) → 10 ≤ n → Wrote t u at next (digits (most - 1) (n / 10))
-    → Wrote u v next end ((48 + n % 10) ∷ []) → Wrote t v at end (digits most n)
-unfolding digits
-digits_more zero n t u v at next end h s f g = absurd (h refl)
-digits_more (suc k) n t u v at next end h s f g = rw (le-ltb n 10 s) (wrote_more (rw (sub-one (suc k)) at f) g)
+pub number_put : (t u v xs digits : List ℕ) (n end : ℕ) → n < 2 ^ 32 → xs ≡ digits → digits ≡ Fmt.decimal n → u ≡ t ++ xs → v ≡ u ++ end ∷ [] → v ≡ t ++ (decimal n ++ (end ∷ []))
+number_put t u v xs digits n end h d e f g = both_put t u v (decimal n) (end ∷ []) (rw (d, e, decimal_is n h) at f) g
 
-pub answer_written : {t u v w x : List ℕ} {at b c d end : ℕ} (a : Answer) → Wrote t u at b (decimal a.number ++ (32 ∷ []))
-    → Wrote u v b c (decimal a.first ++ (32 ∷ [])) → Wrote v w c d (decimal a.second ++ (32 ∷ [])) → Wrote w x d end (decimal a.third ++ (10 ∷ []))
-    → Wrote t x at end (answer_text a)
+pub answer_put : (t u v w x : List ℕ) (a : Answer) → u ≡ t ++ (decimal a.number ++ (32 ∷ [])) → v ≡ u ++ (decimal a.first ++ (32 ∷ []))
+    → w ≡ v ++ (decimal a.second ++ (32 ∷ [])) → x ≡ w ++ (decimal a.third ++ (10 ∷ [])) → x ≡ t ++ answer_text a
 unfolding answer_text
-answer_written a f g h i = simp append_assoc at (wrote_more (wrote_more (wrote_more f g) h) i)
+answer_put t u v w x a f g h i = simp append_assoc at (both_put t w x _ _ (both_put t v w _ _ (both_put t u v _ _ f g) h) i)
 
-pub line_written : {t u v : List ℕ} {at b end : ℕ} (stage : ℕ) (a : Answer) → Wrote t u at b (decimal stage ++ (32 ∷ [])) → Wrote u v b end (answer_text a)
-    → Wrote t v at end (line stage a)
+pub line_put : (t u v : List ℕ) (stage : ℕ) (a : Answer) → u ≡ t ++ (decimal stage ++ (32 ∷ [])) → v ≡ u ++ answer_text a → v ≡ t ++ line stage a
 unfolding line
-line_written stage a f g = simp append_assoc at (wrote_more f g)
+line_put t u v stage a f g = simp append_assoc at (both_put t u v _ _ f g)
 
 -- ---- hex
 
-pub digit_written : {t u : List ℕ} {at end b : ℕ} (d : ℕ) → b ≡ hex_digit d → Wrote t u at end (b ∷ []) → Wrote t u at end (hex_digit d ∷ [])
-digit_written d e w = rw (← e) w
+digit_is : (d : ℕ) → d < 16 → slice_index lower_digits d ≡ hex_digit d
+digit_is = below_more P 15 (below_more P 14 (below_more P 13 (below_more P 12 (below_more P 11 (below_more P 10 (below_more P 9 (below_more P 8
+    (below_more P 7 (below_more P 6 (below_more P 5 (below_more P 4 (below_more P 3 (below_more P 2 (below_more P 1 (below_more P 0 (below_none P)
+    refl) refl) refl) refl) refl) refl) refl) refl) refl) refl) refl) refl) refl) refl) refl) refl
+  where
+    P : ℕ → Type 0
+    P d = slice_index lower_digits d ≡ hex_digit d
 
-pub half_written : {t u v w x : List ℕ} {at b c d end : ℕ} (h : ℕ) → Wrote t u at b (hex_digit (h / 4096 % 16) ∷ []) → Wrote u v b c (hex_digit (h / 256 % 16) ∷ [])
-    → Wrote v w c d (hex_digit (h / 16 % 16) ∷ []) → Wrote w x d end (hex_digit (h % 16) ∷ []) → Wrote t x at end (hex_half h)
-unfolding hex_half
-half_written h f g i j = wrote_more (wrote_more (wrote_more f g) i) j
+-- the digits of a word's bytes, high byte first, are those of its two halves
+pub hex_is : (w : ℕ) → encode_lower (to_be_bytes w32 w) ++ 10 ∷ [] ≡ hex_line w
+unfolding encode_with hex_line hex_half
+hex_is w =
+    let e : w / 16777216 % 256 / 16 ≡ w / 65536 / 4096 % 16 = omega arith in
+    let f : w / 16777216 % 256 % 16 ≡ w / 65536 / 256 % 16 = omega arith in
+    let g : w / 65536 % 256 / 16 ≡ w / 65536 / 16 % 16 = omega arith in
+    let h : w / 65536 % 256 % 16 ≡ w / 65536 % 16 = omega arith in
+    let i : w / 256 % 256 / 16 ≡ w % 65536 / 4096 % 16 = omega arith in
+    let j : w / 256 % 256 % 16 ≡ w % 65536 / 256 % 16 = omega arith in
+    let k : w % 256 / 16 ≡ w % 65536 / 16 % 16 = omega arith in
+    let l : w % 256 % 16 ≡ w % 65536 % 16 = omega arith in
+    rw (
+      e,
+      f,
+      g,
+      h,
+      i,
+      j,
+      k,
+      l,
+      digit_is (w / 65536 / 4096 % 16) (omega arith),
+      digit_is (w / 65536 / 256 % 16) (omega arith),
+      digit_is (w / 65536 / 16 % 16) (omega arith),
+      digit_is (w / 65536 % 16) (omega arith),
+      digit_is (w % 65536 / 4096 % 16) (omega arith),
+      digit_is (w % 65536 / 256 % 16) (omega arith),
+      digit_is (w % 65536 / 16 % 16) (omega arith),
+      digit_is (w % 65536 % 16) (omega arith),
+    )
 
-pub hex_written : {t u v w : List ℕ} {at b c end : ℕ} (x : ℕ) → Wrote t u at b (hex_half (x / 65536)) → Wrote u v b c (hex_half (x % 65536)) → Wrote v w c end (10 ∷ [])
-    → Wrote t w at end (hex_line x)
-unfolding hex_line
-hex_written x f g h = wrote_more f (wrote_more g h)
-
--- ---- the lines of words, one after the other
+pub hex_put : (t u v xs : List ℕ) (w : ℕ) → xs ≡ encode_lower (to_be_bytes w32 w) → u ≡ t ++ xs → v ≡ u ++ 10 ∷ [] → v ≡ t ++ hex_line w
+hex_put t u v xs w e f g = rw (← hex_is w, ← e) (both_put t u v _ _ f g)
 
 hex_append : (xs ys : List ℕ) → hex_lines (xs ++ ys) ≡ hex_lines xs ++ hex_lines ys
 unfolding hex_lines
 hex_append [] ys = refl
 hex_append (x ∷ xs) ys = rw (hex_append xs ys) (sym (append_assoc (hex_line x) (hex_lines xs) (hex_lines ys)))
 
-pub hex_begins : (t ws : List ℕ) (at : ℕ) → at + 9 * length ws ≤ length t → Wrote t t at at (hex_lines (take 0 ws))
+pub hex_begun : (t ws : List ℕ) → t ≡ t ++ hex_lines (take 0 ws)
 unfolding hex_lines
-hex_begins t ws at h = wrote_none t at (omega arith)
+hex_begun t ws = sym (append-nil t)
 
-pub hex_onward : {t u v : List ℕ} {at b end : ℕ} (ws : List ℕ) (i : ℕ) → Wrote t u at b (hex_lines (take i ws)) → i < length ws → Wrote u v b end (hex_line (get_or ws i 0))
-    → Wrote t v at end (hex_lines (take (i + 1) ws))
-hex_onward ws i f h g = rw (add-one i, take-suc ws i 0 h, hex_append (take i ws) (get_or ws i 0 ∷ [])) (unfold hex_lines in wrote_more f (rw append-nil g))
-
-pub hex_ended : {t u : List ℕ} {at end : ℕ} (ws : List ℕ) (i : ℕ) → Wrote t u at end (hex_lines (take i ws)) → i ≤ length ws → length ws ≤ i → Wrote t u at end (hex_lines ws)
-hex_ended ws i f h k = let e : i ≡ length ws = omega arith in rw (e, take-length ws) at f
+-- one more word's line
+pub hex_more : (t u v : List ℕ) (ws : List ℕ) (i : ℕ) → i < length ws → u ≡ t ++ hex_lines (take i ws) → v ≡ u ++ hex_line (get_or ws i 0) → v ≡ t ++ hex_lines (take (i + 1) ws)
+hex_more t u v ws i h f g = rw (take_more ws i 0 h, hex_append (take i ws) (get_or ws i 0 ∷ [])) (unfold hex_lines in both_put t u v _ _ f (rw append-nil g))

@@ -1,5 +1,5 @@
 -- The ways of resources through a layout that is being derived.
-use Rattle.std.proofs.Common.{Option, Some, None, Result, Ok, Err}
+use Rattle.std.proofs.Common.{None, Result, Ok, Err}
 use Prim.Native.Nat.{ℕ, ◌+◌, ◌^◌, ◌<◌, ◌≤◌}
 use native.Mathlib.Omega.{arith}
 use mathlib.Core.Path.{◌≡◌, refl, sym, ap, ◌∙◌}
@@ -7,7 +7,7 @@ use mathlib.Core.Bool.{Bool, true, false, not, ◌&&◌}
 use mathlib.Core.List.{List, [], ◌∷◌}
 use lib.Dec.{eqb}
 use lib.ListN.{length, drop}
-use borrow.Author.Tests.{lt-ltb, le-ltb, eqb-true, eqb-false, not-true, not-false}
+use borrow.Author.Tests.{lt-ltb, le-ltb, eqb-true, eqb-false, not-false}
 use Rattle.word.specs.Choice.{pick}
 use Rattle.word.specs.Words.{word_at, content_of, bits, of_kind}
 use Rattle.word.specs.Answers.{accepted}
@@ -28,7 +28,7 @@ use Rattle.bindings.proofs.EntryFormat.{type_read, entry_well_formed_lem, entry_
 use Rattle.bindings.proofs.DerivedTypes.{derived_encodable}
 use Rattle.bindings.proofs.SameBinding.{same_binding_refl, other_by_code, other_by_least}
 use Rattle.word_rules.proofs.DeriveLaws.{derived_least}
-use Rattle.layouts.specs.Meaning.{Layout, entry_places, find_entry, entry_has, entry_nth, pushed, joined, room_for_entry}
+use Rattle.layouts.specs.Meaning.{Layout, entry_places, find_entry, entry_has, pushed, room_for_entry}
 use Rattle.layouts.specs.Format.{entry_fits}
 use Rattle.places.proofs.PlaceWays.{place_lacks}
 use Rattle.interface.specs.Format.{stage_code, contents, pairs_of}
@@ -39,7 +39,7 @@ use Rattle.word.specs.declared.refusal.Refusal.{Refusal}
 use Rattle.word.proofs.Both.{number_nonzero}
 use Rattle.std.specs.List.{list_any}
 use Rattle.resource_steps.specs.declared.types.EntryType.{EntryType}
-use Rattle.resource_steps.specs.Resources.{resource_nth, layout_after, occupied, vacant, place_step, derive_step, named_texture, DeriveResult, derive_result, derive_steps}
+use Rattle.resource_steps.specs.Resources.{resource_nth, layout_after, vacant, place_step, derive_step, named_texture, DeriveResult, derive_result, derive_steps}
 use Rattle.resource_steps.proofs.ResourceParts.{contents_cons, contents_none}
 use Rattle.resource_steps.proofs.ResourceWalk.{one_more}
 
@@ -65,16 +65,6 @@ module _ (ty least : ℕ) (b e : BindingType) (q : b ≡ binding_type_of ty leas
       by_test (eqb y least)
       (λ h. let l : least ≡ least_size_of e = sym (eqb-true y least h) ∙ ey in let same : b ≡ e = cc in rw (h, same) (sym (same_binding_refl e)))
       (λ h. rw h (sym (other_by_least b e (λ l. eqb-false y least h (omega (arith, t.least_size))))))
-
-module _ (stage : ShaderStage) (place i : ℕ) (b : BindingType) (L : Layout) (a : Answer) (k : Bool) (q : k ≡ same_binding b (entry_nth L.entries i).ty) where
-  pub occupied_joined : (M : Layout) (c : ℕ) → not k ≡ false → c ≡ stage_code stage → M ≡ joined c L i → a ≡ accepted
-      → layout_after a M ≡ occupied stage (place_of place) b i L
-  unfolding occupied
-  occupied_joined M c t s m h = rw (← q, not-false k t, ← s, ← m, h)
-
-  pub occupied_other : not k ≡ true → a ≡ binding_answer 29 (place_of place) → layout_after a L ≡ occupied stage (place_of place) b i L
-  unfolding occupied
-  occupied_other t h = rw (← q, not-true k t, h)
 
 -- a place at which no entry was found has none
 none_there : (place : ResourceBinding) (L : Layout) → find_entry place L ≡ None → entry_has place L.entries ≡ false
@@ -115,22 +105,6 @@ module _ (place ty least p v : ℕ) (b : BindingType) (t : TypeWords ty least b)
     pub vacant_pushed : not k ≡ false → a ≡ accepted → layout_after a M ≡ vacant stage (place_of place) b L
     unfolding vacant
     vacant_pushed y h = rw (← q, ← ec, ← ev, m, not-false k y, new_mean, h)
-
-    pub vacant_full : not k ≡ true → a ≡ binding_answer 5 (place_of place) → layout_after a M ≡ vacant stage (place_of place) b L
-    unfolding vacant
-    vacant_full y h = rw (← q, m, not-true k y, h)
-
-module _ (stage : ShaderStage) (place : ℕ) (b : BindingType) (L M : Layout) (a : Answer) (f : Option ℕ) (q : f ≡ find_entry (place_of place) L) where
-  pub place_occupied : (i : ℕ) → f ≡ Some i → layout_after a M ≡ occupied stage (place_of place) b i L
-      → layout_after a M ≡ place_step stage (place_of place) b (find_entry (place_of place) L) L
-  place_occupied i e h = rw (← q, e) h
-
-  pub place_vacant : f ≡ None → layout_after a M ≡ vacant stage (place_of place) b L
-      → layout_after a M ≡ place_step stage (place_of place) b (find_entry (place_of place) L) L
-  place_vacant e h = rw (← q, e) h
-
-pub found_none : (place : ResourceBinding) (L : Layout) (f : Option ℕ) → f ≡ find_entry place L → f ≡ None → find_entry place L ≡ None
-found_none place L f q e = sym q ∙ e
 
 -- ---- one resource
 

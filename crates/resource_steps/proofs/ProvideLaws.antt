@@ -1,5 +1,5 @@
 -- The ways of resources through a provided layout.
-use Rattle.std.proofs.Common.{Option, Some, None, Result, Ok, Err}
+use Rattle.std.proofs.Common.{Result, Ok, Err}
 use Prim.Native.Nat.{ℕ, ◌+◌, ◌^◌, ◌<◌, ◌≤◌}
 use native.Mathlib.Omega.{arith}
 use mathlib.Core.Path.{◌≡◌, refl, sym, ◌∙◌}
@@ -7,46 +7,27 @@ use mathlib.Core.Bool.{Bool, true, false, not, ◌&&◌, true≢false}
 use mathlib.Core.List.{List}
 use lib.Dec.{eqb, ltb}
 use lib.ListN.{length, drop}
-use borrow.Author.Tests.{eq-eqb, ne_eqb, eqb-false, ltb-true, not-true, not-false}
+use borrow.Author.Tests.{eq-eqb, eqb-false, ltb-true, not-true}
 use Rattle.word.specs.Words.{word_at, kind_of, content_of, bits}
 use Rattle.word.specs.Answers.{accepted}
 use Rattle.word.specs.declared.answer.Answer.{Answer}
-use Rattle.bindings.specs.Format.{place_well_formed, place_of, type_code, is_buffer_word, space_at, resource_type_of, type_encodable, space_encodable}
+use Rattle.bindings.specs.Format.{place_well_formed, place_of, type_code, space_at, resource_type_of, type_encodable, space_encodable}
 use Rattle.bindings.specs.Answers.{binding_answer}
 use Rattle.bindings.specs.declared.types.ResourceBinding.{ResourceBinding}
 use Rattle.bindings.specs.declared.types.Resource.{Resource}
-use Rattle.word.proofs.Truth.{second, by_test, first}
-use Rattle.layouts.specs.Meaning.{Layout, find_entry, entry_nth}
+use Rattle.word.proofs.Truth.{second, first}
+use Rattle.layouts.specs.Meaning.{Layout}
 use Rattle.sizes.specs.Meaning.{Sizes, size_has, size_fits, recorded, size_record_width}
 use Rattle.places.specs.Records.{room_for}
 use Rattle.interface.specs.Format.{contents}
 use Rattle.interface.specs.declared.types.ShaderStage.{ShaderStage}
-use Rattle.word.specs.Numbers.{number_of}
-use Rattle.word.specs.declared.refusal.Number.{Number}
-use Rattle.resource_steps.specs.Inner.Stops.{number_or_zero}
 use Rattle.word.specs.Refusals.{answer_of, refusal_answer}
 use Rattle.word.specs.declared.refusal.Refusal.{Refusal}
 use Rattle.word.proofs.Both.{number_nonzero}
-use Rattle.resource_steps.specs.Resources.{resource_nth, sizes_after, record_size, entry_use, provided_use, provide_step, ProvideResult, provide_result, provide_steps}
+use Rattle.resource_steps.specs.Resources.{resource_nth, sizes_after, record_size, provide_step, ProvideResult, provide_result, provide_steps}
 use Rattle.resource_steps.proofs.ResourceParts.{contents_cons, contents_none}
 use Rattle.resource_steps.proofs.ResourceWalk.{one_more}
-use Rattle.bindings.specs.Format.{size_limit, resource}
-
--- ---- the entry of a resource
-
-module _ (stage : ShaderStage) (L : Layout) (r : Resource) (f : Option ℕ) (a : Answer) (q : f ≡ find_entry r.bind L) where
-  pub provided_none : f ≡ None → a ≡ binding_answer 20 r.bind → a ≡ provided_use stage L r
-  unfolding provided_use
-  provided_none n h = rw (← q, n) h
-
-  module _ (i : ℕ) (n : f ≡ Some i) (o : Result Unit Number) (x : number_or_zero o ≡ entry_use stage r.ty (entry_nth L.entries i)) where
-    pub provided_passed : (v : Unit) → o ≡ Ok v → accepted ≡ provided_use stage L r
-    unfolding provided_use
-    provided_passed v z = rw (← q, n, ← x, z)
-
-    pub provided_refused : (number : Number) → o ≡ Err number → a ≡ binding_answer (number_of number) r.bind → a ≡ provided_use stage L r
-    unfolding provided_use
-    provided_refused number z h = rw (← q, n, ← x, z) h
+use Rattle.bindings.specs.Format.{size_limit}
 
 -- ---- the size of a resource
 
@@ -57,20 +38,6 @@ unfolding recorded
 not_recorded bind size S true b p q e = let z : true ≡ false = rw p at e in absurd (true≢false z)
 not_recorded bind size S false true p q e = let z : true ≡ false = rw (p, q) at e in absurd (true≢false z)
 not_recorded bind size S false false p q e = rw (p, q)
-
--- a resource that is no buffer has no size
-module _ (bind : ResourceBinding) (w size : ℕ) (S : Sizes) where
-  none_recorded : is_buffer_word w ≡ false → record_size bind (resource_type_of w size) S ≡ sizes_after accepted S
-  unfolding resource_type_of record_size
-  none_recorded n0 =
-      by_test (eqb (type_code w) 1) (λ t. rw (n0, t) refl) λ n1.
-      by_test (eqb (type_code w) 2) (λ t. rw (n0, n1, t) refl) λ n2.
-      by_test (eqb (type_code w) 3) (λ t. rw (n0, n1, n2, t) refl) λ n3.
-      by_test (eqb (type_code w) 4) (λ t. rw (n0, n1, n2, n3, t) refl) λ n4.
-      by_test (eqb (type_code w) 5) (λ t. rw (n0, n1, n2, n3, n4, t) refl) (λ n5. rw (n0, n1, n2, n3, n4, n5) refl)
-
-  pub size_none : (a : Answer) → (type_code w ≡ 0 → ⊥) → a ≡ accepted → sizes_after a S ≡ record_size bind (resource_type_of w size) S
-  size_none a n h = rw h (sym (none_recorded (ne_eqb (type_code w) 0 n)))
 
 -- the place and the size of a buffer that words can hold
 pub place_well_formed_lem : (p : ℕ) → p < 2 ^ 27 → place_well_formed (0x20000000 + p) ≡ true
@@ -97,27 +64,11 @@ module _ (w size : ℕ) (h : type_encodable (resource_type_of w size) ≡ true) 
         let n : bits 22 0 (0x20000000 + p) ≡ bits 22 0 place = omega arith in
         rw (g, n)
 
-    pub size_recorded_lem : not b ≡ false → a ≡ accepted → sizes_after a T ≡ record_size (place_of place) (resource_type_of w size) S
-    unfolding record_size resource_type_of
-    size_recorded_lem t e = rw (eq-eqb (type_code w) 0 z, ← same_place_lem, ← q, not-false b t, r, e)
-
     pub size_full : not b ≡ true → a ≡ binding_answer 5 (place_of place) → sizes_after a T ≡ record_size (place_of place) (resource_type_of w size) S
     unfolding record_size resource_type_of
     size_full t e =
         let n : size_fits (place_of place) S ≡ false = rw (← same_place_lem) (sym q ∙ not-true b t) in
         rw (eq-eqb (type_code w) 0 z, n, r, same_place_lem, not_recorded (place_of place) size S (size_has (place_of place) S.records) (room_for size_record_width S.room) refl refl n, e)
-
--- ---- one resource, by its index
-
-module _ (rs : List Resource) (i p w size : ℕ) (k : resource p w size ≡ resource_nth rs i) (stage : ShaderStage) (L : Layout) (S T : Sizes) (o : Result Unit Refusal)
-    (e : sizes_after (answer_of o) T ≡ record_size (place_of p) (resource_type_of w size) S) where
-  pub provide_ended : (r : Refusal) → o ≡ Err r → sizes_after (refusal_answer r) T ≡ provide_step stage L (resource_nth rs i) S
-  unfolding provide_step
-  provide_ended r z = rw (← k, ← e, z, number_nonzero r.number)
-
-  pub provide_went : (b : Answer) (v : Unit) → o ≡ Ok v → b ≡ provided_use stage L (resource p w size) → sizes_after b T ≡ provide_step stage L (resource_nth rs i) S
-  unfolding provide_step
-  provide_went b v z h = rw (← k, ← e, z, ← h)
 
 -- ---- one after the other
 

@@ -1,6 +1,6 @@
 -- Positions that were found.
 use Rattle.std.proofs.Common.{Option, Some, None}
-use Prim.Native.Nat.{ℕ, ◌^◌, ◌<◌}
+use Prim.Native.Nat.{ℕ}
 use native.Mathlib.Omega.{arith}
 use mathlib.Core.Path.{◌≡◌, refl}
 use mathlib.Core.Bool.{true}
@@ -15,6 +15,3 @@ use Rattle.layouts.proofs.LayoutStores.{layout_few}
 pub found_few : (l : List ℕ) (f : Option ℕ) → layout_well_formed l ≡ true → found_below (length (decode_layout l).entries) f ≡ true → found_below 256 f ≡ true
 found_few l (Some i) h b = lt-ltb i 256 (omega (arith, layout_few l h, ltb-true i (length (decode_layout l).entries) b))
 found_few l None h b = refl
-
-pub found_byte : (f : Option ℕ) (i : ℕ) → found_below 256 f ≡ true → f ≡ Some i → i < 2 ^ 8
-found_byte f i h e = ltb-true i 256 (rw e at h)

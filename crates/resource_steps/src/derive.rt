@@ -36,6 +36,7 @@ fn same_type(layout: &[u32], index: usize, ty: EntryType) -> bool
 }
 
 // A place that has an entry: of the same type it gains the stage's bit, else 29.
+#[tactic(auto, unfolding(crate::specs::Resources::occupied))]
 fn occupied(
     stage: ShaderStage,
     place: u32,
@@ -57,6 +58,7 @@ fn occupied(
 }
 
 // A place that has no entry gets one; a list without room is 5.
+#[tactic(auto, unfolding(crate::specs::Resources::vacant))]
 fn vacant(stage: ShaderStage, place: u32, ty: EntryType, layout: &mut [u32]) -> Result<(), Refusal>
     requires well_formed { layout_well_formed layout.old ≡ true }
     requires group_in_bounds { (place_of place).group < (decode_layout layout.old).groups }

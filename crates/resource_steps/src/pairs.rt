@@ -18,6 +18,7 @@ use word::content;
 use word::refusal::{Number, Refusal};
 
 // Whether a type word is a filtering sampler's.
+#[tactic(auto, unfolding(bindings::specs::Format::binding_type_of))]
 fn filtering(sampler: u32) -> bool
     ensures { result ≡ filtering (binding_type_of sampler 0) }
 {
@@ -37,6 +38,7 @@ fn sample_use(texture: u32) -> Result<(), Number>
 }
 
 // The type words of a texture's entry and of a sampler's entry: 34 where the first is no texture.
+#[tactic(auto, unfolding(crate::specs::Resources::pair_number, bindings::specs::Format::binding_type_of))]
 fn types_use(texture: u32, sampler: u32) -> Result<(), Number>
     ensures { number_or_zero result ≡ pair_number (binding_type_of texture 0) (binding_type_of sampler 0) }
 {
@@ -53,6 +55,7 @@ fn types_use(texture: u32, sampler: u32) -> Result<(), Number>
 }
 
 // The type word of the entry at a word's place, tried at a position first; where there is none, one that is no texture and no sampler.
+#[tactic(auto, unfolding(bindings::specs::Format::binding_type_of))]
 fn type_word_at(layout: &[u32], place: u32, near: usize) -> u32
     requires { layout_well_formed layout.now ≡ true }
     ensures { WordMeans result (type_at (decode_layout layout.now) (place_of place)) }
@@ -90,13 +93,11 @@ fn places_use(
 {
     let texture_type = type_word_at(layout, texture, texture_near);
     let sampler_type = type_word_at(layout, sampler, sampler_near);
-    match types_use(texture_type, sampler_type) {
-        Ok(()) => Ok(()),
-        Err(number) => Err(pair_refusal(number, texture, sampler)),
-    }
+    types_use(texture_type, sampler_type).map_err(|number| pair_refusal(number, texture, sampler))
 }
 
 // A texture with the sampler it is sampled with, by the word of the pair.
+#[tactic(auto, unfolding(crate::specs::Resources::pair_use))]
 fn pair_use(
     layout: &[u32],
     resources: &ResourceTable,

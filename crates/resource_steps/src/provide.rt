@@ -24,9 +24,10 @@ use word::refusal::{Number, Refusal};
 use word_rules::uses::words_use;
 
 // Records the size that a buffer asks for; a list without room is 5.
+#[tactic(auto, unfolding(crate::specs::Resources::record_size, bindings::specs::Format::resource_type_of))]
 fn record_buffer(
     words: ResourceWords,
-    next: &mut [u16; 1],
+    next: &mut usize,
     sizes: &mut [u32],
 ) -> Result<(), Refusal>
     requires well_formed { sizes_well_formed sizes.old ≡ true }
@@ -66,6 +67,7 @@ fn entry_use(
 }
 
 // Whether a provided layout serves a resource: its entry is tried at a position first, and noted where it stands; 20 where there is none.
+#[tactic(auto, unfolding(crate::specs::Resources::provided_use))]
 fn provided_use(
     stage: ShaderStage,
     layout: &[u32],
@@ -85,20 +87,18 @@ fn provided_use(
     let Some(index) = found else {
         return Err(place_refusal(Number::Missing, place));
     };
-    match entry_use(stage, words, layout, index) {
-        Ok(()) => Ok(()),
-        Err(number) => Err(place_refusal(number, place)),
-    }
+    entry_use(stage, words, layout, index).map_err(|number| place_refusal(number, place))
 }
 
 // One resource of the entry point, by its index: its size recorded, then its use judged.
+#[tactic(auto, unfolding(crate::specs::Resources::provide_step, crate::specs::Inner::Notes::step_notes))]
 fn provide_step(
     resources: &ResourceTable,
     i: u32,
     near: usize,
     stage: ShaderStage,
     entries: &mut [u8; 128],
-    next: &mut [u16; 1],
+    next: &mut usize,
     layout: &[u32],
     sizes: &mut [u32],
 ) -> Result<(), Refusal>
@@ -133,7 +133,7 @@ pub fn provide_steps(
         ≡ provide_notes stage (decode_layout layout.now) resources.now (contents listed.now) (decode_sizes sizes.old) entries.old }
 {
     let mut near: usize = 0;
-    let mut next: [u16; 1] = [0; 1];
+    let mut next = 0;
     for (passed, w) in listed.iter().enumerate() {
         let i = content(*w);
         if let Err(refusal) = provide_step(

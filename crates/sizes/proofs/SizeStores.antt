@@ -20,7 +20,7 @@ use Rattle.places.specs.Records.{room_for, put, past, each, count_of}
 use Rattle.sizes.specs.Format.{read_size, read_sizes, size_good, size_record_words, sizes_well_formed, decode_sizes, encode_sizes, sizes_good}
 use Rattle.sizes.specs.declared.size_record.SizeRecord.{SizeRecord}
 use Rattle.sizes.specs.Inner.Near.{find_size, note_next}
-use Rattle.places.proofs.Words.{there}
+use Rattle.places.proofs.Words.{there, slice_from, slice_from_is, slice_holds}
 use Rattle.places.specs.Inner.Begins.{place_first}
 use Rattle.places.proofs.Records.{each_weaker, read_length, room_lacks, room_fits, nth_record, each_nth, put_more, count_more, set_read}
 use Rattle.places.proofs.PlaceWays.{place_found, place_lacks, found_inside}
@@ -28,20 +28,24 @@ use Rattle.sizes.proofs.SizeLists.{size_form, WellFormed, well_formed, encode_de
 use Rattle.sizes.proofs.SizeLaws.{raised, no_record, raised_set, length_raised, good_recorded}
 use Rattle.sizes.proofs.SizeWays.{size_places_lem}
 
--- records begin with a place's word
-pub sizes_begin : (s : List ℕ) (n : ℕ) → sizes_well_formed s ≡ true → n ≡ count_of s → each 2 place_first n (drop 1 s) ≡ true
-sizes_begin s n f e = rw e (each_weaker 2 size_good place_first (λ ws t. first (place_first ws) _ t) (count_of s) (drop 1 s) (well_formed s f).good)
+module _ (s : List ℕ) (n : ℕ) (f : sizes_well_formed s ≡ true) (e : n ≡ count_of s) where
+  -- records begin with a place's word
+  pub sizes_begin : each 2 place_first n (slice_from s 1) ≡ true
+  sizes_begin = rw (e, slice_from_is s 1) (each_weaker 2 size_good place_first (λ ws t. first (place_first ws) _ t) (count_of s) (drop 1 s) (well_formed s f).good)
 
--- no two records have one place
-pub sizes_differ : (s : List ℕ) (n : ℕ) → sizes_well_formed s ≡ true → n ≡ count_of s → distinct_places (places 2 n (drop 1 s)) ≡ true
-sizes_differ s n f e = rw e (rw (size_places_lem (count_of s) (drop 1 s)) at (well_formed s f).distinct)
+  -- no two records have one place
+  pub sizes_differ : distinct_places (places 2 n (slice_from s 1)) ≡ true
+  sizes_differ = rw (e, slice_from_is s 1) (rw (size_places_lem (count_of s) (drop 1 s)) at (well_formed s f).distinct)
+
+  pub records_within : 2 * n ≤ length (slice_from s 1)
+  records_within = slice_holds s 1 (2 * n) (omega (arith, (well_formed s f).holds))
 
 -- ---- where the place is
 
-module _ (s : List ℕ) (place : ResourceBinding) (n : ℕ) (r : Option ℕ) (en : n ≡ count_of s) (er : r ≡ place_from place (places 2 n (drop 1 s)) 0) where
+module _ (s : List ℕ) (place : ResourceBinding) (n : ℕ) (r : Option ℕ) (en : n ≡ count_of s) (er : r ≡ place_from place (places 2 n (slice_from s 1)) 0) where
   sought : r ≡ place_from place (size_places (decode_sizes s).records) 0
   unfolding decode_sizes
-  sought = rw (size_places_lem (count_of s) (drop 1 s), ← en) er
+  sought = rw (size_places_lem (count_of s) (drop 1 s)) (rw (en, slice_from_is s 1) at er)
 
   pub size_lacks : r ≡ None → size_has place (decode_sizes s).records ≡ false
   size_lacks h = sym (place_lacks place (size_places (decode_sizes s).records) r sought h)
@@ -58,9 +62,9 @@ module _ (s : List ℕ) (place : ResourceBinding) (n : ℕ) (r : Option ℕ) (en
 
 -- ---- the position that is noted
 
-module _ (s next : List ℕ) (place : ResourceBinding) (n : ℕ) (r : Option ℕ) (en : n ≡ count_of s) (er : r ≡ place_from place (places 2 n (drop 1 s)) 0) where
+module _ (s : List ℕ) (next : ℕ) (place : ResourceBinding) (n : ℕ) (r : Option ℕ) (en : n ≡ count_of s) (er : r ≡ place_from place (places 2 n (slice_from s 1)) 0) where
   -- the position behind a record that was found is noted
-  pub next_noted : (i : ℕ) → r ≡ Some i → set next 0 (i + 1) ≡ note_next (find_size place (decode_sizes s)) next
+  pub next_noted : (i : ℕ) → r ≡ Some i → i + 1 ≡ note_next (find_size place (decode_sizes s)) next
   next_noted i h = rw (size_there_lem s place n r en er i h)
 
   -- where there is none, the note stays
@@ -127,7 +131,7 @@ size_kind s i f k =
     rw (there (drop 1 s) (2 * i) 1, there s 1 (2 * i + 1), z) at q
 
 pub size_raised : (s s' : List ℕ) (p size z n i : ℕ) (r : Option ℕ) → sizes_well_formed s ≡ true → size < size_limit → z ≡ size_word size → n ≡ count_of s
-    → r ≡ place_from (place_of p) (places 2 n (drop 1 s)) 0 → found_below n r ≡ true → r ≡ Some i → s' ≡ set s (2 * i + 2) (max (word_at s (2 * i + 2)) z)
+    → r ≡ place_from (place_of p) (places 2 n (slice_from s 1)) 0 → found_below n r ≡ true → r ≡ Some i → s' ≡ set s (2 * i + 2) (max (word_at s (2 * i + 2)) z)
     → s' ≡ encode_sizes (recorded (place_of p) size (decode_sizes s))
 size_raised s s' p size z n i r f l ez en er below h e =
     let b : i < count_of s = rw (← en) (found_inside n i r below h) in
@@ -157,9 +161,6 @@ module _ (s : List ℕ) (place : ResourceBinding) (size n : ℕ) (f : sizes_well
 
 pub head_there : (s : List ℕ) → sizes_well_formed s ≡ true → 1 ≤ length s
 head_there s f = omega (arith, (well_formed s f).holds)
-
-pub records_within : (s : List ℕ) (n : ℕ) → sizes_well_formed s ≡ true → n ≡ count_of s → 1 + 2 * n ≤ length s
-records_within s n f e = omega (arith, (well_formed s f).holds)
 
 pub head_more : (s : List ℕ) (w : ℕ) → sizes_well_formed s ≡ true → w ≡ word_at s 0 → w + 1 < 2 ^ 32
 head_more s w f e = let k : kind_of w ≡ 20 = rw e (well_formed s f).kind in omega arith
@@ -202,5 +203,5 @@ module _ (s s' : List ℕ) (p size : ℕ) (f : sizes_well_formed s ≡ true) (o 
   record_well_formed = rw e (well_formed_encode (recorded (place_of p) size (decode_sizes s)) record_good)
 
 pub raised_well_formed : (s s' : List ℕ) (p size z n i : ℕ) (r : Option ℕ) → sizes_well_formed s ≡ true → 1 ≤ size → size < size_limit → z ≡ size_word size → n ≡ count_of s
-    → r ≡ place_from (place_of p) (places 2 n (drop 1 s)) 0 → found_below n r ≡ true → r ≡ Some i → s' ≡ set s (2 * i + 2) (max (word_at s (2 * i + 2)) z) → sizes_well_formed s' ≡ true
+    → r ≡ place_from (place_of p) (places 2 n (slice_from s 1)) 0 → found_below n r ≡ true → r ≡ Some i → s' ≡ set s (2 * i + 2) (max (word_at s (2 * i + 2)) z) → sizes_well_formed s' ≡ true
 raised_well_formed s s' p size z n i r f o l ez en er below h e = record_well_formed s s' p size f o l (size_raised s s' p size z n i r f l ez en er below h e)

@@ -2,48 +2,43 @@
 use Prim.Native.Nat.{ℕ, ◌+◌, ◌*◌, ◌<◌, ◌≤◌, max}
 use native.Mathlib.Omega.{arith}
 use mathlib.Core.Path.{◌≡◌, sym, ◌∙◌}
-use mathlib.Core.Bool.{Bool, false, not, ◌&&◌}
+use mathlib.Core.Bool.{Bool, true, ◌&&◌}
 use mathlib.Core.List.{List}
 use lib.Dec.{eqb, leb}
 use lib.ListN.{length, drop, set}
 use lib.Seq.{set-get_or}
-use borrow.Author.Tests.{eq-eqb, ne_eqb, not-false, leb-true}
+use borrow.Author.Tests.{leb-true}
 use Rattle.word.specs.Words.{word_at, kind_of, bits}
 use Rattle.bindings.specs.Format.{size_well_formed}
 use Rattle.word.proofs.Truth.{second}
 use Rattle.places.specs.Places.{distinct_places, places}
 use Rattle.sizes.specs.Meaning.{distinct_sizes, size_places}
-use Rattle.places.specs.Records.{count_of}
+use Rattle.places.specs.Records.{count_of, each}
 use Rattle.sizes.specs.Format.{read_size, size_good, read_sizes, sizes_head}
 use Rattle.places.proofs.Records.{read_mapped}
-use Rattle.places.proofs.Words.{there}
-use Rattle.word.proofs.Parse.{first_of}
+use Rattle.places.proofs.Words.{slice_from, slice_from_is}
 
-pub head_word_lem : (ws : List ℕ) (w : ℕ) (r : Bool) → w ≡ word_at ws 0
-    → r ≡ (eqb (kind_of w) 20 && (eqb (bits 26 16 w) 0 && leb (1 + 2 * bits 15 0 w) (length ws))) → r ≡ sizes_head ws
+pub head_word_lem : (ws : List ℕ) (w k : ℕ) (r : Bool) → w ≡ word_at ws 0 → k ≡ kind_of w
+    → r ≡ (eqb k 20 && (eqb (bits 26 16 w) 0 && leb (1 + 2 * bits 15 0 w) (length ws))) → r ≡ sizes_head ws
 unfolding sizes_head count_of
-head_word_lem ws w r e h = rw (← e) h
+head_word_lem ws w k r e q h = rw (← e, ← q) h
 
-pub head_holds : (ws : List ℕ) (b : Bool) → b ≡ sizes_head ws → not b ≡ false → 1 + 2 * count_of ws ≤ length ws
+pub head_holds : (ws : List ℕ) (b : Bool) → b ≡ sizes_head ws → b ≡ true → 1 + 2 * count_of ws ≤ length ws
 unfolding sizes_head
-head_holds ws b e h = let t = sym e ∙ not-false b h in search (leb-true, second)
+head_holds ws b e h = let t = sym e ∙ h in search (leb-true, second)
 
--- ---- a record
-
-module _ (l : List ℕ) (at : ℕ) where
-  pub size_no_place : (kind_of (word_at l at) ≡ 4 → ⊥) → false ≡ size_good (drop at l)
-  size_no_place h = rw (first_of l at, ne_eqb (kind_of (word_at l at)) 4 h)
-
-  pub size_is : (r : Bool) → kind_of (word_at l at) ≡ 4 → r ≡ size_well_formed (word_at l (at + 1)) → r ≡ size_good (drop at l)
-  size_is r h g = rw (first_of l at, there l at 1, eq-eqb (kind_of (word_at l at)) 4 h) g
+-- whether each record passes, told of the words behind the head
+pub sizes_tested : (l : List ℕ) (n : ℕ) (b : Bool) → n ≡ count_of l → b ≡ each 2 size_good n (slice_from l 1) → b ≡ each 2 size_good (count_of l) (drop 1 l)
+sizes_tested l n b e h = rw (e, slice_from_is l 1) at h
 
 -- ---- places
 
 pub size_places_lem : (n : ℕ) (ws : List ℕ) → size_places (read_sizes n ws) ≡ places 2 n ws
 size_places_lem n ws = read_mapped 2 read_size (λ s. s.bind) n ws
 
-pub sizes_distinct : (n : ℕ) (ws : List ℕ) (r : Bool) → r ≡ distinct_places (places 2 n ws) → r ≡ distinct_sizes (read_sizes n ws)
-sizes_distinct n ws r h = rw (size_places_lem n ws) h
+pub sizes_distinct : (l : List ℕ) (n : ℕ) (r : Bool) → n ≡ count_of l → r ≡ distinct_places (places 2 n (slice_from l 1))
+    → r ≡ distinct_sizes (read_sizes (count_of l) (drop 1 l))
+sizes_distinct l n r e h = rw (size_places_lem (count_of l) (drop 1 l)) (rw (e, slice_from_is l 1) at h)
 
 -- the larger of a word and the one at a position
 module _ (l : List ℕ) (at w : ℕ) where

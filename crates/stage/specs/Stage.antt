@@ -17,13 +17,12 @@ use Rattle.entry_points.specs.Rules.{find_entry_point, find_number}
 use Rattle.interface.specs.declared.types.ShaderStage.{ShaderStage}
 use Rattle.interface.specs.declared.types.Limits.{Limits}
 use Rattle.input_steps.specs.Workgroup.{workgroup_step}
-use Rattle.input_steps.specs.Inputs.{input_steps, start_walk}
+use Rattle.input_steps.specs.Inputs.{Walked, input_steps, start_walk}
 use Rattle.output_steps.specs.Outputs.{slots_step, local_count}
 use Rattle.last_steps.specs.Last.{last_step}
 use Rattle.output_steps.specs.ListOut.{stage_out}
 use Rattle.output_steps.specs.declared.types.Request.{Request}
 use Rattle.input_steps.specs.declared.types.InputWalk.{InputWalk}
-use Rattle.input_steps.specs.declared.types.Walked.{Walked}
 use Rattle.stage.specs.Meaning.{Lent, Call, Outcome, outcome, and_then}
 use Rattle.resource_steps.specs.Meaning.{State, state}
 use Rattle.resource_steps.specs.Resources.{resource_steps, pair_uses}

@@ -34,9 +34,7 @@ use resource_steps::provide::provide_steps;
 use resource_steps::table::ResourceTable;
 use sizes::sizes::sizes_well_formed;
 use stage_lists::stage_io::stage_well_formed;
-use word::answer::Answer;
-use word::numbers;
-use word::refusal::Refusal;
+use word::refusal::{Number, Refusal};
 
 // The resources of an entry point against the layout and the sizes.
 fn check_resources(
@@ -87,9 +85,7 @@ fn check_bindings(
 {
     let resources = ResourceTable::new(pack, offsets);
     let mut entries: [u8; 128] = [0; 128];
-    check_resources(
-        pack, parts, &resources, &mut entries, layout, sizes, codes,
-    )?;
+    check_resources(pack, parts, &resources, &mut entries, layout, sizes, codes)?;
     pair_step(pack, parts, &resources, &entries, layout, codes.mode == 1)
 }
 
@@ -101,22 +97,17 @@ fn judge_out(
     inputs: &[u32],
     out: &mut [u32],
     request: Request,
-) -> Answer
-    requires pack_value { (decoded_number (decode pack.now) ≡ 0) × Placed pack.now parts × (out_well_formed inputs.now ≡ true) }
+) -> Result<(), Refusal>
+    requires in_pack { (decoded_number (decode pack.now) ≡ 0) × Placed pack.now parts × (out_well_formed inputs.now ≡ true) }
     requires summed { Summed pack.now parts outputs × (out_words (standing pack.now parts) ≤ length out.old) }
-    requires parts_value { every output_encodable (standing pack.now parts).outputs ≡ true }
-    ensures value { result ≡ behind_pairs request (interface_of (decode pack.now)) (standing pack.now parts) (decode_stage inputs.now) }
-    ensures out_after { out.new ≡ handed_out result request.stage (standing pack.now parts)
+    requires encodable { every output_encodable (standing pack.now parts).outputs ≡ true }
+    ensures answer { answer_of result ≡ behind_pairs request (interface_of (decode pack.now)) (standing pack.now parts) (decode_stage inputs.now) }
+    ensures out_after { out.new ≡ handed_out (answer_of result) request.stage (standing pack.now parts)
         (input_walk request (standing pack.now parts) (decode_stage inputs.now)).walk out.old }
 {
-    let judged = judge(pack, parts, outputs, inputs, request);
-    let answer = judged.answer;
-    if answer.number != 0 {
-        return answer;
-    }
-    let stage = request.stage;
-    list_out(pack, parts, stage, judged.walk, outputs, out);
-    answer
+    let walk = judge(pack, parts, outputs, inputs, request)?;
+    list_out(pack, parts, request.stage, walk, outputs, out);
+    Ok(())
 }
 
 // What the codes of a call ask for, but for the mode.
@@ -142,18 +133,16 @@ fn run_body(
     inputs: &[u32],
     out: &mut [u32],
     codes: Codes,
-) -> Answer
-    requires pack_value { (decoded_number (decode pack.now) ≡ 0) × Placed pack.now parts }
-    requires layout_value { (layout_well_formed layout.old ≡ true) × (sizes_well_formed sizes.old ≡ true) × (out_well_formed inputs.now ≡ true) }
+) -> Result<(), Refusal>
+    requires in_pack { (decoded_number (decode pack.now) ≡ 0) × Placed pack.now parts }
+    requires well_formed { (layout_well_formed layout.old ≡ true) × (sizes_well_formed sizes.old ≡ true) × (out_well_formed inputs.now ≡ true) }
     requires given { Given pack.now offsets.now (interface_of (decode pack.now)) (standing pack.now parts) }
     requires summed { Summed pack.now parts outputs × (out_words (standing pack.now parts) ≤ length out.old) }
-    ensures { outcome result layout.new sizes.new out.new ≡ run_body (derived_of codes) (request_of codes)
+    ensures { outcome (answer_of result) layout.new sizes.new out.new ≡ run_body (derived_of codes) (request_of codes)
         (lent layout.old sizes.old inputs.now out.old)
         (interface_of (decode pack.now)) (standing pack.now parts) }
 {
-    if let Err(refusal) = check_bindings(pack, parts, offsets, layout, sizes, codes) {
-        return refusal.into();
-    }
+    check_bindings(pack, parts, offsets, layout, sizes, codes)?;
     judge_out(pack, parts, outputs, inputs, out, request_of(codes))
 }
 
@@ -168,18 +157,18 @@ fn on_entry_point(
     inputs: &[u32],
     out: &mut [u32],
     codes: Codes,
-) -> Answer
-    requires pack_value { (decoded_number (decode pack.now) ≡ 0) × Offsets pack.now offsets.now × Heads pack.now heads.now }
+) -> Result<(), Refusal>
+    requires in_pack { (decoded_number (decode pack.now) ≡ 0) × Offsets pack.now offsets.now × Heads pack.now heads.now }
     requires position_in_bounds { position < length (interface_of (decode pack.now)).entries }
-    requires layout_value { (layout_well_formed layout.old ≡ true) × (sizes_well_formed sizes.old ≡ true) × (out_well_formed inputs.now ≡ true) }
-    ensures { outcome result layout.new sizes.new out.new ≡ on_entry_point (derived_of codes) (request_of codes)
+    requires well_formed { (layout_well_formed layout.old ≡ true) × (sizes_well_formed sizes.old ≡ true) × (out_well_formed inputs.now ≡ true) }
+    ensures { outcome (answer_of result) layout.new sizes.new out.new ≡ on_entry_point (derived_of codes) (request_of codes)
         (lent layout.old sizes.old inputs.now out.old)
         (interface_of (decode pack.now)) (entry_point_nth (interface_of (decode pack.now)).entries position) }
 {
     let parts = entry_parts(pack, heads, position);
     let outputs = output_summary(pack, parts);
     if out.len() < 2 + 2 * outputs.locals as usize {
-        return Answer::refused(numbers::SHORT_OUT);
+        return Err(Refusal::plain(Number::ShortOut));
     }
     run_body(
         pack, parts, outputs, offsets, layout, sizes, inputs, out, codes,
@@ -198,15 +187,15 @@ fn on_named(
     out: &mut [u32],
     name: &[u8],
     codes: Codes,
-) -> Answer
-    requires pack_value { (decoded_number (decode pack.now) ≡ 0) × Offsets pack.now offsets.now × Heads pack.now heads.now }
-    requires layout_value { (layout_well_formed layout.old ≡ true) × (sizes_well_formed sizes.old ≡ true) × (out_well_formed inputs.now ≡ true) }
-    ensures { outcome result layout.new sizes.new out.new ≡ on_named (call pack.now name.now codes
+) -> Result<(), Refusal>
+    requires in_pack { (decoded_number (decode pack.now) ≡ 0) × Offsets pack.now offsets.now × Heads pack.now heads.now }
+    requires well_formed { (layout_well_formed layout.old ≡ true) × (sizes_well_formed sizes.old ≡ true) × (out_well_formed inputs.now ≡ true) }
+    ensures { outcome (answer_of result) layout.new sizes.new out.new ≡ on_named (call pack.now name.now codes
         (lent layout.old sizes.old inputs.now out.old)) (interface_of (decode pack.now)) }
 {
     let module = Module { pack, heads };
     let Some(position) = module.find_entry_point(stage_at(codes.stage), name) else {
-        return Answer::refused(numbers::ENTRY_ABSENT);
+        return Err(Refusal::plain(Number::EntryAbsent));
     };
     on_entry_point(
         pack, offsets, heads, position, layout, sizes, inputs, out, codes,
@@ -217,41 +206,26 @@ fn on_named(
 fn codes_good(codes: Codes) -> bool
     ensures { result ≡ codes_good codes }
 {
-    if 5 <= codes.stage {
-        return false;
-    }
-    if 6 <= codes.topology {
-        return false;
-    }
-    if 2 <= codes.mode {
-        return false;
-    }
-    if 2 <= codes.dual_source {
-        return false;
-    }
-    codes.depth < 2
+    codes.stage < 5
+        && codes.topology < 6
+        && codes.mode < 2
+        && codes.dual_source < 2
+        && codes.depth < 2
 }
 
 // Whether the lists of a call are well formed.
+#[tactic(auto, unfolding(crate::specs::Stage::lists_good))]
 fn lists_good(layout: &[u32], sizes: &[u32], inputs: &[u32]) -> bool
     ensures { result ≡ lists_good layout.now sizes.now inputs.now }
 {
-    if layout_well_formed(layout) {
-        if sizes_well_formed(sizes) {
-            return stage_well_formed(inputs);
-        }
-    }
-    false
+    layout_well_formed(layout) && sizes_well_formed(sizes) && stage_well_formed(inputs)
 }
 
 // Whether the lists of a call are well formed and its codes in their ranges.
 fn call_good(layout: &[u32], sizes: &[u32], inputs: &[u32], codes: Codes) -> bool
     ensures { result ≡ (lists_good layout.now sizes.now inputs.now && codes_good codes) }
 {
-    if lists_good(layout, sizes, inputs) {
-        return codes_good(codes);
-    }
-    false
+    lists_good(layout, sizes, inputs) && codes_good(codes)
 }
 
 // The lists and codes of a call, and the entry point of its stage and name in a pack that was accepted.
@@ -265,9 +239,9 @@ fn check_call(
     out: &mut [u32],
     name: &[u8],
     codes: Codes,
-) -> Answer
+) -> Result<(), Refusal>
     requires { (decoded_number (decode pack.now) ≡ 0) × Offsets pack.now offsets.now × Heads pack.now heads.now }
-    ensures { outcome result layout.new sizes.new out.new ≡ check_stage (call pack.now name.now codes
+    ensures { outcome (answer_of result) layout.new sizes.new out.new ≡ check_stage (call pack.now name.now codes
         (lent layout.old sizes.old inputs.now out.old)) }
 {
     if call_good(layout, sizes, inputs, codes) {
@@ -275,7 +249,7 @@ fn check_call(
             pack, offsets, heads, layout, sizes, inputs, out, name, codes,
         );
     }
-    Answer::refused(numbers::BAD_CALL)
+    Err(Refusal::plain(Number::BadCall))
 }
 
 // Checks one stage: whether the entry point of this stage and name fits the layout, what the stage before hands on, and the limits.
@@ -287,15 +261,13 @@ pub fn check_stage(
     out: &mut [u32],
     name: &[u8],
     codes: Codes,
-) -> Answer
-    ensures { outcome result layout.new sizes.new out.new ≡ check_stage (call pack.now name.now codes
+) -> Result<(), Refusal>
+    ensures { outcome (answer_of result) layout.new sizes.new out.new ≡ check_stage (call pack.now name.now codes
         (lent layout.old sizes.old inputs.now out.old)) }
 {
     let mut offsets: [u16; 128] = [0; 128];
     let mut heads: [u16; 16] = [0; 16];
-    if let Err(error) = index_pack(pack, &mut offsets, &mut heads) {
-        return Refusal::from(error).into();
-    }
+    index_pack(pack, &mut offsets, &mut heads)?;
     check_call(
         pack, &offsets, &heads, layout, sizes, inputs, out, name, codes,
     )

@@ -4,9 +4,10 @@ use Prim.Native.Nat.{ℕ, zero, suc, ◌+◌, ◌-◌, ◌*◌, ◌%◌, ◌^◌
 use native.Mathlib.Omega.{arith}
 use mathlib.Core.Path.{◌≡◌, refl, sym, ap, ◌∙◌}
 use mathlib.Core.Bool.{Bool, true, false}
-use mathlib.Core.List.{List, [], ◌∷◌, ◌++◌}
+use mathlib.Core.List.{List, [], ◌∷◌, ◌++◌, append_assoc}
 use lib.ListN.{length, take, drop, set, length-append, length-drop, length-set}
-use lib.Seq.{drop-drop, length-take-le, get_or-set_same}
+use lib.Seq.{drop-drop, drop_at, take-append-le, take-take, length-take-le, get_or-set_same}
+use Rattle.std.specs.List.{copy_within}
 use borrow.Author.Tests.{eqb-true}
 use Rattle.word.specs.Choice.{pick}
 use Rattle.word.specs.Words.{word_at, kind_of, content_of, bits, of_kind}
@@ -19,120 +20,133 @@ use Rattle.varying.proofs.Joined.{payload_written, location_written, var_written
 use Rattle.stage_lists.specs.Meaning.{StageIo, rising, insert, inserted, varying_at, is_provided}
 use Rattle.places.specs.Records.{put, past, each, count_of, records}
 use Rattle.stage_lists.specs.Format.{primitive_code, read_located, located_good, read_varyings, out_well_formed, decode_stage, encode_stage, out_good}
-use Rattle.places.proofs.Words.{there, two_at, drop_put, put_put, put_after, put_own, put_kept}
+use Rattle.places.proofs.Words.{there, put_after, put_own, put_kept}
 use Rattle.word.proofs.Parse.{first_of}
-use Rattle.places.proofs.Records.{read_length, room_left, left_cons, left_none, each_cons, each_nth, past_drop, flat_append, flat_length, take_read}
+use Rattle.places.proofs.Records.{read_length, room_left, left_none, each_cons, each_nth, past_drop, flat_append, flat_length, take_read}
 use Rattle.stage_lists.proofs.StageLists.{located_form, WellFormed, well_formed, is_good, code_back, decode_encode, well_formed_encode, good_decode}
+use Rattle.stage_lists.proofs.StageWays.{varyings_from}
 use Rattle.stage_lists.proofs.InsertLaws.{last_from, insert_last, insert_before, insert_over, insert_behind, insert_length, longer, good_inserted}
 
 -- ---- records moved up
 
-module _ (l goal : List ℕ) (at k a b : ℕ) (inv : goal ≡ put l at (a ∷ b ∷ take (2 * k) (drop at l))) where
-  pub shift_onward : (m : List ℕ) (c d : ℕ) → (k ≡ 0 → ⊥) → at + 2 * k + 2 ≤ length l → c ≡ word_at l at → d ≡ word_at l (at + 1)
-      → m ≡ put l at (a ∷ b ∷ []) → goal ≡ put m (at + 2) (c ∷ d ∷ take (2 * (k - 1)) (drop (at + 2) m))
-  shift_onward m c d z h ec ed em =
-      let j = 2 * (k - 1) in
-      let e : 2 * k ≡ suc (suc j) = omega arith in
-      let q = word_at l at ∷ word_at l (at + 1) ∷ take j (drop (at + 2) l) in
-      let n : length (take j (drop (at + 2) l)) ≡ j = length-take-le j (drop (at + 2) l) (omega (arith, length-drop (at + 2) l)) in
-      let p : put (put l at (a ∷ b ∷ [])) (at + 2) q ≡ put l at (a ∷ b ∷ q) = put_put l at (a ∷ b ∷ []) q (omega (arith, n)) in
-      let r : drop (at + 2) (put l at (a ∷ b ∷ [])) ≡ drop (at + 2) l = drop_put l at (a ∷ b ∷ []) (omega arith) in
-      inv ∙ rw (e, two_at l at (omega arith), em, ec, ed, r) (sym p)
-
-  pub shift_ended : (m : List ℕ) → k ≡ 0 → m ≡ put l at (a ∷ b ∷ []) → m ≡ goal
-  shift_ended m z em = em ∙ sym (inv ∙ rw z)
+pub shifted : (l moved m : List ℕ) (at n a b : ℕ) → at + 2 * n + 2 ≤ length l → moved ≡ copy_within l at (at + 2 * n) (at + 2) → m ≡ put moved at (a ∷ b ∷ [])
+    → m ≡ put l at (a ∷ b ∷ take (2 * n) (drop at l))
+unfolding put
+shifted l moved m at n a b h em e =
+    let q = take (2 * n) (drop at l) in
+    let tail = drop (at + 2 + 2 * n) l in
+    let j : at + 2 * n - at ≡ 2 * n = omega arith in
+    let d : length q ≡ 2 * n = length-take-le (2 * n) (drop at l) (omega (arith, length-drop at l)) in
+    let f : length (take (at + 2) l) ≡ at + 2 = length-take-le (at + 2) l (omega arith) in
+    let c : moved ≡ take (at + 2) l ++ (q ++ tail) = em ∙ rw j (append_assoc (take (at + 2) l) q tail) in
+    let t : take at moved ≡ take at l = rw c (take-append-le at (take (at + 2) l) (q ++ tail) (omega (arith, f)) ∙ take-take at (at + 2) l (omega arith)) in
+    let r : drop (at + 2) moved ≡ q ++ tail = rw c (drop_at (take (at + 2) l) (q ++ tail) (at + 2) f) in
+    let k : at + suc (suc (length q)) ≡ at + 2 + 2 * n = omega (arith, d) in
+    e ∙ rw (t, r, k)
 
 -- ---- a variable put into its place
 
-module _ (l : List ℕ) (k at : ℕ) (good : each 2 located_good k (drop at l) ≡ true) where
-  pub good_onward : (k ≡ 0 → ⊥) → each 2 located_good (k - 1) (drop (at + 2) l) ≡ true
-  good_onward z = rest_passes (located_good (drop at l)) (each 2 located_good (k - 1) (drop (at + 2) l)) (sym (each_cons 2 located_good l k at z) ∙ good)
+module _ (l : List ℕ) (n i : ℕ) (good : each 2 located_good (n - i) (drop (2 + 2 * i) l) ≡ true) (z : i < n) where
+  abbrev good_others : Bool
+  good_others = each 2 located_good (n - (i + 1)) (drop (2 + 2 * (i + 1)) l)
 
-  good_here : (k ≡ 0 → ⊥) → located_good (drop at l) ≡ true
-  good_here z = first_passes (located_good (drop at l)) (each 2 located_good (k - 1) (drop (at + 2) l)) (sym (each_cons 2 located_good l k at z) ∙ good)
+  goods_here : each 2 located_good (n - i) (drop (2 + 2 * i) l) ≡ pick (located_good (drop (2 + 2 * i) l)) good_others false
+  goods_here =
+      let k : n - i - 1 ≡ n - (i + 1) = omega arith in
+      let a : 2 + 2 * (i + 1) ≡ 2 + 2 * i + 2 = omega arith in
+      each_cons 2 located_good l (n - i) (2 + 2 * i) (λ e. omega arith) ∙ rw (k, a)
 
-  rest_flat : at + 2 * k ≤ length l → flat located_words (read_varyings k (drop at l)) ≡ take (2 * k) (drop at l)
-  rest_flat h = sym (take_read located_form k (drop at l) (omega (arith, length-drop at l)) good)
+  pub good_onward : good_others ≡ true
+  good_onward = rest_passes (located_good (drop (2 + 2 * i) l)) good_others (sym goods_here ∙ good)
+
+  good_here : located_good (drop (2 + 2 * i) l) ≡ true
+  good_here = first_passes (located_good (drop (2 + 2 * i) l)) good_others (sym goods_here ∙ good)
+
+rest_flat : (l : List ℕ) (k at : ℕ) → each 2 located_good k (drop at l) ≡ true → at + 2 * k ≤ length l → flat located_words (read_varyings k (drop at l)) ≡ take (2 * k) (drop at l)
+rest_flat l k at good h = sym (take_read located_form k (drop at l) (omega (arith, length-drop at l)) good)
 
 -- where it goes, by the location that stands at a position
-module _ (l : List ℕ) (k at c : ℕ) (v : Located) (z : k ≡ 0 → ⊥) (ec : c ≡ content_of (word_at l at)) where
-  there_location : (read_located (drop at l)).location ≡ c
-  there_location = rw (first_of l at) (sym ec)
+module _ (l : List ℕ) (n i c : ℕ) (v : Located) (z : i < n) (ec : c ≡ content_of (word_at l (2 + 2 * i))) where
+  abbrev others : List Located
+  others = read_varyings (n - (i + 1)) (drop (2 + 2 * (i + 1)) l)
 
-  goes_before : v.location < c → insert v (read_varyings k (drop at l)) ≡ v ∷ read_varyings k (drop at l)
-  goes_before h =
-      rw (left_cons 2 read_located l k at z)
-      (insert_before v (read_located (drop at l)) (read_varyings (k - 1) (drop (at + 2) l)) (rw there_location h))
+  abbrev this : Located
+  this = read_located (drop (2 + 2 * i) l)
 
-  goes_over : v.location ≡ c → insert v (read_varyings k (drop at l)) ≡ v ∷ read_varyings (k - 1) (drop (at + 2) l)
-  goes_over h =
-      rw (left_cons 2 read_located l k at z)
-      (insert_over v (read_located (drop at l)) (read_varyings (k - 1) (drop (at + 2) l)) (rw there_location h))
+  there_location : this.location ≡ c
+  there_location = rw (first_of l (2 + 2 * i)) (sym ec)
 
-  goes_behind : c ≤ v.location → (v.location ≡ c → ⊥)
-      → insert v (read_varyings k (drop at l)) ≡ read_located (drop at l) ∷ insert v (read_varyings (k - 1) (drop (at + 2) l))
-  goes_behind h n =
-      rw (left_cons 2 read_located l k at z)
-      (insert_behind v (read_located (drop at l)) (read_varyings (k - 1) (drop (at + 2) l)) (rw there_location h) (λ e. n (e ∙ there_location)))
+  goes_before : v.location < c → insert v (read_varyings (n - i) (drop (2 + 2 * i) l)) ≡ v ∷ read_varyings (n - i) (drop (2 + 2 * i) l)
+  goes_before h = rw (varyings_from l n i z) (insert_before v this others (rw there_location h))
+
+  goes_over : v.location ≡ c → insert v (read_varyings (n - i) (drop (2 + 2 * i) l)) ≡ v ∷ others
+  goes_over h = rw (varyings_from l n i z) (insert_over v this others (rw there_location h))
+
+  goes_behind : c ≤ v.location → (v.location ≡ c → ⊥) → insert v (read_varyings (n - i) (drop (2 + 2 * i) l)) ≡ this ∷ insert v others
+  goes_behind h o = rw (varyings_from l n i z) (insert_behind v this others (rw there_location h) (λ e. o (e ∙ there_location)))
 
 -- the words after it
-module _ (l goal : List ℕ) (k at : ℕ) (v : Located) (inv : goal ≡ put l at (flat located_words (insert v (read_varyings k (drop at l)))))
-    (h : at + 2 * k + 2 ≤ length l) where
-  pub place_ended : (m : List ℕ) (b : ℕ) → k ≡ 0 → b ≡ var_word v.var → m ≡ put l at ((0x60000000 + v.location) ∷ b ∷ []) → m ≡ goal
+module _ (l goal : List ℕ) (n i : ℕ) (v : Located) (inv : goal ≡ put l (2 + 2 * i) (flat located_words (insert v (read_varyings (n - i) (drop (2 + 2 * i) l)))))
+    (h : 2 + 2 * n + 2 ≤ length l) where
+  pub place_ended : (m : List ℕ) (b : ℕ) → i ≤ n → n ≤ i → b ≡ var_word v.var → m ≡ put l (2 + 2 * n) ((0x60000000 + v.location) ∷ b ∷ []) → m ≡ goal
   unfolding insert flat
-  place_ended m b z eb em = em ∙ sym (inv ∙ rw (left_none 2 read_located k (drop at l) z, eb))
+  place_ended m b f z eb em =
+      let k : n - i ≡ 0 = omega arith in
+      let e : n ≡ i = omega arith in
+      em ∙ sym (inv ∙ rw (left_none 2 read_located (n - i) (drop (2 + 2 * i) l) k, eb, e))
 
-  module _ (c : ℕ) (good : each 2 located_good k (drop at l) ≡ true) (z : k ≡ 0 → ⊥) (ec : c ≡ content_of (word_at l at)) where
+  module _ (c : ℕ) (good : each 2 located_good (n - i) (drop (2 + 2 * i) l) ≡ true) (z : i < n) (ec : c ≡ content_of (word_at l (2 + 2 * i))) where
     module _ (m : List ℕ) (b : ℕ) (eb : b ≡ var_word v.var) where
-      pub place_before : v.location < c → m ≡ put l at ((0x60000000 + v.location) ∷ b ∷ take (2 * k) (drop at l)) → m ≡ goal
+      pub place_before : v.location < c → m ≡ put l (2 + 2 * i) ((0x60000000 + v.location) ∷ b ∷ take (2 * (n - i)) (drop (2 + 2 * i) l)) → m ≡ goal
       unfolding flat
-      place_before q em = em ∙ sym (inv ∙ rw (goes_before l k at c v z ec q, rest_flat l k at good (omega arith), eb))
+      place_before q em = em ∙ sym (inv ∙ rw (goes_before l n i c v z ec q, rest_flat l (n - i) (2 + 2 * i) good (omega arith), eb))
 
-      pub place_over : v.location ≡ c → m ≡ put l at ((0x60000000 + v.location) ∷ b ∷ []) → m ≡ goal
+      pub place_over : v.location ≡ c → m ≡ put l (2 + 2 * i) ((0x60000000 + v.location) ∷ b ∷ []) → m ≡ goal
       unfolding flat
       place_over q em =
-          let r = rest_flat l (k - 1) (at + 2) (good_onward l k at good z) (omega arith) in
-          let w = put_kept l at (2 * (k - 1)) (0x60000000 + v.location) (var_word v.var) (omega arith) in
-          em ∙ sym (inv ∙ rw (goes_over l k at c v z ec q, r, w, eb))
+          let a : 2 + 2 * (i + 1) ≡ 2 + 2 * i + 2 = omega arith in
+          let r = rest_flat l (n - (i + 1)) (2 + 2 * (i + 1)) (good_onward l n i good z) (omega arith) in
+          let w = put_kept l (2 + 2 * i) (2 * (n - (i + 1))) (0x60000000 + v.location) (var_word v.var) (omega arith) in
+          em ∙ sym (inv ∙ rw (goes_over l n i c v z ec q, r, a, w, eb))
 
-    pub place_onward : c ≤ v.location → (v.location ≡ c → ⊥)
-        → goal ≡ put l (at + 2) (flat located_words (insert v (read_varyings (k - 1) (drop (at + 2) l))))
+    pub place_onward : c ≤ v.location → (v.location ≡ c → ⊥) → goal ≡ put l (2 + 2 * (i + 1)) (flat located_words (insert v (others l n i c v z ec)))
     unfolding flat
-    place_onward q n =
-        let g = good_here l k at good z in
+    place_onward q o =
+        let g = good_here l n i good z in
+        let a : 2 + 2 * (i + 1) ≡ 2 + 2 * i + 2 = omega arith in
         inv ∙ rw (
-          goes_behind l k at c v z ec q n,
-          location_written (word_at (drop at l) 0) (search first),
-          var_written (word_at (drop at l) 1) (search second),
-          first_of l at,
-          there l at 1,
+          goes_behind l n i c v z ec q o,
+          location_written (word_at (drop (2 + 2 * i) l) 0) (search first),
+          var_written (word_at (drop (2 + 2 * i) l) 1) (search second),
+          first_of l (2 + 2 * i),
+          there l (2 + 2 * i) 1,
+          a,
         )
-        (put_own l (flat located_words (insert v (read_varyings (k - 1) (drop (at + 2) l)))) at (omega arith))
+        (put_own l (flat located_words (insert v (read_varyings (n - (i + 1)) (drop (2 + 2 * i + 2) l)))) (2 + 2 * i) (omega arith))
 
 -- how many there are after it
-module _ (l : List ℕ) (k at n total : ℕ) (v : Located) (inv : total + k ≡ n + length (insert v (read_varyings k (drop at l)))) where
-  pub count_ended : k ≡ 0 → total ≡ n + 1
+module _ (l : List ℕ) (n i total : ℕ) (v : Located) (inv : total + (n - i) ≡ n + length (insert v (read_varyings (n - i) (drop (2 + 2 * i) l)))) where
+  pub count_ended : n ≤ i → total ≡ n + 1
   unfolding insert
   count_ended z =
-      let e : length (insert v (read_varyings k (drop at l))) ≡ 1 = rw (left_none 2 read_located k (drop at l) z) in
+      let k : n - i ≡ 0 = omega arith in
+      let e : length (insert v (read_varyings (n - i) (drop (2 + 2 * i) l))) ≡ 1 = rw (left_none 2 read_located (n - i) (drop (2 + 2 * i) l) k) in
       omega arith
 
-  module _ (c : ℕ) (z : k ≡ 0 → ⊥) (ec : c ≡ content_of (word_at l at)) where
+  module _ (c : ℕ) (z : i < n) (ec : c ≡ content_of (word_at l (2 + 2 * i))) where
     pub count_before : v.location < c → total ≡ n + 1
     count_before q =
-        let e = ap length (goes_before l k at c v z ec q) in
-        omega (arith, e, read_length 2 read_located k (drop at l))
+        let e = ap length (goes_before l n i c v z ec q) in
+        omega (arith, e, read_length 2 read_located (n - i) (drop (2 + 2 * i) l))
 
     pub count_over : v.location ≡ c → total ≡ n + 0
     count_over q =
-        let e = ap length (goes_over l k at c v z ec q) in
-        let y : k ≡ suc (k - 1) = omega arith in
-        omega (arith, e, read_length 2 read_located (k - 1) (drop (at + 2) l))
+        let e = ap length (goes_over l n i c v z ec q) in
+        omega (arith, e, read_length 2 read_located (n - (i + 1)) (drop (2 + 2 * (i + 1)) l))
 
-    pub count_onward : c ≤ v.location → (v.location ≡ c → ⊥) → total + (k - 1) ≡ n + length (insert v (read_varyings (k - 1) (drop (at + 2) l)))
+    pub count_onward : c ≤ v.location → (v.location ≡ c → ⊥) → total + (n - (i + 1)) ≡ n + length (insert v (read_varyings (n - (i + 1)) (drop (2 + 2 * (i + 1)) l)))
     count_onward q m =
-        let e = ap length (goes_behind l k at c v z ec q m) in
-        let y : k ≡ suc (k - 1) = omega arith in
+        let e = ap length (goes_behind l n i c v z ec q m) in
         omega arith
 
 -- ---- a variable put behind the last

@@ -1,5 +1,5 @@
 -- The words that a stage list is written in.
-use Rattle.std.proofs.Common.{Option, Some, None, Bool}
+use Rattle.std.proofs.Common.{Option, Some, None}
 use Prim.Native.Nat.{ℕ, ◌+◌, ◌-◌, ◌*◌, ◌/◌, ◌%◌, ◌^◌, ◌<◌, ◌≤◌}
 use native.Mathlib.Omega.{arith}
 use mathlib.Core.Path.{◌≡◌, refl, ◌∙◌}
@@ -7,13 +7,12 @@ use mathlib.Core.Bool.{true}
 use lib.Dec.{eqb, ltb}
 use borrow.Author.Tests.{eqb-true, ltb-true, lt-ltb, le-ltb}
 use Rattle.word.specs.Choice.{pick}
-use Rattle.word.specs.Words.{bits, bit, of_kind}
+use Rattle.word.specs.Words.{bits, bit}
 use Rattle.numeric.specs.TypeWords.{shape_at, type_of, shape_code, type_word}
 use Rattle.varying.specs.Format.{var_of, var_word, payload_encodable, payload_word}
 use Rattle.word.proofs.Truth.{below_all}
 use Rattle.numeric.proofs.Joined.{kind_back}
 use Rattle.varying.proofs.Joined.{flag_back}
-use Rattle.stage_lists.specs.Format.{primitive_code}
 
 -- ---- the payload
 

@@ -16,11 +16,11 @@ use Rattle.varying.specs.Format.{location_well_formed, var_well_formed, payload_
 use Rattle.word.proofs.Truth.{first, second, by_test}
 use Rattle.places.specs.Places.{found_below}
 use Rattle.stage_lists.specs.Meaning.{rising, varying_at}
-use Rattle.places.specs.Records.{records, count_of}
+use Rattle.places.specs.Records.{records, each, count_of}
 use Rattle.stage_lists.specs.Format.{primitive_at, read_located, located_good, read_varyings, variable_found, stage_head, out_well_formed, decode_stage}
 use Rattle.stage_lists.specs.Inner.Found.{location_from}
 use Rattle.places.proofs.Records.{read_length, nth_record, left_cons, left_none}
-use Rattle.places.proofs.Words.{there}
+use Rattle.places.proofs.Words.{there, slice_from, slice_from_is}
 use Rattle.word.proofs.Parse.{first_of}
 use Rattle.stage_lists.proofs.StageLists.{well_formed}
 use Rattle.stage_lists.proofs.InsertLaws.{location_nth}
@@ -33,15 +33,9 @@ module _ (ws : List ℕ) (w : ℕ) (r : Bool) (e : w ≡ word_at ws 0) where
   unfolding stage_head count_of
   head_word_lem h = rw (← e) h
 
-pub head_holds : (ws : List ℕ) (b : Bool) (n : ℕ) → b ≡ stage_head ws → not b ≡ false → n ≡ count_of ws → 2 + 2 * n ≤ length ws
+pub head_holds : (ws : List ℕ) (b : Bool) → b ≡ stage_head ws → b ≡ true → 2 + 2 * count_of ws ≤ length ws
 unfolding stage_head
-head_holds ws b n e h en =
-    let t = sym e ∙ not-false b h in
-    let k : 2 + 2 * count_of ws ≤ length ws = search (leb-true, first, second) depth 7 in
-    rw en k
-
-pub head_there : (ws : List ℕ) (b : Bool) → b ≡ stage_head ws → not b ≡ false → 1 ≤ length ws
-head_there ws b e h = omega (arith, head_holds ws b (count_of ws) e h refl)
+head_holds ws b e h = let t = sym e ∙ h in search (leb-true, first, second) depth 7
 
 pub payload_word_lem : (ws : List ℕ) (p : ℕ) (r : Bool) → p ≡ word_at ws 1 → r ≡ payload_well_formed p → r ≡ payload_well_formed (word_at ws 1)
 payload_word_lem ws p r e h = rw (← e) h
@@ -50,25 +44,27 @@ pub primitive_word : (ws : List ℕ) (w : ℕ) (r : Option Bool) → w ≡ word_
 unfolding decode_stage
 primitive_word ws w r e h = rw (← e) h
 
+pub primitive_false : (ws : List ℕ) (w : ℕ) → w ≡ word_at ws 0 → bits 26 25 w ≡ 1 → Some false ≡ (decode_stage ws).primitive
+primitive_false ws w e h = primitive_word ws w (Some false) e (rw h)
+
 pub payload_decoded : (ws : List ℕ) (w : ℕ) (r : Option ℕ) → w ≡ word_at ws 1 → r ≡ payload_of w → r ≡ (decode_stage ws).payload
 unfolding decode_stage
 payload_decoded ws w r e h = rw (← e) h
 
--- ---- a record
-
-module _ (l : List ℕ) (at : ℕ) (a : Bool) (f : a ≡ location_well_formed (word_at l at)) where
-  pub located_not : a ≡ false → false ≡ located_good (drop at l)
-  located_not h = rw (first_of l at, ← f, h)
-
-  pub located_is : (b : Bool) → a ≡ true → b ≡ var_well_formed (word_at l (at + 1)) → b ≡ located_good (drop at l)
-  located_is b h k = rw (first_of l at, there l at 1, ← f, h, ← k)
-
 -- ---- a variable's word that is known to be one
 
-pub located_var : (l : List ℕ) (at : ℕ) (b : Bool) → b ≡ located_good (drop at l) → not b ≡ false → var_well_formed (word_at l (at + 1)) ≡ true
+pub located_var : (l : List ℕ) (at : ℕ) (b : Bool) → b ≡ located_good (slice_from l at) → not b ≡ false → var_well_formed (word_at l (at + 1)) ≡ true
 located_var l at b e h =
-    let g : located_good (drop at l) ≡ true = sym e ∙ not-false b h in
+    let g : located_good (drop at l) ≡ true = sym (rw slice_from_is at e) ∙ not-false b h in
     rw (there l at 1) at (second (location_well_formed (word_at (drop at l) 0)) (var_well_formed (word_at (drop at l) 1)) g)
+
+-- ---- the variables, told of the words behind the payload
+
+pub varyings_tested : (l : List ℕ) (n : ℕ) (b : Bool) → n ≡ count_of l → b ≡ each 2 located_good n (slice_from l 2) → b ≡ each 2 located_good (count_of l) (drop 2 l)
+varyings_tested l n b e h = rw (e, slice_from_is l 2) at h
+
+pub rising_tested : (l : List ℕ) (n : ℕ) (b : Bool) → n ≡ count_of l → b ≡ rising (read_varyings n (slice_from l 2)) → b ≡ rising (read_varyings (count_of l) (drop 2 l))
+rising_tested l n b e h = rw (e, slice_from_is l 2) at h
 
 -- ---- rising locations
 
@@ -89,37 +85,50 @@ rising_end zero ws h = refl
 rising_end (suc zero) ws h = refl
 rising_end (suc (suc k)) ws h = absurd (omega arith)
 
-pub rising_counted : (n m : ℕ) (ws : List ℕ) (r : Bool) → n ≡ m → r ≡ rising (read_varyings n ws) → r ≡ rising (read_varyings m ws)
-rising_counted n m ws r e h = rw (← e) h
+module _ (l : List ℕ) (n i : ℕ) (goal : Bool) (inv : goal ≡ rising (read_varyings (n - (i - 1)) (drop (2 * (i - 1)) l))) where
+  module _ (h : i < n) (o : 1 ≤ i) where
+    stepped : goal ≡ pick (ltb (content_of (word_at l (2 * (i - 1)))) (content_of (word_at l (2 * i)))) (rising (read_varyings (n - (i + 1 - 1)) (drop (2 * (i + 1 - 1)) l))) false
+    stepped =
+        let a : 2 * (i - 1) + 2 ≡ 2 * i = omega arith in
+        let k : n - (i - 1) - 1 ≡ n - (i + 1 - 1) = omega arith in
+        let z : 2 * (i + 1 - 1) ≡ 2 * i = omega arith in
+        inv ∙ (rising_step l (n - (i - 1)) (2 * (i - 1)) (omega arith) ∙ rw (a, k, z))
 
-module _ (l : List ℕ) (k at : ℕ) (goal : Bool) (inv : goal ≡ rising (read_varyings k (drop at l))) where
-  module _ (h : 2 ≤ k) where
-    pub rising_falls : content_of (word_at l (at + 2)) ≤ content_of (word_at l at) → false ≡ goal
-    rising_falls n = sym (inv ∙ rw (rising_step l k at h, le-ltb (content_of (word_at l at)) (content_of (word_at l (at + 2))) n))
+    pub rising_falls : content_of (word_at l (2 * i)) ≤ content_of (word_at l (2 * (i - 1))) → false ≡ goal
+    rising_falls f = sym (stepped ∙ rw (le-ltb (content_of (word_at l (2 * (i - 1)))) (content_of (word_at l (2 * i))) f))
 
-    pub rising_onward : content_of (word_at l at) < content_of (word_at l (at + 2)) → goal ≡ rising (read_varyings (k - 1) (drop (at + 2) l))
-    rising_onward n = inv ∙ rw (rising_step l k at h, lt-ltb (content_of (word_at l at)) (content_of (word_at l (at + 2))) n)
+    pub rising_onward : content_of (word_at l (2 * (i - 1))) < content_of (word_at l (2 * i)) → goal ≡ rising (read_varyings (n - (i + 1 - 1)) (drop (2 * (i + 1 - 1)) l))
+    rising_onward f = stepped ∙ rw (lt-ltb (content_of (word_at l (2 * (i - 1)))) (content_of (word_at l (2 * i))) f)
 
-  pub rising_ended : k < 2 → true ≡ goal
-  rising_ended h = sym (inv ∙ rising_end k (drop at l) h)
+  pub rising_ended : n ≤ i → true ≡ goal
+  rising_ended h = sym (inv ∙ rising_end (n - (i - 1)) (drop (2 * (i - 1)) l) (omega arith))
 
 -- ---- where the variable at a location stands
 
-module _ (l : List ℕ) (k at location : ℕ) (goal : Option ℕ) (inv : goal ≡ location_from location (read_varyings k (drop at l)) (at + 1)) where
-  pub location_hit : (k ≡ 0 → ⊥) → word_at l at % 0x800_0000 ≡ location → Some (at + 1) ≡ goal
-  unfolding location_from
-  location_hit h q = sym (inv ∙ rw (left_cons 2 read_located l k at h, first_of l at, eq-eqb (content_of (word_at l at)) location q))
+-- of the variables from one on: that one, and the others
+pub varyings_from : (l : List ℕ) (n i : ℕ) → i < n
+    → read_varyings (n - i) (drop (2 + 2 * i) l) ≡ read_located (drop (2 + 2 * i) l) ∷ read_varyings (n - (i + 1)) (drop (2 + 2 * (i + 1)) l)
+varyings_from l n i h =
+    let k : n - i - 1 ≡ n - (i + 1) = omega arith in
+    let a : 2 + 2 * (i + 1) ≡ 2 + 2 * i + 2 = omega arith in
+    left_cons 2 read_located l (n - i) (2 + 2 * i) (λ z. omega arith) ∙ rw (k, a)
 
-  pub location_miss : (k ≡ 0 → ⊥) → (word_at l at % 0x800_0000 ≡ location → ⊥)
-      → goal ≡ location_from location (read_varyings (k - 1) (drop (at + 2) l)) (at + 2 + 1)
-  unfolding location_from
-  location_miss h q =
-      let z : at + 1 + 2 ≡ at + 2 + 1 = omega arith in
-      inv ∙ rw (left_cons 2 read_located l k at h, first_of l at, ne_eqb (content_of (word_at l at)) location q, z)
+module _ (l : List ℕ) (n i location : ℕ) (goal : Option ℕ) (inv : goal ≡ location_from location (read_varyings (n - i) (drop (2 + 2 * i) l)) (3 + 2 * i)) where
+  module _ (h : i < n) where
+    pub location_hit : word_at l (2 + 2 * i) % 0x800_0000 ≡ location → Some (3 + 2 * i) ≡ goal
+    unfolding location_from
+    location_hit q = sym (inv ∙ rw (varyings_from l n i h, first_of l (2 + 2 * i), eq-eqb (content_of (word_at l (2 + 2 * i))) location q))
 
-  pub location_ended : k ≡ 0 → None ≡ goal
+    pub location_miss : (word_at l (2 + 2 * i) % 0x800_0000 ≡ location → ⊥)
+        → goal ≡ location_from location (read_varyings (n - (i + 1)) (drop (2 + 2 * (i + 1)) l)) (3 + 2 * (i + 1))
+    unfolding location_from
+    location_miss q =
+        let z : 3 + 2 * (i + 1) ≡ 3 + 2 * i + 2 = omega arith in
+        inv ∙ rw (varyings_from l n i h, first_of l (2 + 2 * i), ne_eqb (content_of (word_at l (2 + 2 * i))) location q, z)
+
+  pub location_ended : n ≤ i → None ≡ goal
   unfolding location_from
-  location_ended h = sym (inv ∙ rw (left_none 2 read_located k (drop at l) h))
+  location_ended h = let k : n - i ≡ 0 = omega arith in sym (inv ∙ rw (left_none 2 read_located (n - i) (drop (2 + 2 * i) l) k))
 
 -- the variable that is provided at a location is the one whose word stands where it is found
 found_from : (l : List ℕ) (location k at : ℕ)
@@ -146,8 +155,8 @@ unfolding decode_stage
 location_provided l location r e = location_found l (count_of l) location r e
 
 -- a position found lies in the list
-pub within_below : (l : List ℕ) (k at : ℕ) → (k ≡ 0 → ⊥) → at + 2 * k ≤ length l → found_below (length l) (Some (at + 1)) ≡ true
-within_below l k at h f = lt-ltb (at + 1) (length l) (omega arith)
+pub within_below : (l : List ℕ) (n i : ℕ) → i < n → 2 + 2 * n ≤ length l → found_below (length l) (Some (3 + 2 * i)) ≡ true
+within_below l n i h f = lt-ltb (3 + 2 * i) (length l) (omega arith)
 
 pub first_there : (l : List ℕ) → out_well_formed l ≡ true → 1 ≤ length l
 first_there l f = omega (arith, (well_formed l f).holds)

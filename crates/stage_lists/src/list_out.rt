@@ -10,16 +10,15 @@ ghost use Rattle.stage_lists.specs.Format.{located_good, read_varyings, out_well
 use crate::out_words::{payload_word, primitive_word, var_word};
 use crate::stage_io::location_at;
 use places::stores::store_two;
-use word::word;
 
 // The head and the payload of a list without variables. The answer is the head.
 pub fn begin_out(out: &mut [u32], primitive: Option<bool>, payload: Option<u32>) -> u32
     requires in_bounds { 2 ≤ length out.old }
-    requires payload_value { payload_encodable payload ≡ true }
-    ensures out_after { out.new ≡ encode_stage (record { primitive = primitive; payload = payload; varyings = []; room = drop 2 out.old }) }
-    ensures result_after { decode_stage (set out.new 0 result) ≡ record { primitive = primitive; payload = payload; varyings = []; room = drop 2 out.old } }
-    ensures result_after_2 { out_well_formed (set out.new 0 result) ≡ true }
-    ensures value { result ≡ word_at out.new 0 }
+    requires payload_fits { payload_encodable payload ≡ true }
+    ensures words { out.new ≡ encode_stage (record { primitive = primitive; payload = payload; varyings = []; room = drop 2 out.old }) }
+    ensures decoded { decode_stage (set out.new 0 result) ≡ record { primitive = primitive; payload = payload; varyings = []; room = drop 2 out.old } }
+    ensures still_well_formed { out_well_formed (set out.new 0 result) ≡ true }
+    ensures head { result ≡ word_at out.new 0 }
 {
     let head = primitive_word(primitive);
     let second = payload_word(payload);
@@ -32,55 +31,40 @@ fn shift(out: &mut [u32], from: usize, n: usize, first: u32, second: u32)
     requires { (from + 2 * n + 2 ≤ length out.old) × (from + 2 * n < 2 ^ 60) }
     ensures { out.new ≡ put out.old from (first ∷ second ∷ take (2 * n) (drop from out.old)) }
 {
-    let mut at = from;
-    let mut left = n;
-    let mut a = first;
-    let mut b = second;
-    while left != 0 {
-        let c = word(out, at);
-        let d = word(out, at + 1);
-        store_two(out, at, a, b);
-        a = c;
-        b = d;
-        at += 2;
-        left -= 1;
-    }
-    store_two(out, at, a, b);
+    out.copy_within(from..from + 2 * n, from + 2);
+    store_two(out, from, first, second);
 }
 
 // A variable put into its place among as many: 1 where its location is new.
 fn place(out: &mut [u32], n: usize, location: u32, var: u32) -> u32
     requires n_in_bounds { (2 + 2 * n + 2 ≤ length out.old) × (n < 0x1_0000) × (each 2 located_good n (drop 2 out.old) ≡ true) }
-    requires location_bound { (location < 2 ^ 27) × (var_well_formed var ≡ true) }
-    ensures out_after { out.new ≡ put out.old 2 (flat located_words (insert (record { location = location; var = var_of var }) (read_varyings n (drop 2 out.old)))) }
-    ensures out_len { length (insert (record { location = location; var = var_of var }) (read_varyings n (drop 2 out.old))) ≡ n + result }
+    requires variable { (location < 2 ^ 27) × (var_well_formed var ≡ true) }
+    ensures words { out.new ≡ put out.old 2 (flat located_words (insert (record { location = location; var = var_of var }) (read_varyings n (drop 2 out.old)))) }
+    ensures count { length (insert (record { location = location; var = var_of var }) (read_varyings n (drop 2 out.old))) ≡ n + result }
     ensures upper_bound { result ≤ 1 }
 {
-    let mut at: usize = 2;
-    let mut left = n;
-    while left != 0 {
+    for i in 0..n {
+        let at = 2 + 2 * i;
         let here = location_at(out, at);
         if location < here {
-            shift(out, at, left, 0x6000_0000 + location, var);
+            shift(out, at, n - i, 0x6000_0000 + location, var);
             return 1;
         }
         if location == here {
             store_two(out, at, 0x6000_0000 + location, var);
             return 0;
         }
-        at += 2;
-        left -= 1;
     }
-    store_two(out, at, 0x6000_0000 + location, var);
+    store_two(out, 2 + 2 * n, 0x6000_0000 + location, var);
     1
 }
 
 // The same by its first word, where the locations rise: one above the last, or above the head where there is none, needs no search.
 fn place_last(out: &mut [u32], n: usize, first: u32, var: u32) -> u32
     requires n_in_bounds { (2 + 2 * n + 2 ≤ length out.old) × (n < 0x1_0000) × (each 2 located_good n (drop 2 out.old) ≡ true) }
-    requires first_value { (kind_of first ≡ 12) × (var_well_formed var ≡ true) × (rising (read_varyings n (drop 2 out.old)) ≡ true) }
-    ensures out_after { out.new ≡ put out.old 2 (flat located_words (insert (record { location = content_of first; var = var_of var }) (read_varyings n (drop 2 out.old)))) }
-    ensures out_len { length (insert (record { location = content_of first; var = var_of var }) (read_varyings n (drop 2 out.old))) ≡ n + result }
+    requires variable { (kind_of first ≡ 12) × (var_well_formed var ≡ true) × (rising (read_varyings n (drop 2 out.old)) ≡ true) }
+    ensures words { out.new ≡ put out.old 2 (flat located_words (insert (record { location = content_of first; var = var_of var }) (read_varyings n (drop 2 out.old)))) }
+    ensures count { length (insert (record { location = content_of first; var = var_of var }) (read_varyings n (drop 2 out.old))) ≡ n + result }
     ensures upper_bound { result ≤ 1 }
 {
     if out[2 * n] < first {
@@ -92,14 +76,14 @@ fn place_last(out: &mut [u32], n: usize, first: u32, var: u32) -> u32
 
 // The variable of two words put into the list by its location; of equal locations the last is kept. The head is handed over, and the answer is the new one.
 pub fn insert_words(out: &mut [u32], head: u32, first: u32, var: u32) -> u32
-    requires head_value { out_well_formed (set out.old 0 head) ≡ true }
-    requires first_value { (kind_of first ≡ 12) × (located_encodable (record { location = content_of first; var = var_of var }) ≡ true) }
-    requires head_len_bound { (length (decode_stage (set out.old 0 head)).varyings < 63) × (2 ≤ length (decode_stage (set out.old 0 head)).room) }
-    ensures result_after { set out.new 0 result ≡ encode_stage (inserted (record { location = content_of first; var = var_of var }) (decode_stage (set out.old 0 head))) }
-    ensures result_after_2 { decode_stage (set out.new 0 result) ≡ inserted (record { location = content_of first; var = var_of var }) (decode_stage (set out.old 0 head)) }
-    ensures result_after_3 { out_well_formed (set out.new 0 result) ≡ true }
-    ensures out_after { out.new ≡ set (encode_stage (inserted (record { location = content_of first; var = var_of var }) (decode_stage (set out.old 0 head)))) 0 (word_at out.old 0) }
-    ensures value { result ≡ word_at (encode_stage (inserted (record { location = content_of first; var = var_of var }) (decode_stage (set out.old 0 head)))) 0 }
+    requires well_formed { out_well_formed (set out.old 0 head) ≡ true }
+    requires variable { (kind_of first ≡ 12) × (located_encodable (record { location = content_of first; var = var_of var }) ≡ true) }
+    requires room { (length (decode_stage (set out.old 0 head)).varyings < 63) × (2 ≤ length (decode_stage (set out.old 0 head)).room) }
+    ensures encoded { set out.new 0 result ≡ encode_stage (inserted (record { location = content_of first; var = var_of var }) (decode_stage (set out.old 0 head))) }
+    ensures decoded { decode_stage (set out.new 0 result) ≡ inserted (record { location = content_of first; var = var_of var }) (decode_stage (set out.old 0 head)) }
+    ensures still_well_formed { out_well_formed (set out.new 0 result) ≡ true }
+    ensures words { out.new ≡ set (encode_stage (inserted (record { location = content_of first; var = var_of var }) (decode_stage (set out.old 0 head)))) 0 (word_at out.old 0) }
+    ensures head { result ≡ word_at (encode_stage (inserted (record { location = content_of first; var = var_of var }) (decode_stage (set out.old 0 head)))) 0 }
 {
     let n = (head % 0x1_0000) as usize;
     let second = var_word(var);

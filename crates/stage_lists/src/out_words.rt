@@ -4,7 +4,6 @@ ghost use Rattle.word.specs.Words.{of_kind};
 ghost use Rattle.varying.specs.Format.{var_of, var_word, payload_encodable, payload_word};
 ghost use Rattle.stage_lists.specs.Format.{primitive_code};
 
-
 // The first word of a list that counts no variable yet.
 pub(crate) fn primitive_word(primitive: Option<bool>) -> u32
     ensures { result ≡ of_kind 11 (2 ^ 25 * primitive_code primitive) }

@@ -4,11 +4,11 @@ ghost use Rattle.word.specs.Words.{word_at, content_of};
 ghost use Rattle.varying.specs.Format.{var_well_formed};
 ghost use Rattle.places.specs.Places.{found_below};
 ghost use Rattle.stage_lists.specs.Meaning.{rising, varying_at};
-ghost use Rattle.places.specs.Records.{count_of, each};
+ghost use Rattle.places.specs.Records.{each};
 ghost use Rattle.stage_lists.specs.Format.{located_good, read_varyings, variable_found, stage_head, out_well_formed, stage_well_formed, decode_stage};
 ghost use Rattle.stage_lists.specs.Inner.Found.{location_from};
 
-use places::heads::counted;
+use places::heads::{counted, short_enough};
 use word::word;
 
 // The head, the payload, and as many variables as are counted.
@@ -43,49 +43,38 @@ pub(crate) fn location_at(l: &[u32], at: usize) -> u32
     word::content(word(l, at))
 }
 
-fn located_good(l: &[u32], at: usize, good: u32) -> bool
-    requires at_in_bounds { at + 2 ≤ length l.now }
-    requires good_value { var_well_formed good ≡ true }
-    ensures { result ≡ located_good (drop at l.now) }
+fn located_good(words: &[u32], good: u32) -> bool
+    requires in_bounds { 2 ≤ length words.now }
+    requires good_variable { var_well_formed good ≡ true }
+    ensures { result ≡ located_good words.now }
 {
-    if varying::location_well_formed(l[at]) {
-        return varying::var_good(l[at + 1], good);
-    }
-    false
+    varying::location_well_formed(words[0]) && varying::var_good(words[1], good)
 }
 
-// Whether each variable has a location and a variable's word. The commonest is a vector of four f32.
-fn varyings_good(l: &[u32]) -> bool
-    requires { 2 + 2 * count_of l.now ≤ length l.now }
-    ensures { result ≡ each 2 located_good (count_of l.now) (drop 2 l.now) }
+// Whether each of as many variables has a location and a variable's word. The commonest is a vector of four f32.
+fn varyings_good(varyings: &[u32], n: usize) -> bool
+    requires { (n < 0x1_0000) × (2 * n ≤ length varyings.now) }
+    ensures { result ≡ each 2 located_good n varyings.now }
 {
     let mut good: u32 = 0x6800_0123;
-    let mut at: usize = 2;
-    let mut left = counted(l);
-    while left != 0 {
-        if !located_good(l, at, good) {
+    for i in 0..n {
+        if !located_good(&varyings[2 * i..], good) {
             return false;
         }
-        good = l[at + 1];
-        at += 2;
-        left -= 1;
+        good = varyings[2 * i + 1];
     }
     true
 }
 
 // Whether each location is below the next.
-fn rises(l: &[u32], n: usize) -> bool
-    requires { 2 + 2 * n ≤ length l.now }
-    ensures { result ≡ rising (read_varyings n (drop 2 l.now)) }
+fn rises(varyings: &[u32], n: usize) -> bool
+    requires { (n < 0x1_0000) × (2 * n ≤ length varyings.now) }
+    ensures { result ≡ rising (read_varyings n varyings.now) }
 {
-    let mut at: usize = 2;
-    let mut left = n;
-    while 2 <= left {
-        if l[at + 2] % 0x800_0000 <= l[at] % 0x800_0000 {
+    for i in 1..n {
+        if varyings[2 * i] % 0x800_0000 <= varyings[2 * (i - 1)] % 0x800_0000 {
             return false;
         }
-        at += 2;
-        left -= 1;
     }
     true
 }
@@ -97,38 +86,33 @@ pub fn out_well_formed(l: &[u32]) -> bool
     if !stage_head(l) {
         return false;
     }
-    if !varyings_good(l) {
+    let varyings = &l[2..];
+    let n = counted(l);
+    if !varyings_good(varyings, n) {
         return false;
     }
-    rises(l, counted(l))
+    rises(varyings, n)
 }
 
 // Whether words are a stage list.
 pub fn stage_well_formed(l: &[u32]) -> bool
     ensures { result ≡ stage_well_formed l.now }
 {
-    if 1024 < l.len() {
-        return false;
-    }
-    out_well_formed(l)
+    short_enough(l) && out_well_formed(l)
 }
 
 // Where the word of the variable at a location stands, where all variables lie within the slice.
 fn find_within(l: &[u32], n: usize, location: u32) -> Option<usize>
     requires n_bound { n < 0x1_0000 }
     requires n_in_bounds { 2 + 2 * n ≤ length l.now }
-    ensures result_value { variable_found l.now result ≡ varying_at location (read_varyings n (drop 2 l.now)) }
-    ensures result_value_2 { found_below (length l.now) result ≡ true }
+    ensures variable { variable_found l.now result ≡ varying_at location (read_varyings n (drop 2 l.now)) }
+    ensures within { found_below (length l.now) result ≡ true }
     ensures value { result ≡ location_from location (read_varyings n (drop 2 l.now)) 3 }
 {
-    let mut at: usize = 2;
-    let mut left = n;
-    while left != 0 {
-        if l[at] % 0x800_0000 == location {
-            return Some(at + 1);
+    for i in 0..n {
+        if l[2 + 2 * i] % 0x800_0000 == location {
+            return Some(3 + 2 * i);
         }
-        at += 2;
-        left -= 1;
     }
     None
 }
@@ -136,8 +120,8 @@ fn find_within(l: &[u32], n: usize, location: u32) -> Option<usize>
 // Where the word of the variable at a location stands in a stage list. The variable at a likely position is tried first.
 pub fn find_location(l: &[u32], location: u32, near: usize) -> Option<usize>
     requires { out_well_formed l.now ≡ true }
-    ensures result_value { variable_found l.now result ≡ varying_at location (decode_stage l.now).varyings }
-    ensures result_value_2 { found_below (length l.now) result ≡ true }
+    ensures variable { variable_found l.now result ≡ varying_at location (decode_stage l.now).varyings }
+    ensures within { found_below (length l.now) result ≡ true }
     ensures value { result ≡ location_from location (decode_stage l.now).varyings 3 }
 {
     let n = counted(l);
@@ -152,14 +136,11 @@ pub fn find_location(l: &[u32], location: u32, near: usize) -> Option<usize>
 pub fn primitive_index(l: &[u32]) -> Option<bool>
     ensures { result ≡ (decode_stage l.now).primitive }
 {
-    let code = word(l, 0) / 0x200_0000 % 4;
-    if code == 0 {
-        return None;
+    match word(l, 0) / 0x200_0000 % 4 {
+        0 => None,
+        1 => Some(false),
+        _ => Some(true),
     }
-    if code == 1 {
-        return Some(false);
-    }
-    Some(true)
 }
 
 pub fn payload(l: &[u32]) -> Option<u32>

@@ -23,28 +23,20 @@ const NONE: u32 = 0x3000_0000;
 
 const SEEN: u32 = 0x9800_0001;
 
-fn write(rt: &impl Print, text: &[u8]) -> io::Result<()> {
-    rt.write_all(text)
-}
-
-fn end_line(rt: &impl Print) -> io::Result<()> {
-    write(rt, b"\n")
-}
-
 // A number's sign: the digits below 10, and from 20 on a letter, A for 20.
-fn put(rt: &impl Print, number: u32) -> io::Result<()> {
+fn sign(number: u32) -> &'static str {
     match number {
-        0 => write(rt, b"0"),
-        2 => write(rt, b"2"),
-        3 => write(rt, b"3"),
-        22 => write(rt, b"C"),
-        23 => write(rt, b"D"),
-        25 => write(rt, b"F"),
-        26 => write(rt, b"G"),
-        27 => write(rt, b"H"),
-        28 => write(rt, b"I"),
-        30 => write(rt, b"K"),
-        _ => write(rt, b"?"),
+        0 => "0",
+        2 => "2",
+        3 => "3",
+        22 => "C",
+        23 => "D",
+        25 => "F",
+        26 => "G",
+        27 => "H",
+        28 => "I",
+        30 => "K",
+        _ => "?",
     }
 }
 
@@ -60,19 +52,14 @@ fn words_agree(number: u32, resource: &[u32], w: u32, least: u32) -> bool {
     }
 }
 
-fn check(
-    rt: &impl Print,
-    resource: &[u32],
-    place: u32,
-    w: u32,
-    least: u32,
-    visibility: u32,
-) -> io::Result<()> {
-    let entry = [place, w, least, visibility];
-    let answer = check_words(resource, &entry);
-    put(rt, answer.number)?;
-    if !words_agree(answer.number, resource, w, least) {
-        write(rt, b"?")?;
+// A resource on the entry of four words.
+fn check(rt: &impl Print, resource: &[u32], entry: [u32; 4]) -> io::Result<()> {
+    let number = check_words(resource, &entry).number;
+    let [_, w, least, _] = entry;
+    let sign = sign(number);
+    print!(rt; "{sign}")?;
+    if !words_agree(number, resource, w, least) {
+        print!(rt; "?")?;
     }
     Ok(())
 }
@@ -82,7 +69,7 @@ fn columns(rt: &impl Print, resource: &[u32], first: u32, n: u32, least: u32) ->
     requires { first + n < 2 ^ 32 }
 {
     for code in 0..n {
-        check(rt, resource, PLACE, first + code, least, SEEN)?;
+        check(rt, resource, [PLACE, first + code, least, SEEN])?;
     }
     Ok(())
 }
@@ -104,12 +91,15 @@ fn derived_agree(answer: Answer, resource: &[u32], named: bool) -> bool {
 
 fn derived(rt: &impl Print, resource: &[u32], named: bool) -> io::Result<()> {
     let answer = derive_words(resource, named);
-    let number = answer.number;
-    let first = answer.first;
-    let second = answer.second;
+    let Answer {
+        number,
+        first,
+        second,
+        ..
+    } = answer;
     print!(rt; " {number} {first} {second}")?;
     if !derived_agree(answer, resource, named) {
-        write(rt, b"?")?;
+        print!(rt; "?")?;
     }
     Ok(())
 }
@@ -130,26 +120,16 @@ fn row(rt: &impl Print, resource: &[u32]) -> io::Result<()> {
     columns(rt, resource, 0x9300_0000, 3, NONE)?;
     derived(rt, resource, false)?;
     derived(rt, resource, true)?;
-    end_line(rt)
+    println!(rt)
 }
 
-// Resources whose type words follow each other.
-fn rows(rt: &impl Print, first: u32, n: u32) -> io::Result<()>
-    requires { first + n < 2 ^ 32 }
+// Resources whose type words follow each other, of so many words; the third is a size.
+fn rows(rt: &impl Print, first: u32, n: u32, words: usize) -> io::Result<()>
+    requires { (first + n < 2 ^ 32) × (words ≤ 3) }
 {
     for code in 0..n {
-        let words = [PLACE, first + code];
-        row(rt, &words)?;
-    }
-    Ok(())
-}
-
-fn buffers(rt: &impl Print, first: u32, n: u32) -> io::Result<()>
-    requires { first + n < 2 ^ 32 }
-{
-    for code in 0..n {
-        let words = [PLACE, first + code, SIZE];
-        row(rt, &words)?;
+        let resource = [PLACE, first + code, SIZE];
+        row(rt, &resource[..words])?;
     }
     Ok(())
 }
@@ -159,7 +139,7 @@ fn accesses(rt: &impl Print, first: u32) -> io::Result<()>
     requires { first < 0x9000_0000 }
 {
     for access in 1..8 {
-        rows(rt, first + 0x1_0000 * access, 1)?;
+        rows(rt, first + 0x1_0000 * access, 1, 2)?;
     }
     Ok(())
 }
@@ -168,36 +148,38 @@ fn accesses(rt: &impl Print, first: u32) -> io::Result<()>
 fn formats(rt: &impl Print) -> io::Result<()> {
     for format in 0..128 {
         let same = [PLACE, 0x8202_0001 + 0x100 * format];
-        check(rt, &same, PLACE, 0x9201_0001 + 0x100 * format, NONE, SEEN)?;
+        check(rt, &same, [PLACE, 0x9201_0001 + 0x100 * format, NONE, SEEN])?;
         let other = [PLACE, 0x8202_0001];
-        check(rt, &other, PLACE, 0x9201_0001 + 0x100 * format, NONE, SEEN)?;
+        check(
+            rt,
+            &other,
+            [PLACE, 0x9201_0001 + 0x100 * format, NONE, SEEN],
+        )?;
     }
-    end_line(rt)
+    println!(rt)
 }
 
-// A bit of a type word's content.
-fn bit(place: u32) -> u32
-    requires { place < 23 }
-    ensures { result ≤ 2 ^ 22 }
+// The content of a type word, in a resource of two or three words and in an entry without and with a least size.
+fn content(rt: &impl Print, w: u32) -> io::Result<()>
+    requires { w < 2 ^ 27 }
 {
-    1 << place
+    let short = [PLACE, 0x8000_0000 + w];
+    check(rt, &short, [PLACE, 0x9000_0000, NONE, SEEN])?;
+    let long = [PLACE, 0x8000_0000 + w, SIZE];
+    check(rt, &long, [PLACE, 0x9000_0000, NONE, SEEN])?;
+    let uniform = [PLACE, 0x8000_0000, SIZE];
+    check(rt, &uniform, [PLACE, 0x9000_0000 + w, NONE, SEEN])?;
+    check(rt, &uniform, [PLACE, 0x9000_0000 + w, SIZE, SEEN])
 }
 
-// Each bit of a type word alone, in a resource of two or three words and in an entry without and with a least size.
+// Each bit alone below a type's code.
 fn bits(rt: &impl Print, code: u32) -> io::Result<()>
     requires { code < 16 }
 {
-    for place in 0..23 {
-        let w = 0x80_0000 * code + bit(place);
-        let short = [PLACE, 0x8000_0000 + w];
-        check(rt, &short, PLACE, 0x9000_0000, NONE, SEEN)?;
-        let long = [PLACE, 0x8000_0000 + w, SIZE];
-        check(rt, &long, PLACE, 0x9000_0000, NONE, SEEN)?;
-        let uniform = [PLACE, 0x8000_0000, SIZE];
-        check(rt, &uniform, PLACE, 0x9000_0000 + w, NONE, SEEN)?;
-        check(rt, &uniform, PLACE, 0x9000_0000 + w, SIZE, SEEN)?;
+    for place in 0u32..23 {
+        content(rt, 0x80_0000 * code + (1 << place))?;
     }
-    end_line(rt)
+    println!(rt)
 }
 
 fn types(rt: &impl Print) -> io::Result<()> {
@@ -212,31 +194,31 @@ fn kinds(rt: &impl Print) -> io::Result<()> {
     for kind in 0..32 {
         let w = 0x800_0000 * kind;
         let placed = [w + 7, 0x8000_0000, SIZE];
-        check(rt, &placed, PLACE, 0x9000_0000, NONE, SEEN)?;
+        check(rt, &placed, [PLACE, 0x9000_0000, NONE, SEEN])?;
         let typed = [PLACE, w, SIZE];
-        check(rt, &typed, PLACE, 0x9000_0000, NONE, SEEN)?;
+        check(rt, &typed, [PLACE, 0x9000_0000, NONE, SEEN])?;
         let sized = [PLACE, 0x8000_0000, w + 64];
-        check(rt, &sized, PLACE, 0x9000_0000, NONE, SEEN)?;
+        check(rt, &sized, [PLACE, 0x9000_0000, NONE, SEEN])?;
         let uniform = [PLACE, 0x8000_0000, SIZE];
-        check(rt, &uniform, w + 7, 0x9000_0000, NONE, SEEN)?;
-        check(rt, &uniform, PLACE, w, NONE, SEEN)?;
-        check(rt, &uniform, PLACE, 0x9000_0000, w, SEEN)?;
-        check(rt, &uniform, PLACE, 0x9000_0000, NONE, w + 1)?;
+        check(rt, &uniform, [w + 7, 0x9000_0000, NONE, SEEN])?;
+        check(rt, &uniform, [PLACE, w, NONE, SEEN])?;
+        check(rt, &uniform, [PLACE, 0x9000_0000, w, SEEN])?;
+        check(rt, &uniform, [PLACE, 0x9000_0000, NONE, w + 1])?;
     }
-    end_line(rt)
+    println!(rt)
 }
 
 fn main(rt: HostRuntime) -> io::Result<()> {
-    buffers(&rt, 0x8000_0000, 1)?;
-    buffers(&rt, 0x8000_0008, 9)?;
-    rows(&rt, 0x8080_0000, 2)?;
-    rows(&rt, 0x8100_0000, 48)?;
-    rows(&rt, 0x8180_0000, 16)?;
-    rows(&rt, 0x8202_0000, 8)?;
+    rows(&rt, 0x8000_0000, 1, 3)?;
+    rows(&rt, 0x8000_0008, 9, 3)?;
+    rows(&rt, 0x8080_0000, 2, 2)?;
+    rows(&rt, 0x8100_0000, 48, 2)?;
+    rows(&rt, 0x8180_0000, 16, 2)?;
+    rows(&rt, 0x8202_0000, 8, 2)?;
     accesses(&rt, 0x8200_0001)?;
     accesses(&rt, 0x8200_0e01)?;
-    rows(&rt, 0x8280_0000, 8)?;
-    rows(&rt, 0x8300_0000, 2)?;
+    rows(&rt, 0x8280_0000, 8, 2)?;
+    rows(&rt, 0x8300_0000, 2, 2)?;
     formats(&rt)?;
     types(&rt)?;
     kinds(&rt)

@@ -3,7 +3,10 @@
 // The Rust has no answer 82 and panics at 80: there the oracle gives document 01's number.
 #![tactic(auto)]
 
+use formats::formats::{check_texture_format, texture_format, vertex_format};
+use numeric::type_words::{is_subtype_of, subtype_number};
 use std::io;
+use word::answer::Answer;
 
 // Lone type words: scalars, vectors, matrices, and five that are no type (shape 13, width 3, bit 12, bit 26, kind 12).
 const TYPES: [u32; 24] = [
@@ -33,65 +36,51 @@ const TYPES: [u32; 24] = [
     0x6000_0120,
 ];
 
-fn put(rt: &impl Print, n: u32, end: &[u8]) -> io::Result<()> {
-    print!(rt; "{n}")?;
-    rt.write_all(end)
-}
-
-fn line(rt: &impl Print, a: u32, b: u32, c: u32) -> io::Result<()> {
-    put(rt, a, b" ")?;
-    put(rt, b, b" ")?;
-    put(rt, c, b"\n")
-}
-
 fn vertex_formats(rt: &impl Print) -> io::Result<()> {
     for code in 0..50 {
-        let answer = formats::formats::vertex_format(code);
-        line(rt, code, answer.number, answer.first)?;
+        let Answer { number, first, .. } = vertex_format(code);
+        println!(rt; "{code} {number} {first}")?;
     }
     Ok(())
 }
 
 fn texture_formats(rt: &impl Print) -> io::Result<()> {
     for code in 0..81 {
-        let answer = formats::formats::texture_format(code);
-        line(rt, code, answer.number, answer.first)?;
+        let Answer { number, first, .. } = texture_format(code);
+        println!(rt; "{code} {number} {first}")?;
     }
     Ok(())
 }
 
 // A type below each type of the table.
 fn below_each(rt: &impl Print, a: u32) -> io::Result<()> {
-    for i in 0..24 {
-        let b = TYPES[i];
-        let compared = numeric::type_words::is_subtype_of(a, b);
-        line(rt, a, b, numeric::type_words::subtype_number(compared))?;
+    for b in TYPES {
+        let number = subtype_number(is_subtype_of(a, b));
+        println!(rt; "{a} {b} {number}")?;
     }
     Ok(())
 }
 
 fn subtypes(rt: &impl Print) -> io::Result<()> {
-    for i in 0..24 {
-        below_each(rt, TYPES[i])?;
+    for a in TYPES {
+        below_each(rt, a)?;
     }
     Ok(())
 }
 
 // A texture format covered by each type of the table.
 fn covered_by_each(rt: &impl Print, code: u32) -> io::Result<()> {
-    for i in 0..24 {
-        let output = TYPES[i];
-        let answer = formats::formats::check_texture_format(code, output);
-        put(rt, code, b" ")?;
-        line(rt, output, answer.number, answer.first)?;
+    for output in TYPES {
+        let Answer { number, first, .. } = check_texture_format(code, output);
+        println!(rt; "{code} {output} {number} {first}")?;
     }
     Ok(())
 }
 
 // Every seventh code meets each kind of format: 49 has no colour type and 77 is unknown.
 fn covered_formats(rt: &impl Print) -> io::Result<()> {
-    for i in 0..12 {
-        covered_by_each(rt, 7 * i)?;
+    for code in (0..84).step_by(7) {
+        covered_by_each(rt, code)?;
     }
     Ok(())
 }

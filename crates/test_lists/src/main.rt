@@ -5,121 +5,97 @@
 // Input and stored output are from tools/lists_expected.py, a model of document 01's text.
 #![tactic(auto)]
 
-ghost use Rattle.std.specs.Prelude.{◌≡◌, length};
-
+use layouts::layout::layout_well_formed;
+use sizes::sizes::sizes_well_formed;
+use stage_lists::stage_io::stage_well_formed;
 use std::io;
 use std::io::Read;
-use test_text::read::{at_most, next};
+use test_text::read;
 
 mod on_layouts;
 mod on_sizes;
 mod on_stages;
 mod print;
 
-// Reads a list, and keeps it as it was read.
-fn read_list(input: &mut impl Read, list: &mut [u32], kept: &mut [u32]) -> io::Result<()>
-    requires { length kept.old ≡ length list.old }
-{
-    for i in 0..list.len() {
-        let w = next(input)?;
-        list[i] = w;
-        kept[i] = w;
+// What is asked of a list.
+#[derive(Clone, Copy)]
+enum Asked {
+    Kinds,
+    LookLayout { place: u32, near: u32 },
+    Join { place: u32, stage: u32 },
+    Push { entry: [u32; 4] },
+    Record { place: u32, size: u32, near: u32 },
+    LookStage { location: u32, near: u32 },
+    Begin { code: u32, payload: u32 },
+    Insert { location: u32, var: u32 },
+}
+
+// What a case's words ask: its number and four arguments.
+impl From<[u32; 5]> for Asked {
+    fn from(words: [u32; 5]) -> Asked {
+        let [asked, a, b, c, d] = words;
+        match asked {
+            0 => Asked::Kinds,
+            1 => Asked::LookLayout { place: a, near: b },
+            2 => Asked::Join { place: a, stage: b },
+            3 => Asked::Push {
+                entry: [a, b, c, d],
+            },
+            4 => Asked::Record {
+                place: a,
+                size: b,
+                near: c,
+            },
+            5 => Asked::LookStage {
+                location: a,
+                near: b,
+            },
+            6 => Asked::Begin {
+                code: a,
+                payload: b,
+            },
+            _ => Asked::Insert {
+                location: a,
+                var: b,
+            },
+        }
     }
-    Ok(())
 }
 
 // Which of the three lists the words are.
-fn tests(rt: &impl Print, list: &[u32]) -> io::Result<()> {
-    print::yes_no(rt, layouts::layout::layout_well_formed(list))?;
-    print::yes_no(rt, sizes::sizes::sizes_well_formed(list))?;
-    print::yes_no(rt, stage_lists::stage_io::stage_well_formed(list))
+fn kinds(rt: &impl Print, list: &[u32]) -> io::Result<()> {
+    print::yes_no(rt, layout_well_formed(list))?;
+    print::yes_no(rt, sizes_well_formed(list))?;
+    print::yes_no(rt, stage_well_formed(list))
 }
 
-fn answer(
-    rt: &impl Print,
-    list: &mut [u32],
-    asked: u32,
-    a: u32,
-    b: u32,
-    c: u32,
-    d: u32,
-) -> io::Result<()> {
+fn answer(rt: &impl Print, list: &mut [u32], asked: Asked) -> io::Result<()> {
     match asked {
-        0 => tests(rt, list),
-        1 => on_layouts::look(rt, list, a, b),
-        2 => on_layouts::join(rt, list, a, b),
-        3 => on_layouts::push(rt, list, a, b, c, d),
-        4 => on_sizes::record(rt, list, a, b, c),
-        5 => on_stages::look(rt, list, a, b),
-        6 => on_stages::begin(rt, list, a, b),
-        _ => on_stages::insert(rt, list, a, b),
+        Asked::Kinds => kinds(rt, list),
+        Asked::LookLayout { place, near } => on_layouts::look(rt, list, place, near),
+        Asked::Join { place, stage } => on_layouts::join(rt, list, place, stage),
+        Asked::Push { entry } => on_layouts::push(rt, list, entry),
+        Asked::Record { place, size, near } => on_sizes::record(rt, list, place, size, near),
+        Asked::LookStage { location, near } => on_stages::look(rt, list, location, near),
+        Asked::Begin { code, payload } => on_stages::begin(rt, list, code, payload),
+        Asked::Insert { location, var } => on_stages::insert(rt, list, location, var),
     }
 }
 
-fn run(
-    rt: &impl Print,
-    input: &mut impl Read,
-    list: &mut [u32],
-    kept: &mut [u32],
-    asked: u32,
-    a: u32,
-    b: u32,
-    c: u32,
-    d: u32,
-) -> io::Result<()>
-    requires { length kept.old ≡ length list.old }
-{
-    read_list(input, list, kept)?;
-    answer(rt, list, asked, a, b, c, d)?;
-    test_text::print::changes(rt, kept, list, b"", b" ")?;
-    test_text::print::end(rt)
-}
-
-fn case(
-    rt: &impl Print,
-    input: &mut impl Read,
-    space: &mut [u32],
-    kept: &mut [u32],
-) -> io::Result<()>
-    requires space_len { length space.old ≡ 1032 }
-    requires kept_len { length kept.old ≡ 1032 }
-{
-    let asked = next(input)?;
-    let a = next(input)?;
-    let b = next(input)?;
-    let c = next(input)?;
-    let d = next(input)?;
-    let n = at_most(next(input)?, 1032);
-    run(
-        rt,
-        input,
-        &mut space[..n],
-        &mut kept[..n],
-        asked,
-        a,
-        b,
-        c,
-        d,
-    )
-}
-
-fn cases(
-    rt: &impl Print,
-    input: &mut impl Read,
-    space: &mut [u32],
-    kept: &mut [u32],
-) -> io::Result<()>
-    requires space_len { length space.old ≡ 1032 }
-    requires kept_len { length kept.old ≡ 1032 }
-{
-    for _ in 0..next(input)? {
-        case(rt, input, space, kept)?;
-    }
-    Ok(())
+fn case(rt: &impl Print, input: &mut impl Read) -> io::Result<()> {
+    let asked = Asked::from(read::array::<5>(input)?);
+    let count = read::next(input)?;
+    let mut list = read::words::<1032>(input, count)?;
+    let old = list.clone().unwrap();
+    answer(rt, &mut list, asked)?;
+    test_text::print::changes(rt, &old, &list, "", " ")?;
+    println!(rt)
 }
 
 fn main(rt: HostRuntime) -> io::Result<()> {
-    let mut space = [0u32; 1032];
-    let mut kept = [0u32; 1032];
-    cases(&rt, &mut rt.stdin(), &mut space, &mut kept)
+    let mut input = rt.stdin();
+    for _ in 0..read::next(&mut input)? {
+        case(&rt, &mut input)?;
+    }
+    Ok(())
 }

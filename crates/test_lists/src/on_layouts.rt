@@ -1,9 +1,6 @@
 // What is asked of layout lists.
-ghost use Rattle.std.specs.Prelude.{◌≡◌, true, ◌<◌};
-ghost use Rattle.word.specs.Words.{bits};
-ghost use Rattle.bindings.specs.Format.{place_of, entry_well_formed};
-ghost use Rattle.layouts.specs.Meaning.{find_entry};
-ghost use Rattle.layouts.specs.Format.{layout_well_formed, decode_layout};
+ghost use Rattle.std.specs.Prelude.{◌≡◌, true};
+ghost use Rattle.layouts.specs.Format.{layout_well_formed};
 
 use crate::print;
 use bindings::binding_codes::{binding_code, least_size};
@@ -71,10 +68,7 @@ pub(crate) fn look(rt: &impl Print, l: &[u32], place: u32, index: u32) -> io::Re
 
 // A stage joined to the entry at a place.
 pub(crate) fn join(rt: &impl Print, l: &mut [u32], place: u32, stage: u32) -> io::Result<()> {
-    if !layout_well_formed(l) {
-        return print::nothing(rt);
-    }
-    if 4 < stage {
+    if !layout_well_formed(l) || 4 < stage {
         return print::nothing(rt);
     }
     match find_entry_word(l, place) {
@@ -86,74 +80,19 @@ pub(crate) fn join(rt: &impl Print, l: &mut [u32], place: u32, stage: u32) -> io
     }
 }
 
-// A new entry; then whether there was room.
-fn push_new(
-    rt: &impl Print,
-    l: &mut [u32],
-    place: u32,
-    ty: u32,
-    least: u32,
-    visibility: u32,
-) -> io::Result<()>
-    requires l_value { layout_well_formed l.old ≡ true }
-    requires visibility_value { entry_well_formed place ty least visibility ≡ true }
-    requires place_bound { bits 26 23 place < (decode_layout l.old).groups }
-    requires l_value_2 { find_entry (place_of place) (decode_layout l.old) ≡ None }
-{
-    print::yes_no(rt, push_entry(l, place, ty, word_size(least), visibility))
-}
-
-// The same where no entry has its place.
-fn push_vacant(
-    rt: &impl Print,
-    l: &mut [u32],
-    place: u32,
-    ty: u32,
-    least: u32,
-    visibility: u32,
-) -> io::Result<()>
-    requires l_value { layout_well_formed l.old ≡ true }
-    requires visibility_value { entry_well_formed place ty least visibility ≡ true }
-    requires place_bound { bits 26 23 place < (decode_layout l.old).groups }
-{
-    match find_entry_word(l, place) {
-        Some(_) => print::nothing(rt),
-        None => push_new(rt, l, place, ty, least, visibility),
+// A new entry, where the words are one, its group is one of the list's and no entry has its place; then whether there was room.
+pub(crate) fn push(rt: &impl Print, l: &mut [u32], entry: [u32; 4]) -> io::Result<()> {
+    let [place, ty, least, visibility] = entry;
+    if !layout_well_formed(l) || !words_well_formed(place, ty, least, visibility) {
+        return print::nothing(rt);
     }
-}
-
-// The same where its group is one of the list's.
-fn push_grouped(
-    rt: &impl Print,
-    l: &mut [u32],
-    place: u32,
-    ty: u32,
-    least: u32,
-    visibility: u32,
-) -> io::Result<()>
-    requires l_value { layout_well_formed l.old ≡ true }
-    requires visibility_value { entry_well_formed place ty least visibility ≡ true }
-{
     if group_count(l) <= place / 0x80_0000 % 16 {
         return print::nothing(rt);
     }
-    push_vacant(rt, l, place, ty, least, visibility)
-}
-
-// The same where the words are an entry's.
-pub(crate) fn push(
-    rt: &impl Print,
-    l: &mut [u32],
-    place: u32,
-    ty: u32,
-    least: u32,
-    visibility: u32,
-) -> io::Result<()> {
-    if !layout_well_formed(l) {
-        return print::nothing(rt);
+    match find_entry_word(l, place) {
+        Some(_) => print::nothing(rt),
+        None => {
+            print::yes_no(rt, push_entry(l, place, ty, word_size(least), visibility))
+        }
     }
-    if !words_well_formed(place, ty, least, visibility) {
-        return print::nothing(rt);
-    }
-    push_grouped(rt, l, place, ty, least, visibility)
 }

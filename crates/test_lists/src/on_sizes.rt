@@ -11,17 +11,10 @@ pub(crate) fn record(
     size: u32,
     near: u32,
 ) -> io::Result<()> {
-    if !sizes_well_formed(l) {
+    if !sizes_well_formed(l) || size == 0 || 0x800_0000 <= size {
         return print::nothing(rt);
     }
-    if size == 0 {
-        return print::nothing(rt);
-    }
-    if 0x800_0000 <= size {
-        return print::nothing(rt);
-    }
-    let mut next: [u16; 1] = [0; 1];
-    next[0] = (near % 0x1_0000) as u16;
+    let mut next = (near % 0x1_0000) as usize;
     print::yes_no(
         rt,
         record_size(l, 0x2000_0000 + place % 0x800_0000, size as u64, &mut next),

@@ -63,10 +63,7 @@ fn primitive_of(code: u32) -> Option<bool> {
 
 // A list out begun with a primitive index and a payload's word, where it has two words.
 pub(crate) fn begin(rt: &impl Print, l: &mut [u32], code: u32, payload: u32) -> io::Result<()> {
-    if l.len() < 2 {
-        return print::nothing(rt);
-    }
-    if !payload_well_formed(payload) {
+    if l.len() < 2 || !payload_well_formed(payload) {
         return print::nothing(rt);
     }
     begin_out(l, primitive_of(code), payload_of(payload));
@@ -86,13 +83,7 @@ fn has_room(l: &[u32]) -> bool
 
 // A variable's word put into a list out at a location.
 pub(crate) fn insert(rt: &impl Print, l: &mut [u32], location: u32, var: u32) -> io::Result<()> {
-    if !has_room(l) {
-        return print::nothing(rt);
-    }
-    if 0x800_0000 <= location {
-        return print::nothing(rt);
-    }
-    if !var_well_formed(var) {
+    if !has_room(l) || 0x800_0000 <= location || !var_well_formed(var) {
         return print::nothing(rt);
     }
     let head = l[0];

@@ -5,13 +5,15 @@
 // The stored output is from the program `model` of oracle/ on the same packs, by tools/packs_expected.py.
 #![tactic(auto)]
 
-ghost use Rattle.std.specs.Prelude.{◌≡◌, ◌<◌, ◌≤◌, length};
+ghost use Rattle.std.specs.Prelude.{◌<◌, ◌≤◌, length};
 
+use pack_check::check_pack::{check_pack, index_pack};
 use std::io;
+use word::closing_sum;
 use word::refusal::Refusal;
 
 // The pack has 83 words; zeros stand behind it.
-const PACK: [u32; 96] = [
+const WORDS: [u32; 96] = [
     0x0801_0053,
     0x1007_0003,
     0x1800_0010,
@@ -110,25 +112,12 @@ const PACK: [u32; 96] = [
     0x0000_0000,
 ];
 
-fn put(rt: &impl Print, n: u32, end: &[u8]) -> io::Result<()> {
-    print!(rt; "{n}")?;
-    rt.write_all(end)
-}
-
-fn one_if(same: bool) -> u32 {
-    if same { 1 } else { 0 }
-}
-
-fn more(count: u32, same: bool) -> u32 {
-    std::num::wrapping_add_u32(count, one_if(same))
-}
-
 // The number of the check of packs, by the check alone and by the one that fills the tables of positions; 9 where they differ.
 fn answer_on(pack: &[u32]) -> u32 {
-    let mut offsets: [u16; 128] = [0; 128];
-    let mut heads: [u16; 16] = [0; 16];
-    let answer = pack_check::check_pack::check_pack(pack);
-    if pack_check::check_pack::index_pack(pack, &mut offsets, &mut heads) != answer {
+    let mut offsets = [0; 128];
+    let mut heads = [0; 16];
+    let answer = check_pack(pack);
+    if index_pack(pack, &mut offsets, &mut heads) != answer {
         return 9;
     }
     match answer {
@@ -137,147 +126,90 @@ fn answer_on(pack: &[u32]) -> u32 {
     }
 }
 
-// The answer on the pack with some bits of a word flipped.
-fn flipped(words: &mut [u32], i: usize, bits: u32) -> u32
-    requires words_len { length words.old ≡ 96 }
-    requires i_bound { i < 83 }
+// The answer on the pack with some bits of a word flipped, and the closing sum renewed or not.
+fn flipped(pack: &[u32], i: usize, bits: u32, renewed: bool) -> u32
+    requires { (i < length pack.now) × (length pack.now ≤ 96) }
 {
-    let old = words[i];
-    words[i] = old ^ bits;
-    let answer = answer_on(&words[..83]);
-    words[i] = old;
-    answer
-}
-
-// The same with the closing sum renewed.
-fn flipped_and_closed(words: &mut [u32], i: usize, bits: u32) -> u32
-    requires words_len { length words.old ≡ 96 }
-    requires i_bound { i < 82 }
-{
-    let old = words[i];
-    let sum = words[82];
-    words[i] = old ^ bits;
-    let renewed = word::closing_sum(&words[..83]);
-    words[82] = renewed;
-    let answer = answer_on(&words[..83]);
-    words[i] = old;
-    words[82] = sum;
-    answer
-}
-
-fn counts(rt: &impl Print, sort: u32, i: u32, a: u32, b: u32, c: u32) -> io::Result<()> {
-    put(rt, sort, b" ")?;
-    put(rt, i, b" ")?;
-    put(rt, a, b" ")?;
-    put(rt, b, b" ")?;
-    put(rt, c, b"\n")
-}
-
-fn plain_row(rt: &impl Print, words: &mut [u32], i: usize) -> io::Result<()>
-    requires words_len { length words.old ≡ 96 }
-    requires i_bound { i < 83 }
-{
-    let mut a: u32 = 0;
-    let mut b: u32 = 0;
-    let mut c: u32 = 0;
-    let mut bits: u32 = 1;
-    for _ in 0u32..32 {
-        let answer = flipped(words, i, bits);
-        a = more(a, answer == 0);
-        b = more(b, answer == 1);
-        c = more(c, answer == 2);
-        bits = std::num::wrapping_add_u32(bits, bits);
+    let mut words = [0; 96];
+    let words = &mut words[..pack.len()];
+    words.copy_from_slice(pack);
+    words[i] ^= bits;
+    if renewed {
+        words[pack.len() - 1] = closing_sum(words);
     }
-    counts(rt, 0, i as u32, a, b, c)
+    answer_on(words)
 }
 
-fn closed_row(rt: &impl Print, words: &mut [u32], i: usize) -> io::Result<()>
-    requires words_len { length words.old ≡ 96 }
-    requires i_bound { i < 82 }
+// How many of the packs with one bit of a word flipped are accepted, damaged and malformed.
+fn row(rt: &impl Print, pack: &[u32], i: usize, renewed: bool) -> io::Result<()>
+    requires { (i < length pack.now) × (length pack.now ≤ 96) }
 {
-    let mut a: u32 = 0;
-    let mut b: u32 = 0;
-    let mut c: u32 = 0;
-    let mut bits: u32 = 1;
-    for _ in 0u32..32 {
-        let answer = flipped_and_closed(words, i, bits);
-        a = more(a, answer == 0);
-        b = more(b, answer == 1);
-        c = more(c, answer == 2);
-        bits = std::num::wrapping_add_u32(bits, bits);
+    let mut accepted: u32 = 0;
+    let mut damaged: u32 = 0;
+    let mut malformed: u32 = 0;
+    for bit in 0u32..32 {
+        match flipped(pack, i, 1 << bit, renewed) {
+            0 => accepted += 1,
+            1 => damaged += 1,
+            2 => malformed += 1,
+            _ => {}
+        }
     }
-    counts(rt, 1, i as u32, a, b, c)
+    let sort = u32::from(renewed);
+    println!(rt; "{sort} {i} {accepted} {damaged} {malformed}")
 }
 
-fn answer_line(rt: &impl Print, sort: u32, n: u32, answer: u32) -> io::Result<()> {
-    put(rt, sort, b" ")?;
-    put(rt, n, b" ")?;
-    put(rt, answer, b"\n")
-}
-
-// The first words alone.
-fn shortened(words: &[u32], n: usize) -> u32
-    requires words_len { length words.now ≡ 96 }
-    requires n_bound { n ≤ 83 }
+fn plain_rows(rt: &impl Print, pack: &[u32]) -> io::Result<()>
+    requires { length pack.now ≤ 96 }
 {
-    answer_on(&words[..n])
+    for i in 0..pack.len() {
+        row(rt, pack, i, false)?;
+    }
+    Ok(())
+}
+
+// All but the closing sum, which is renewed.
+fn closed_rows(rt: &impl Print, pack: &[u32]) -> io::Result<()>
+    requires { (0 < length pack.now) × (length pack.now ≤ 96) }
+{
+    for i in 0..pack.len() - 1 {
+        row(rt, pack, i, true)?;
+    }
+    Ok(())
 }
 
 // As many words before a closing one, with the total and the sum that belong to them.
-fn refitted(words: &mut [u32], n: usize) -> u32
-    requires words_len { length words.old ≡ 96 }
-    requires n_bound { n < 95 }
+fn refitted(words: &[u32; 96], n: usize) -> u32
+    requires { n < 95 }
 {
+    let mut words = *words;
     let end = n + 1;
-    let old = words[n];
     words[0] = 0x0801_0000 + end as u32;
-    let sum = word::closing_sum(&words[..end]);
-    words[n] = sum;
-    let answer = answer_on(&words[..end]);
-    words[n] = old;
-    answer
+    words[n] = closing_sum(&words[..end]);
+    answer_on(&words[..end])
 }
 
-fn plain_rows(rt: &impl Print, words: &mut [u32]) -> io::Result<()>
-    requires { length words.old ≡ 96 }
-{
-    for i in 0..83 {
-        plain_row(rt, words, i)?;
+// The first words alone.
+fn shortened_lines(rt: &impl Print, pack: &[u32]) -> io::Result<()> {
+    for n in 0..=pack.len() {
+        let answer = answer_on(&pack[..n]);
+        println!(rt; "2 {n} {answer}")?;
     }
     Ok(())
 }
 
-fn closed_rows(rt: &impl Print, words: &mut [u32]) -> io::Result<()>
-    requires { length words.old ≡ 96 }
-{
-    for i in 0..82 {
-        closed_row(rt, words, i)?;
-    }
-    Ok(())
-}
-
-fn shortened_lines(rt: &impl Print, words: &[u32]) -> io::Result<()>
-    requires { length words.now ≡ 96 }
-{
-    for n in 0..84 {
-        answer_line(rt, 2, n as u32, shortened(words, n))?;
-    }
-    Ok(())
-}
-
-fn refitted_lines(rt: &impl Print, words: &mut [u32]) -> io::Result<()>
-    requires { length words.old ≡ 96 }
-{
+fn refitted_lines(rt: &impl Print, words: &[u32; 96]) -> io::Result<()> {
     for n in 1..90 {
-        answer_line(rt, 3, n as u32, refitted(words, n))?;
+        let answer = refitted(words, n);
+        println!(rt; "3 {n} {answer}")?;
     }
     Ok(())
 }
 
 fn main(rt: HostRuntime) -> io::Result<()> {
-    let mut words = PACK;
-    plain_rows(&rt, &mut words)?;
-    closed_rows(&rt, &mut words)?;
-    shortened_lines(&rt, &words)?;
-    refitted_lines(&rt, &mut words)
+    let pack = &WORDS[..83];
+    plain_rows(&rt, pack)?;
+    closed_rows(&rt, pack)?;
+    shortened_lines(&rt, pack)?;
+    refitted_lines(&rt, &WORDS)
 }

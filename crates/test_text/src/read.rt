@@ -1,60 +1,46 @@
-// Words and bytes from standard input.
-ghost use Rattle.std.specs.Prelude.{◌<◌, ◌≤◌};
-
+// Words and bytes from standard input; behind its end they are 0.
+use arrayvec::ArrayVec;
 use std::io;
 use std::io::{ErrorKind, Read};
-use word::word;
-
-fn wide(b: u8) -> u32
-    ensures { result < 256 }
-{
-    b as u32
-}
 
 // The next bytes of the input; those behind its end stay as they are.
-pub fn bytes(input: &mut impl Read, space: &mut [u8]) -> io::Result<()> {
+fn fill(input: &mut impl Read, space: &mut [u8]) -> io::Result<()> {
     match input.read_exact(space) {
         Err(e) if e.kind() == ErrorKind::UnexpectedEof => Ok(()),
         read => read,
     }
 }
 
-// The next word of the input, low byte first, 0 behind its end.
+// The next word of the input, low byte first.
 pub fn next(input: &mut impl Read) -> io::Result<u32> {
-    let mut four = [0u8; 4];
-    bytes(input, &mut four)?;
-    Ok(
-        wide(four[0])
-            + 0x100 * wide(four[1])
-            + 0x1_0000 * wide(four[2])
-            + 0x100_0000 * wide(four[3]),
-    )
+    let mut four = [0; 4];
+    fill(input, &mut four)?;
+    Ok(u32::from_le_bytes(four))
 }
 
-pub fn words(input: &mut impl Read, space: &mut [u32]) -> io::Result<()> {
-    for w in space.iter_mut() {
+// The next N words.
+pub fn array<const N: usize>(input: &mut impl Read) -> io::Result<[u32; N]> {
+    let mut words = [0; N];
+    for w in words.iter_mut() {
         *w = next(input)?;
     }
-    Ok(())
+    Ok(words)
 }
 
-// A length that the input gives, at most what there is space for.
-pub fn at_most(n: u32, space: usize) -> usize
-    ensures { result ≤ space }
-{
-    let n = n as usize;
-    if n < space { n } else { space }
-}
-
-// The length at a position of a case's head, at most what there is space for.
-pub fn length(head: &[u32], at: usize, space: usize) -> usize
-    ensures { result ≤ space }
-{
-    at_most(word(head, at), space)
-}
-
-pub fn copy(list: &[u32], space: &mut [u32]) {
-    for i in 0..space.len() {
-        space[i] = word(list, i);
+// So many words, at most N.
+pub fn words<const N: usize>(input: &mut impl Read, count: u32) -> io::Result<ArrayVec<u32, N>> {
+    let mut words = ArrayVec::from([0; N]);
+    words.truncate(count as usize);
+    for w in words.iter_mut() {
+        *w = next(input)?;
     }
+    Ok(words)
+}
+
+// So many bytes, at most N.
+pub fn bytes<const N: usize>(input: &mut impl Read, count: u32) -> io::Result<ArrayVec<u8, N>> {
+    let mut bytes = ArrayVec::from([0; N]);
+    bytes.truncate(count as usize);
+    fill(input, &mut bytes)?;
+    Ok(bytes)
 }

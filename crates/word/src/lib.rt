@@ -42,11 +42,8 @@ pub fn content(w: u32) -> u32
 pub fn closing_sum(s: &[u32]) -> u32
     ensures { result ≡ closing_sum s.now }
 {
-    let mut total: u32 = 0;
-    let mut i: usize = 0;
-    while i + 1 < s.len() {
-        total = std::num::wrapping_add_u32(total, s[i]);
-        i += 1;
+    match s.split_last() {
+        Some((_, before)) => before.iter().fold(0, |total, w| total.wrapping_add(*w)),
+        None => 0,
     }
-    total
 }

@@ -1,5 +1,5 @@
 -- The position that is noted when a size is recorded.
-use Rattle.std.specs.Prelude.{ℕ, ◌+◌, List, set, Option, Some, None}
+use Rattle.std.specs.Prelude.{ℕ, ◌+◌, Option, Some, None}
 use Rattle.bindings.specs.declared.types.ResourceBinding.{ResourceBinding}
 use Rattle.places.specs.Places.{place_from}
 use Rattle.sizes.specs.Meaning.{Sizes, size_places}
@@ -8,7 +8,7 @@ use Rattle.sizes.specs.Meaning.{Sizes, size_places}
 abbrev pub find_size : ResourceBinding → Sizes → Option ℕ
 find_size place S = place_from place (size_places S.records) 0
 
--- the position behind a record that was found is noted, in the one element that a note has; otherwise the note stays
-abbrev pub note_next : Option ℕ → List ℕ → List ℕ
-note_next (Some i) next = set next 0 (i + 1)
+-- the position behind a record that was found is noted; otherwise the note stays
+abbrev pub note_next : Option ℕ → ℕ → ℕ
+note_next (Some i) next = i + 1
 note_next None next = next

@@ -1,12 +1,11 @@
-use Rattle.std.proofs.Common.{rules}
-use Rattle.word.proofs.Sums.{sum_begins, sum_onward, sum_ended}
+use Rattle.std.proofs.Common.{◌≡◌, ◌∙◌, rules}
+use Rattle.word.proofs.Sums.{added, sum_added, sum_none}
 use Rattle.word.proofs.closing_sum.Goals as goal
 
-pub loop-i-init : goal.loop-i-init
-loop-i-init c = (search rules, search sum_begins)
+pub returns-in-Some : goal.returns-in-Some
+returns-in-Some c =
+    let sums : c.fold.result ≡ added c.in-Some.before.now 0 = search rules in
+    sums ∙ search (rules, sum_added)
 
-pub loop-i-preserved : goal.loop-i-preserved
-loop-i-preserved c = (search rules, search sum_onward)
-
-pub returns : goal.returns
-returns c = search sum_ended
+pub returns-in-None : goal.returns-in-None
+returns-in-None c = search (rules, sum_none)

@@ -4,5 +4,5 @@ use Rattle.layouts.proofs.layout.entry_type.Goals as goal
 pub returns-clause-value : goal.returns-clause-value
 returns-clause-value c = search type_there
 
-pub returns-clause-index_value : goal.returns-clause-index_value
-returns-clause-index_value c = search type_means
+pub returns-clause-meaning : goal.returns-clause-meaning
+returns-clause-meaning c = search type_means

@@ -17,11 +17,11 @@ offset_bounds-l-at c = search (word_bytes, rules)
 pub bounds-l-at : goal.bounds-l-at
 bounds-l-at c = search (word_inside, rules)
 
-pub returns-clause-l_after : goal.returns-clause-l_after
-returns-clause-l_after c = search join_stored
+pub returns-clause-encoded : goal.returns-clause-encoded
+returns-clause-encoded c = search join_stored
 
-pub returns-clause-l_after_2 : goal.returns-clause-l_after_2
-returns-clause-l_after_2 c = search join_decoded
+pub returns-clause-decoded : goal.returns-clause-decoded
+returns-clause-decoded c = search join_decoded
 
-pub returns-clause-l_after_3 : goal.returns-clause-l_after_3
-returns-clause-l_after_3 c = search join_well_formed
+pub returns-clause-still_well_formed : goal.returns-clause-still_well_formed
+returns-clause-still_well_formed c = search join_well_formed

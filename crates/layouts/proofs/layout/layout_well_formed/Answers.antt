@@ -1,34 +1,39 @@
-use Rattle.places.proofs.Ways.{short_passes, test_fails, test_passes}
-use Rattle.layouts.specs.Format.{layout_well_formed}
-use Rattle.layouts.proofs.LayoutWays.{head_holds, entries_distinct}
-use Rattle.word.proofs.Tests.{tests}
+use native.Mathlib.Omega.{arith}
 use borrow.Author.Rules.{rules}
+use Rattle.places.proofs.Words.{slice_holds}
+use Rattle.places.proofs.Ways.{test_fails, test_passes}
+use Rattle.layouts.specs.Format.{layout_well_formed}
+use Rattle.layouts.proofs.LayoutWays.{head_holds, entries_tested, entries_distinct}
 use Rattle.layouts.proofs.layout.layout_well_formed.Goals as goal
 
-pub returns-then-l-gt-MOST_LIST_WORDS : goal.returns-then-l-gt-MOST_LIST_WORDS
+pub returns-then-not-short_enough : goal.returns-then-not-short_enough
 unfolding layout_well_formed
-returns-then-l-gt-MOST_LIST_WORDS c = search tests
-
-pub layout_head-requires : goal.layout_head-requires
-unfolding layout_well_formed
-layout_head-requires c = search rules
+returns-then-not-short_enough c = search test_fails
 
 pub returns-then-not-layout_head : goal.returns-then-not-layout_head
 unfolding layout_well_formed
-returns-then-not-layout_head c = search (short_passes, test_fails)
+returns-then-not-layout_head c = search (test_fails, test_passes)
+
+pub slice_bounds-entries-count : goal.slice_bounds-entries-count
+slice_bounds-entries-count c = omega (arith, head_holds _ _ c.layout_head.ensures c.if-not-layout_head.false)
+
+pub slice_bounds-entries-start : goal.slice_bounds-entries-start
+slice_bounds-entries-start c = omega (arith, head_holds _ _ c.layout_head.ensures c.if-not-layout_head.false)
+
+pub counted-n-requires : goal.counted-n-requires
+counted-n-requires c = omega (arith, head_holds _ _ c.layout_head.ensures c.if-not-layout_head.false)
 
 pub entries_good-requires : goal.entries_good-requires
-unfolding layout_well_formed
-entries_good-requires c = search head_holds
+entries_good-requires c = (search rules, slice_holds _ 1 _ (omega (arith, head_holds _ _ c.layout_head.ensures c.if-not-layout_head.false)))
 
 pub returns-then-not-entries_good : goal.returns-then-not-entries_good
 unfolding layout_well_formed
-returns-then-not-entries_good c = search (short_passes, test_fails, test_passes)
+returns-then-not-entries_good c = search (test_fails, test_passes, entries_tested)
 
 pub distinct_places-requires : goal.distinct_places-requires
-unfolding layout_well_formed
-distinct_places-requires c = (search rules, search rules, search head_holds)
+distinct_places-requires c =
+    (search rules, search rules, search rules, slice_holds _ 1 _ (omega (arith, head_holds _ _ c.layout_head.ensures c.if-not-layout_head.false)))
 
 pub returns : goal.returns
 unfolding layout_well_formed
-returns c = search (short_passes, test_passes, entries_distinct)
+returns c = search (test_passes, entries_tested, entries_distinct)

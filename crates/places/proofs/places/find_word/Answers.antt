@@ -1,22 +1,11 @@
-use Rattle.places.proofs.PlaceWays.{sought_begins, word_nowhere, word_found, word_onward, places_onward, found_below_lem, within, within_onward}
-use borrow.Author.Tests.{lt-ltb}
-use borrow.Author.Rules.{rules}
+use Rattle.places.proofs.PlaceWays.{word_nowhere, word_found, word_onward, places_onward}
 use Rattle.places.proofs.places.find_word.Goals as goal
 
-pub loop-left-init : goal.loop-left-init
-loop-left-init c = (search rules, search rules, search rules, search rules, search sought_begins)
+pub returns-then-records-i-clause-position : goal.returns-then-records-i-clause-position
+returns-then-records-i-clause-position g c = search word_found
 
-pub bounds-l-at : goal.bounds-l-at
-bounds-l-at c = search (within, rules)
+pub loop-i-preserved : goal.loop-i-preserved
+loop-i-preserved g c = (search places_onward, search word_onward)
 
-pub returns-then-l-at-clause-value : goal.returns-then-l-at-clause-value
-returns-then-l-at-clause-value c = search word_found
-
-pub returns-then-l-at-clause-result_value : goal.returns-then-l-at-clause-result_value
-returns-then-l-at-clause-result_value c = search (lt-ltb, found_below_lem)
-
-pub loop-left-preserved : goal.loop-left-preserved
-loop-left-preserved c = (search rules, search rules, search within_onward, search places_onward, search word_onward)
-
-pub returns-clause-value : goal.returns-clause-value
-returns-clause-value c = search word_nowhere
+pub returns-clause-position : goal.returns-clause-position
+returns-clause-position g c = search word_nowhere

@@ -1,8 +1,11 @@
-use Rattle.places.proofs.PlaceWays.{place_found, place_lacks}
+use Rattle.places.proofs.PlaceWays.{content_nowhere, content_found, content_onward}
 use Rattle.places.proofs.places.has_place.Goals as goal
 
-pub returns-in-Some : goal.returns-in-Some
-returns-in-Some c = search place_found
+pub returns-then-records-i : goal.returns-then-records-i
+returns-then-records-i g c = search content_found
 
-pub returns-in-None : goal.returns-in-None
-returns-in-None c = search place_lacks
+pub loop-i-preserved : goal.loop-i-preserved
+loop-i-preserved g c = search content_onward
+
+pub returns : goal.returns
+returns g c = search content_nowhere

@@ -1,5 +1,5 @@
-use Rattle.report.proofs.Writing.{answer_written}
+use Rattle.report.proofs.Writing.{answer_put}
 use Rattle.report.proofs.text.push_answer.Goals as goal
 
-pub returns-clause-wrote : goal.returns-clause-wrote
-returns-clause-wrote c = search answer_written
+pub returns-clause-text_after : goal.returns-clause-text_after
+returns-clause-text_after c = search answer_put

@@ -1,5 +1,5 @@
-use Rattle.report.proofs.Writing.{line_written}
+use Rattle.report.proofs.Writing.{line_put}
 use Rattle.report.proofs.text.push_line.Goals as goal
 
-pub returns-clause-wrote : goal.returns-clause-wrote
-returns-clause-wrote c = search line_written
+pub returns-clause-text_after : goal.returns-clause-text_after
+returns-clause-text_after c = search line_put

@@ -1,8 +1,9 @@
-use Rattle.resource_steps.proofs.PairLaws.{places_passed, places_refused}
+use borrow.Author.Rules.{rules}
+use Rattle.layouts.specs.Format.{decode_layout}
+use Rattle.resource_steps.proofs.PairLaws.{judged}
 use Rattle.resource_steps.proofs.pairs.places_use.Goals as goal
 
-pub returns-in-Ok : goal.returns-in-Ok
-returns-in-Ok c = search places_passed
-
-pub returns-in-Err : goal.returns-in-Err
-returns-in-Err c = search places_refused
+pub returns : goal.returns
+returns c =
+    let e = judged (decode_layout c.args.layout.now) c.args.texture c.args.sampler _ _ c.types_use.result c.type_word_at-texture_type.ensures c.type_word_at-sampler_type.ensures c.types_use.ensures in
+    rw (← e) (search rules)

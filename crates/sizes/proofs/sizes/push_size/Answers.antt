@@ -7,8 +7,8 @@ counted-n-requires c = search head_there
 pub returns-then-s-at-clause-value : goal.returns-then-s-at-clause-value
 returns-then-s-at-clause-value c = search push_lacks
 
-pub returns-then-s-at-clause-s_after : goal.returns-then-s-at-clause-s_after
-returns-then-s-at-clause-s_after c = search push_refused
+pub returns-then-s-at-clause-encoded : goal.returns-then-s-at-clause-encoded
+returns-then-s-at-clause-encoded c = search push_refused
 
 pub overflow_add-s : goal.overflow_add-s
 overflow_add-s c = search head_more
@@ -16,5 +16,5 @@ overflow_add-s c = search head_more
 pub returns-clause-value : goal.returns-clause-value
 returns-clause-value c = search push_fits
 
-pub returns-clause-s_after : goal.returns-clause-s_after
-returns-clause-s_after c = search push_stored
+pub returns-clause-encoded : goal.returns-clause-encoded
+returns-clause-encoded c = search push_stored

@@ -3,20 +3,26 @@ use Rattle.sizes.proofs.SizeStores.{head_there, records_within, sizes_begin, siz
 use borrow.Author.Rules.{rules}
 use Rattle.sizes.proofs.sizes.record_size.Goals as goal
 
-pub counted-requires : goal.counted-requires
-counted-requires c = search head_there
+pub counted-n-requires : goal.counted-n-requires
+counted-n-requires c = search head_there
 
-pub find_near-requires-clause-n_bound : goal.find_near-requires-clause-n_bound
-find_near-requires-clause-n_bound c = (search rules, search rules, search rules, search records_within, search rules)
+pub slice_bounds-find_near-count : goal.slice_bounds-find_near-count
+slice_bounds-find_near-count c = search head_there
 
-pub find_near-requires-clause-l_value : goal.find_near-requires-clause-l_value
-find_near-requires-clause-l_value c = (search sizes_begin, search sizes_differ)
+pub slice_bounds-find_near-start : goal.slice_bounds-find_near-start
+slice_bounds-find_near-start c = search head_there
+
+pub find_near-requires-clause-within : goal.find_near-requires-clause-within
+find_near-requires-clause-within c = (search rules, search rules, search rules, search records_within)
+
+pub find_near-requires-clause-place_words : goal.find_near-requires-clause-place_words
+find_near-requires-clause-place_words c = (search rules, search sizes_begin)
+
+pub find_near-requires-clause-distinct : goal.find_near-requires-clause-distinct
+find_near-requires-clause-distinct c = search sizes_differ
 
 pub overflow_add-next : goal.overflow_add-next
 overflow_add-next c = search (index_next, rules)
-
-pub overflow_cast-next : goal.overflow_cast-next
-overflow_cast-next c = search (index_next, rules)
 
 pub overflow_mul-index : goal.overflow_mul-index
 overflow_mul-index c = search index_scaled
@@ -27,29 +33,29 @@ overflow_add-index c = search index_placed
 pub raise_word-requires : goal.raise_word-requires
 raise_word-requires c = search index_inside
 
-pub push_size-requires-clause-s_value_2 : goal.push_size-requires-clause-s_value_2
-push_size-requires-clause-s_value_2 c = search (size_lacks, content_tells)
+pub push_size-requires-clause-place_free : goal.push_size-requires-clause-place_free
+push_size-requires-clause-place_free c = search (size_lacks, content_tells)
 
 pub returns-in-Some-clause-value : goal.returns-in-Some-clause-value
 returns-in-Some-clause-value c = search (size_fits_lem, content_tells)
 
-pub returns-in-Some-clause-s_after : goal.returns-in-Some-clause-s_after
-returns-in-Some-clause-s_after c = search (size_raised, content_tells)
+pub returns-in-Some-clause-encoded : goal.returns-in-Some-clause-encoded
+returns-in-Some-clause-encoded c = search (size_raised, content_tells)
 
-pub returns-in-Some-clause-s_after_2 : goal.returns-in-Some-clause-s_after_2
-returns-in-Some-clause-s_after_2 c = search (record_decoded, size_raised, content_tells)
+pub returns-in-Some-clause-decoded : goal.returns-in-Some-clause-decoded
+returns-in-Some-clause-decoded c = search (record_decoded, size_raised, content_tells)
 
-pub returns-in-Some-clause-s_after_3 : goal.returns-in-Some-clause-s_after_3
-returns-in-Some-clause-s_after_3 c = search raised_well_formed
+pub returns-in-Some-clause-still_well_formed : goal.returns-in-Some-clause-still_well_formed
+returns-in-Some-clause-still_well_formed c = search raised_well_formed
 
-pub returns-in-Some-clause-next_after : goal.returns-in-Some-clause-next_after
-returns-in-Some-clause-next_after c = search (next_noted, content_tells)
+pub returns-in-Some-clause-next_noted : goal.returns-in-Some-clause-next_noted
+returns-in-Some-clause-next_noted c = search (next_noted, content_tells)
 
-pub returns-in-None-clause-s_after_2 : goal.returns-in-None-clause-s_after_2
-returns-in-None-clause-s_after_2 c = search record_decoded
+pub returns-in-None-clause-decoded : goal.returns-in-None-clause-decoded
+returns-in-None-clause-decoded c = search record_decoded
 
-pub returns-in-None-clause-s_after_3 : goal.returns-in-None-clause-s_after_3
-returns-in-None-clause-s_after_3 c = search record_well_formed
+pub returns-in-None-clause-still_well_formed : goal.returns-in-None-clause-still_well_formed
+returns-in-None-clause-still_well_formed c = search record_well_formed
 
-pub returns-in-None-clause-next_after : goal.returns-in-None-clause-next_after
-returns-in-None-clause-next_after c = search (next_kept, content_tells)
+pub returns-in-None-clause-next_noted : goal.returns-in-None-clause-next_noted
+returns-in-None-clause-next_noted c = search (next_kept, content_tells)

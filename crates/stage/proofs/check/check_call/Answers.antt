@@ -3,8 +3,8 @@ use Rattle.stage.proofs.CheckLaws.{good_layout, good_sizes, good_inputs}
 use Rattle.stage.proofs.RunLaws.{stage_call_lem, stage_went}
 use Rattle.stage.proofs.check.check_call.Goals as goal
 
-pub on_named-requires-clause-layout_value : goal.on_named-requires-clause-layout_value
-on_named-requires-clause-layout_value c =
+pub on_named-requires-clause-well_formed : goal.on_named-requires-clause-well_formed
+on_named-requires-clause-well_formed c =
     let good = c.call_good.ensures in
     (good_layout _ _ _ _ _ good (search rules), good_sizes _ _ _ _ _ good (search rules), good_inputs _ _ _ _ _ good (search rules))
 
@@ -12,4 +12,4 @@ pub returns-then-call_good : goal.returns-then-call_good
 returns-then-call_good c = search stage_went
 
 pub returns : goal.returns
-returns c = search stage_call_lem
+returns c = search (rules, stage_call_lem)

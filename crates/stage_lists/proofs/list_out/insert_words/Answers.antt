@@ -5,23 +5,23 @@ use Rattle.stage_lists.proofs.list_out.insert_words.Goals as goal
 pub place_last-requires-clause-n_in_bounds : goal.place_last-requires-clause-n_in_bounds
 place_last-requires-clause-n_in_bounds c = (search out_fits, search rules, search out_good_lem)
 
-pub place_last-requires-clause-first_value : goal.place_last-requires-clause-first_value
-place_last-requires-clause-first_value c = (search rules, search located_well_formed, search out_rises)
+pub place_last-requires-clause-variable : goal.place_last-requires-clause-variable
+place_last-requires-clause-variable c = (search rules, search located_well_formed, search out_rises)
 
 pub overflow_add-result : goal.overflow_add-result
 overflow_add-result c = search head_sum
 
-pub returns-clause-result_after : goal.returns-clause-result_after
-returns-clause-result_after c = search out_inserted
+pub returns-clause-encoded : goal.returns-clause-encoded
+returns-clause-encoded c = search out_inserted
 
-pub returns-clause-result_after_2 : goal.returns-clause-result_after_2
-returns-clause-result_after_2 c = search (inserted_decoded, out_inserted)
+pub returns-clause-decoded : goal.returns-clause-decoded
+returns-clause-decoded c = search (inserted_decoded, out_inserted)
 
-pub returns-clause-result_after_3 : goal.returns-clause-result_after_3
-returns-clause-result_after_3 c = search (inserted_well_formed, out_inserted)
+pub returns-clause-still_well_formed : goal.returns-clause-still_well_formed
+returns-clause-still_well_formed c = search (inserted_well_formed, out_inserted)
 
-pub returns-clause-out_after : goal.returns-clause-out_after
-returns-clause-out_after c = search out_words_lem
+pub returns-clause-words : goal.returns-clause-words
+returns-clause-words c = search out_words_lem
 
-pub returns-clause-value : goal.returns-clause-value
-returns-clause-value c = search out_head
+pub returns-clause-head : goal.returns-clause-head
+returns-clause-head c = search out_head

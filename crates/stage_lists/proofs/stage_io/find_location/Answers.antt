@@ -7,11 +7,11 @@ counted-n-requires c = search first_there
 pub bounds-l-near : goal.bounds-l-near
 bounds-l-near c = search near_inside
 
-pub returns-then-l-near-clause-result_value : goal.returns-then-l-near-clause-result_value
-returns-then-l-near-clause-result_value c = search (location_provided, near_found)
+pub returns-then-l-near-clause-variable : goal.returns-then-l-near-clause-variable
+returns-then-l-near-clause-variable c = search (location_provided, near_found)
 
-pub returns-then-l-near-clause-result_value_2 : goal.returns-then-l-near-clause-result_value_2
-returns-then-l-near-clause-result_value_2 c = search near_below
+pub returns-then-l-near-clause-within : goal.returns-then-l-near-clause-within
+returns-then-l-near-clause-within c = search near_below
 
 pub returns-then-l-near-clause-value : goal.returns-then-l-near-clause-value
 returns-then-l-near-clause-value c = search near_found
@@ -19,8 +19,8 @@ returns-then-l-near-clause-value c = search near_found
 pub find_within-requires-clause-n_in_bounds : goal.find_within-requires-clause-n_in_bounds
 find_within-requires-clause-n_in_bounds c = search varyings_within
 
-pub returns-clause-result_value : goal.returns-clause-result_value
-returns-clause-result_value c = search (location_provided, location_decoded)
+pub returns-clause-variable : goal.returns-clause-variable
+returns-clause-variable c = search (location_provided, location_decoded)
 
 pub returns-clause-value : goal.returns-clause-value
 returns-clause-value c = search location_decoded

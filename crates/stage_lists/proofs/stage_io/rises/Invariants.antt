@@ -1,12 +1,7 @@
-use Prim.Native.Nat.{◌≤◌, ◌+◌, ◌*◌}
-use mathlib.Core.Path.{◌≡◌}
-use lib.ListN.{length, drop}
+use Rattle.std.proofs.Common.{◌≡◌, ◌-◌, ◌*◌, drop}
 use Rattle.stage_lists.specs.Meaning.{rising}
 use Rattle.stage_lists.specs.Format.{read_varyings}
 use Rattle.stage_lists.proofs.stage_io.rises.Given as goal
 
-abbrev pub invariant-loop-left : goal.invariant-loop-left
-invariant-loop-left l = (l.at + 2 * l.left ≤ length l.l) × (rising (read_varyings l.n (drop 2 l.l)) ≡ rising (read_varyings l.left (drop l.at l.l)))
-
-abbrev pub decreases-loop-left : goal.decreases-loop-left
-decreases-loop-left l = l.left
+abbrev pub invariant-loop-i : goal.invariant-loop-i
+invariant-loop-i l = rising (read_varyings l.n l.varyings) ≡ rising (read_varyings (l.n - (l.i - 1)) (drop (2 * (l.i - 1)) l.varyings))
