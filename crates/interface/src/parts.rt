@@ -51,30 +51,6 @@ impl Counts {
     }
 }
 
-pub fn resources_counted(counts: u32) -> usize
-    ensures { result ≡ bits 23 18 counts }
-{
-    Counts::of(counts).resources
-}
-
-pub fn pairs_counted(counts: u32) -> usize
-    ensures { result ≡ bits 17 12 counts }
-{
-    Counts::of(counts).pairs
-}
-
-pub fn inputs_counted(counts: u32) -> usize
-    ensures { result ≡ bits 11 6 counts }
-{
-    Counts::of(counts).inputs
-}
-
-pub fn outputs_counted(counts: u32) -> usize
-    ensures { result ≡ bits 5 0 counts }
-{
-    Counts::of(counts).outputs
-}
-
 // The position behind as many varyings.
 #[tactic(auto, using(crate::proofs::ReadsParts::walked), unfolding(crate::specs::Inner::Parts::end_from))]
 fn varyings_end(pack: &[u32], from: usize, n: usize) -> usize
