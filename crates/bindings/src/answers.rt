@@ -1,4 +1,4 @@
-// The answers and the refusals that name a place.
+// The refusals that name a place.
 ghost use Rattle.std.specs.Prelude.{◌≡◌};
 ghost use Rattle.word.specs.Numbers.{number_of};
 ghost use Rattle.word.specs.Refusals.{refusal_answer};
@@ -6,18 +6,7 @@ ghost use Rattle.bindings.specs.Rules.{error_number};
 ghost use Rattle.bindings.specs.Answers.{binding_answer};
 
 use crate::types::{BindingError, ResourceBinding};
-use word::answer::Answer;
 use word::refusal::{Number, Refusal};
-
-// The answer of a number that names a place.
-pub fn binding_answer(number: u32, bind: ResourceBinding) -> Answer
-    ensures { result ≡ binding_answer number bind }
-{
-    if number == 0 {
-        return Answer::accepted();
-    }
-    Answer::new(number, bind.group, bind.binding, 0)
-}
 
 // The refusal of a number that names a place.
 pub fn binding_refusal(number: Number, bind: ResourceBinding) -> Refusal

@@ -139,25 +139,15 @@ pub struct BindGroupLayoutEntry {
     pub visibility: u32,
 }
 
-// Why a layout entry does not serve a resource, or none can be derived for it: the values are the numbers of the table of refusals.
+// Why a layout entry does not serve a resource, or none can be derived for it.
 #[derive(Clone, Copy, Debug, PartialEq, Eq)]
 pub enum BindingError {
-    WrongType = 22,
-    WrongAddressSpace = 23,
-    WrongBufferAddressSpace = 24,
-    WrongBufferSize = 25,
-    WrongTextureViewDimension = 26,
-    WrongTextureClass = 27,
-    WrongSamplerComparison = 28,
-    BadStorageFormat = 30,
-}
-
-impl BindingError {
-    ghost use Rattle.bindings.specs.Rules.{error_number};
-
-    pub fn number(self) -> u32
-        ensures { result ≡ error_number self }
-    {
-        self as u32
-    }
+    WrongType,
+    WrongAddressSpace,
+    WrongBufferAddressSpace,
+    WrongBufferSize,
+    WrongTextureViewDimension,
+    WrongTextureClass,
+    WrongSamplerComparison,
+    BadStorageFormat,
 }

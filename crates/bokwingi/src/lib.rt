@@ -87,7 +87,7 @@ pub extern "C" fn bokwingi_entry_point(pack: &[u32], stage: u32, details: &mut [
 pub extern "C" fn bokwingi_vertex_format(code: u32, details: &mut [u32]) -> u32
     ensures { Handed (format_answer (vertex_format code)) result details.old details.new }
 {
-    hand_out(vertex_format(code), details)
+    hand_out(Answer::from(vertex_format(code)), details)
 }
 
 // The type of a texture format, as a lone type word in the first detail.
@@ -95,7 +95,7 @@ pub extern "C" fn bokwingi_vertex_format(code: u32, details: &mut [u32]) -> u32
 pub extern "C" fn bokwingi_texture_format(code: u32, details: &mut [u32]) -> u32
     ensures { Handed (format_answer (texture_format code)) result details.old details.new }
 {
-    hand_out(texture_format(code), details)
+    hand_out(Answer::from(texture_format(code)), details)
 }
 
 // Whether a texture format is covered by the type, a lone type word, that a shader writes.
@@ -107,7 +107,7 @@ pub extern "C" fn bokwingi_check_texture_format(
 ) -> u32
     ensures { Handed (check_texture_format (texture_format format) (read_type output)) result details.old details.new }
 {
-    hand_out(check_texture_format(format, output), details)
+    hand_out(Answer::from(check_texture_format(format, output)), details)
 }
 
 // Whether one lone type is below another: 1, 0, or 82 where one of them is no type.

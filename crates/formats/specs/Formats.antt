@@ -14,6 +14,9 @@ use Rattle.numeric.specs.declared.types.NumericDimension.TheVariants as D
 use Rattle.numeric.specs.declared.types.NumericType.{NumericType}
 use Rattle.formats.specs.declared.formats.FormatError.{FormatError}
 use Rattle.formats.specs.declared.formats.FormatError.TheVariants.{NoColour, Unknown}
+use Rattle.word.specs.Refusals.{refusal}
+use Rattle.word.specs.declared.refusal.Refusal.{Refusal}
+use Rattle.word.specs.declared.refusal.Number.TheVariants.{NoColourType, UnknownCode}
 
 -- the type of a format's data, or why it has none
 abbrev pub FormatType : Type 0
@@ -90,6 +93,11 @@ abbrev pub format_answer : FormatType → Answer
 format_answer (Ok t) = answer 0 (type_word t) 0 0
 format_answer (Err NoColour) = refused Number.no_colour_type
 format_answer (Err Unknown) = refused Number.unknown_code
+
+-- a format that has no type, as a refusal
+abbrev pub format_refusal : FormatError → Refusal
+format_refusal NoColour = refusal NoColourType 0 0 0
+format_refusal Unknown = refusal UnknownCode 0 0 0
 
 -- a format's type must fit the type that is written, else 81 with it
 abbrev pub check_type : NumericType → NumericType → Answer

@@ -1,18 +1,31 @@
 // Vertex and texture formats, numbered as the functions below first name them.
 ghost use Rattle.std.specs.Prelude.{◌≡◌};
+ghost use Rattle.word.specs.Refusals.{answer_of, answer_with};
 ghost use Rattle.formats.specs.Formats.{vertex_format, texture_format, format_answer, check_type, check_texture_format};
 ghost use Rattle.numeric.specs.TypeWords.{read_type};
 
 use numeric::type_words::{read_type, type_word};
 use numeric::types::{NumericDimension, NumericType, Scalar, VectorSize as Vs};
-use word::answer::Answer;
-use word::numbers;
+use word::refusal::{Number, Refusal};
 
 // Why a format has no type.
 #[derive(Clone, Copy, Debug, PartialEq, Eq)]
 pub enum FormatError {
     NoColour,
     Unknown,
+}
+
+impl From<FormatError> for Refusal {
+    ghost use Rattle.formats.specs.Formats.{format_refusal};
+
+    ghost from_gives = { λ e r. r ≡ format_refusal e };
+
+    fn from(error: FormatError) -> Self {
+        match error {
+            FormatError::NoColour => Refusal::plain(Number::NoColourType),
+            FormatError::Unknown => Refusal::plain(Number::UnknownCode),
+        }
+    }
 }
 
 // The type of a vertex format's data, as a shader sees it.
@@ -72,45 +85,37 @@ fn from_texture_format(format: u32) -> Result<NumericType, FormatError>
     Ok(NumericType { dim, scalar })
 }
 
-// The answer that hands a format's type out as its first detail.
-fn format_answer(format_type: Result<NumericType, FormatError>) -> Answer
-    ensures { result ≡ format_answer format_type }
+// The word of a vertex format's type.
+pub fn vertex_format(format: u32) -> Result<u32, Refusal>
+    ensures { answer_with result ≡ format_answer (vertex_format format) }
 {
-    match format_type {
-        Ok(t) => Answer::new(0, type_word(t), 0, 0),
-        Err(FormatError::NoColour) => Answer::refused(numbers::NO_COLOUR_TYPE),
-        Err(FormatError::Unknown) => Answer::refused(numbers::UNKNOWN_CODE),
-    }
+    Ok(type_word(from_vertex_format(format)?))
 }
 
-pub fn vertex_format(format: u32) -> Answer
-    ensures { result ≡ format_answer (vertex_format format) }
+// The word of a texture format's type.
+pub fn texture_format(format: u32) -> Result<u32, Refusal>
+    ensures { answer_with result ≡ format_answer (texture_format format) }
 {
-    format_answer(from_vertex_format(format))
-}
-
-pub fn texture_format(format: u32) -> Answer
-    ensures { result ≡ format_answer (texture_format format) }
-{
-    format_answer(from_texture_format(format))
+    Ok(type_word(from_texture_format(format)?))
 }
 
 // Whether a texture format is covered by the type, a lone type word, that a shader writes.
-pub fn check_texture_format(format: u32, output: u32) -> Answer
-    ensures { result ≡ check_texture_format (texture_format format) (read_type output) }
+#[tactic(auto, unfolding(crate::specs::Formats::check_texture_format))]
+pub fn check_texture_format(format: u32, output: u32) -> Result<(), Refusal>
+    ensures { answer_of result ≡ check_texture_format (texture_format format) (read_type output) }
 {
     match (from_texture_format(format), read_type(output)) {
-        (Err(FormatError::Unknown), _) | (_, None) => Answer::refused(numbers::UNKNOWN_CODE),
-        (Err(FormatError::NoColour), Some(_)) => Answer::refused(numbers::NO_COLOUR_TYPE),
+        (Err(FormatError::Unknown), _) | (_, None) => Err(Refusal::plain(Number::UnknownCode)),
+        (Err(FormatError::NoColour), Some(_)) => Err(Refusal::plain(Number::NoColourType)),
         (Ok(t), Some(output)) => check_type(t, output),
     }
 }
 
-fn check_type(t: NumericType, output: NumericType) -> Answer
-    ensures { result ≡ check_type t output }
+fn check_type(t: NumericType, output: NumericType) -> Result<(), Refusal>
+    ensures { answer_of result ≡ check_type t output }
 {
     if t.fits(output) {
-        return Answer::accepted();
+        return Ok(());
     }
-    Answer::new(numbers::FORMAT_MISMATCH, type_word(t), 0, 0)
+    Err(Refusal::new(Number::FormatMismatch, type_word(t), 0, 0))
 }

@@ -3,7 +3,7 @@ ghost use Rattle.std.specs.Prelude.{◌≡◌, ◌<◌, ◌≤◌};
 ghost use Rattle.numeric.specs.TypeWords.{kind_at, vector_size_at, shape_at, width_known, type_well_formed, type_of, read_type, shape_code, type_word, compare_types, subtype_number};
 
 use crate::types::{Misfit, NumericDimension, NumericType, Scalar, ScalarKind, VectorSize};
-use word::numbers;
+use word::refusal::Number;
 
 fn kind_at(code: u32) -> ScalarKind
     ensures { result ≡ kind_at code }
@@ -111,6 +111,6 @@ pub fn subtype_number(compared: Option<Result<(), Misfit>>) -> u32
     match compared {
         Some(Ok(())) => 1,
         Some(Err(_)) => 0,
-        None => numbers::UNKNOWN_CODE,
+        None => Number::UnknownCode.code(),
     }
 }

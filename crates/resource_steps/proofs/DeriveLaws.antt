@@ -7,15 +7,15 @@ use mathlib.Core.Bool.{Bool, true, false, not, ◌&&◌}
 use mathlib.Core.List.{List, [], ◌∷◌}
 use lib.Dec.{eqb}
 use lib.ListN.{length, drop}
-use borrow.Author.Tests.{lt-ltb, le-ltb, eqb-true, eqb-false, not-false}
+use borrow.Author.Tests.{ne_eqb, lt-ltb, eqb-true, eqb-false, not-false}
 use Rattle.word.specs.Choice.{pick}
 use Rattle.word.specs.Words.{word_at, content_of, bits, of_kind}
 use Rattle.word.specs.Answers.{accepted}
 use Rattle.word.specs.declared.answer.Answer.{Answer}
-use Rattle.bindings.specs.Rules.{error_number, same_binding, derived_texture, derive_binding_type}
+use Rattle.bindings.specs.Rules.{same_binding, derived_texture, derive_binding_type}
 use Rattle.bindings.specs.Format.{place_of, place_word, type_code, is_buffer_word, resource_type_of, resource, type_encodable}
 use Rattle.bindings.specs.Format.{binding_type_of, binding_code, least_size_of, format_encodable, parts_well_formed, entry_of_parts, entry_encodable, size_limit}
-use Rattle.bindings.specs.Answers.{binding_answer, derived_word}
+use Rattle.bindings.specs.Answers.{derived_word}
 use Rattle.bindings.specs.declared.types.ResourceBinding.{ResourceBinding}
 use Rattle.bindings.specs.declared.types.Resource.{Resource}
 use Rattle.bindings.specs.declared.types.BindingType.{BindingType}
@@ -56,8 +56,8 @@ type_words t = record { encodable = t.encodable; type_word = t.type_word; least_
 
 -- a type by its word and its least size, and that of an entry
 module _ (ty least : ℕ) (b e : BindingType) (q : b ≡ binding_type_of ty least) (t : TypeWords ty least b) (x : ℕ) (ex : x ≡ of_kind 18 (binding_code e)) (back : binding_type_of x (least_size_of e) ≡ e) where
-  pub type_differs : (x ≡ ty → ⊥) → false ≡ same_binding b e
-  type_differs n = sym (other_by_code b e (λ q. n (omega (arith, t.type_word))))
+  pub type_differs : (x ≡ ty → ⊥) → eqb x ty ≡ same_binding b e
+  type_differs n = ne_eqb x ty n ∙ sym (other_by_code b e (λ q. n (omega (arith, t.type_word))))
 
   -- where the words are the same, the least sizes decide
   pub type_by_least : (y : ℕ) → x ≡ ty → y ≡ least_size_of e → eqb y least ≡ same_binding b e
@@ -109,10 +109,6 @@ module _ (place ty least p v : ℕ) (b : BindingType) (t : TypeWords ty least b)
 -- ---- one resource
 
 -- a derivation by its word
-none_derived : (d : Result BindingType BindingError) (error : BindingError) → derived_word d ≡ Err error → d ≡ Err error
-none_derived (Ok b) error e = cc
-none_derived (Err f) error e = let z : f ≡ error = cc in rw z
-
 some_derived : {P : Type 0} (d : Result BindingType BindingError) (x : ℕ) → derived_word d ≡ Ok x → ((b : BindingType) → d ≡ Ok b → x ≡ of_kind 18 (binding_code b) → P) → P
 some_derived (Ok b) x e k = let z : of_kind 18 (binding_code b) ≡ x = cc in k b refl (sym z)
 some_derived (Err f) x e k = absurd (cc)
@@ -141,23 +137,6 @@ module _ (named : Bool) (w size ty least : ℕ) (h : type_encodable (resource_ty
   unfolding derive_step
   derive_placed stage place g L M a q n k =
       typed (λ b x t m. rw (lt-ltb (place_of place).group L.groups (within_groups L place g q n), x, ← m) k)
-
-module _ (stage : ShaderStage) (named : Bool) (place w size : ℕ) (L : Layout) (a : Answer) (g : ℕ) (q : g ≡ L.groups) where
-  pub derive_outside : g ≤ bits 26 23 place → a ≡ binding_answer 20 (place_of place)
-      → layout_after a L ≡ derive_step stage named (resource place w size) L
-  unfolding derive_step
-  derive_outside n h = rw (le-ltb (place_of place).group L.groups (omega arith), h)
-
-  pub derive_wrong : (error : BindingError) (n : ℕ) → bits 26 23 place < g → ((n : ℕ) → derived_word (derive_binding_type (resource_type_of w n) named) ≡ Err error)
-      → n ≡ error_number error → a ≡ binding_answer n (place_of place) → layout_after a L ≡ derive_step stage named (resource place w size) L
-  unfolding derive_step
-  derive_wrong error n l e z h =
-      rw (
-        lt-ltb (place_of place).group L.groups (within_groups L place g q l),
-        none_derived (derive_binding_type (resource_type_of w size) named) error (e size),
-        ← z,
-        h,
-      )
 
 -- ---- the texture that a pair names
 

@@ -29,10 +29,7 @@ fn same_type(layout: &[u32], index: usize, ty: EntryType) -> bool
     requires index_in_bounds { index < length (decode_layout layout.now).entries }
     ensures { result ≡ same_binding (binding_type_of ty.word ty.least) (entry_nth (decode_layout layout.now).entries index).ty }
 {
-    if entry_type(layout, index) != ty.word {
-        return false;
-    }
-    entry_least(layout, index) == ty.least
+    entry_type(layout, index) == ty.word && entry_least(layout, index) == ty.least
 }
 
 // A place that has an entry: of the same type it gains the stage's bit, else 29.
@@ -102,6 +99,7 @@ fn place_step(
 }
 
 // A resource against a layout that is being derived: 20 where the layout has no such group, 24 where no type can be derived.
+#[tactic(auto, unfolding(crate::specs::Resources::derive_step))]
 fn derive_step(
     stage: ShaderStage,
     named: bool,

@@ -10,6 +10,7 @@ use binding_rules::check_words::{check_words, derive_words};
 use bindings::sizes::word_size;
 use std::io;
 use word::answer::Answer;
+use word::refusal::Number;
 use word::word;
 use word_rules::derives::{derived_least, derived_word};
 use word_rules::uses::words_use;
@@ -48,13 +49,13 @@ fn words_agree(number: u32, resource: &[u32], w: u32, least: u32) -> bool {
     let size = word_size(word(resource, 2));
     match words_use(word(resource, 1), size, w, word_size(least)) {
         Ok(()) => number == 0,
-        Err(error) => error.number() == number,
+        Err(error) => Number::from(error).code() == number,
     }
 }
 
 // A resource on the entry of four words.
 fn check(rt: &impl Print, resource: &[u32], entry: [u32; 4]) -> io::Result<()> {
-    let number = check_words(resource, &entry).number;
+    let number = Answer::from(check_words(resource, &entry)).number;
     let [_, w, least, _] = entry;
     let sign = sign(number);
     print!(rt; "{sign}")?;
@@ -85,12 +86,15 @@ fn derived_agree(answer: Answer, resource: &[u32], named: bool) -> bool {
                 && word::kind(answer.second) == 6
                 && least == word_size(answer.second)
         }
-        Err(error) => error.number() == answer.number,
+        Err(error) => Number::from(error).code() == answer.number,
     }
 }
 
 fn derived(rt: &impl Print, resource: &[u32], named: bool) -> io::Result<()> {
-    let answer = derive_words(resource, named);
+    let answer = match derive_words(resource, named) {
+        Ok(words) => Answer::new(0, words.ty, words.least, 0),
+        Err(refusal) => Answer::from(refusal),
+    };
     let Answer {
         number,
         first,

@@ -38,7 +38,7 @@ const TYPES: [u32; 24] = [
 
 fn vertex_formats(rt: &impl Print) -> io::Result<()> {
     for code in 0..50 {
-        let Answer { number, first, .. } = vertex_format(code);
+        let Answer { number, first, .. } = Answer::from(vertex_format(code));
         println!(rt; "{code} {number} {first}")?;
     }
     Ok(())
@@ -46,7 +46,7 @@ fn vertex_formats(rt: &impl Print) -> io::Result<()> {
 
 fn texture_formats(rt: &impl Print) -> io::Result<()> {
     for code in 0..81 {
-        let Answer { number, first, .. } = texture_format(code);
+        let Answer { number, first, .. } = Answer::from(texture_format(code));
         println!(rt; "{code} {number} {first}")?;
     }
     Ok(())
@@ -71,7 +71,7 @@ fn subtypes(rt: &impl Print) -> io::Result<()> {
 // A texture format covered by each type of the table.
 fn covered_by_each(rt: &impl Print, code: u32) -> io::Result<()> {
     for output in TYPES {
-        let Answer { number, first, .. } = check_texture_format(code, output);
+        let Answer { number, first, .. } = Answer::from(check_texture_format(code, output));
         println!(rt; "{code} {output} {number} {first}")?;
     }
     Ok(())
