@@ -3,10 +3,10 @@ use Rattle.populate.proofs.CallWays.{not_whole, binding_bad, binding_well_formed
 use Rattle.populate.proofs.call.populate_bound.Goals as goal
 
 pub returns-then-ne : goal.returns-then-ne
-returns-then-ne c = search (rules, not_whole)
+returns-then-ne c = rw c.plain.ensures (search not_whole)
 
 pub returns-then-not-binding_good : goal.returns-then-not-binding_good
-returns-then-not-binding_good c = search (rules, binding_bad)
+returns-then-not-binding_good c = rw c.plain-then-not-binding_good.ensures (search binding_bad)
 
 pub returns : goal.returns
 returns c = search (rules, binding_well_formed)

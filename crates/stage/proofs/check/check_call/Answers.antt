@@ -12,4 +12,4 @@ pub returns-then-call_good : goal.returns-then-call_good
 returns-then-call_good c = search stage_went
 
 pub returns : goal.returns
-returns c = search (rules, stage_call_lem)
+returns c = rw c.plain.ensures (search stage_call_lem)

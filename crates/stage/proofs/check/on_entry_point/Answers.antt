@@ -3,7 +3,7 @@ use borrow.Author.Rules.{rules}
 use Rattle.stage.proofs.check.on_entry_point.Goals as goal
 
 pub returns-then-out-outputs : goal.returns-then-out-outputs
-returns-then-out-outputs c = rw c.plain.ensures (search (rules, entry_short))
+returns-then-out-outputs c = rw c.plain.ensures (search entry_short)
 
 pub run_body-requires-clause-given : goal.run_body-requires-clause-given
 run_body-requires-clause-given c = search gives
