@@ -1,12 +1,13 @@
 -- The ways of the functions that choose an entry point.
 use Prim.Native.Nat.{ℕ, zero, suc, ◌+◌, ◌/◌, ◌%◌, ◌<◌, ◌≤◌}
 use native.Mathlib.Omega.{arith}
+use native.Mathlib.Numerals.{add-one}
 use native.Mathlib.Nat.{suc-add}
 use mathlib.Core.Path.{◌≡◌, refl, sym, ◌∙◌}
 use mathlib.Core.Bool.{Bool, true, false}
 use mathlib.Core.List.{List, [], ◌∷◌}
 use Rattle.std.specs.Prelude.{Option, Some, None, Result, Err, is_some}
-use Rattle.std.specs.Option.{ok_or}
+use Rattle.std.specs.Option.{ok_or, MatchOption}
 use Rattle.entry_points.specs.declared.choose.ChoiceError.{ChoiceError}
 use Rattle.entry_points.specs.declared.choose.ChoiceError.TheVariants.{Absent, Several}
 use borrow.Author.Tests.{lt-ltb, le-ltb}
@@ -25,7 +26,7 @@ use Rattle.word.specs.declared.answer.Answer.{Answer}
 use Rattle.interface.specs.Meaning.{EntryPoint, entry_point_nth}
 use Rattle.interface.specs.Format.{stage_at, named, Decoded, Damaged, Malformed, Pack, decode, decoded_number, interface_of}
 use Rattle.interface.specs.Inner.Reads.{name_at, standing}
-use Rattle.entry_points.specs.Rules.{of_stage, find_from, only_from, only_entry_point, only_answer, finalize_name}
+use Rattle.entry_points.specs.Rules.{of_stage, find_from, find_entry_point, only_from, only_entry_point, only_answer, finalize_name}
 use Rattle.interface.specs.Inner.Parts.{parts_at, entry_end, entry_point_at, entry_count, entries_at, Heads}
 use Rattle.interface.specs.declared.types.ShaderStage.{ShaderStage}
 use Rattle.interface.proofs.ReadsRecords.{records_length}
@@ -55,21 +56,28 @@ drop_nth [] i h = absurd (omega arith)
 drop_nth (e ∷ es) zero h = refl
 drop_nth (e ∷ es) (suc i) h = rw suc-add (drop_nth es i (omega arith))
 
-module _ (stage : ShaderStage) (name : List ℕ) (es : List EntryPoint) (i : ℕ) (goal : Option ℕ) (inv : goal ≡ find_from stage name (drop i es) i) where
-  module _ (b : Bool) (k : i < length es) (e : b ≡ named stage name (entry_point_nth es i)) where
-    find_step : goal ≡ pick b (Some i) (find_from stage name (drop (i + 1) es) (i + 1))
-    unfolding find_from
-    find_step = inv ∙ rw (drop_nth es i k, e)
+module _ (stage : ShaderStage) (name : List ℕ) (es : List EntryPoint) where
+  abbrev pub named_at : ℕ → Bool
+  named_at k = named stage name (entry_point_nth es k)
 
-    pub find_here : b ≡ true → Some i ≡ goal
-    find_here t = sym (find_step ∙ rw t)
-
-    pub find_onward : b ≡ false → goal ≡ find_from stage name (drop (i + 1) es) (i + 1)
-    find_onward t = find_step ∙ rw t
-
-  pub find_ended : length es ≤ i → None ≡ goal
+  find_step : (i : ℕ) → i < length es → find_from stage name (drop i es) i ≡ pick (named_at i) (Some i) (find_from stage name (drop (i + 1) es) (i + 1))
   unfolding find_from
-  find_ended h = sym (inv ∙ rw (drop_of_length-le es h))
+  find_step i k = rw (drop_nth es i k)
+
+  -- entry points that do not have the name are passed over
+  passed_over : (i : ℕ) → i ≤ length es → ((k : ℕ) → 0 ≤ k → k < i → named_at k ≡ false) → find_from stage name es 0 ≡ find_from stage name (drop i es) i
+  passed_over zero l h = refl
+  passed_over (suc i) l h =
+      passed_over i (omega arith) (λ k z b. h k z (omega arith)) ∙ find_step i (omega arith) ∙ rw (h i (omega arith) (omega arith), add-one i)
+
+  pub first_named : (r : Option ℕ)
+      → MatchOption r ((k : ℕ) → 0 ≤ k → k < length es → named_at k ≡ false) (λ i. (0 ≤ i) × (i < length es) × (named_at i ≡ true) × ((k : ℕ) → 0 ≤ k → k < i → named_at k ≡ false))
+      → r ≡ find_entry_point stage name es
+  unfolding find_from
+  first_named None h =
+      let l : length es ≤ length es = omega arith in
+      sym (passed_over (length es) l h ∙ rw (drop_of_length-le es l))
+  first_named (Some i) h = sym (passed_over i (omega (arith, h.1)) h.3 ∙ find_step i h.1 ∙ rw h.2)
 
 -- ---- by stage alone
 
@@ -147,3 +155,9 @@ module _ (d : Decoded) (stage n : ℕ) (e : n ≡ decoded_number d) where
 
 pub few_entries : (ws : List ℕ) → decoded_number (decode ws) ≡ 0 → length (interface_of (decode ws)).entries ≤ 16
 few_entries ws h = rw ((accepted ws h).entries, records_length (entry_point_at ws) (entry_end ws) (entry_count ws) (entries_at ws)) (accepted ws h).few_entries
+
+-- ---- what the functions of src/choose.rt use
+
+pub ruleset found_only = (only_other, only_first, only_second, only_ended)
+
+pub ruleset chosen_by_stage = (pack_refused, stage_refused, stage_chosen, few_entries)

@@ -92,3 +92,9 @@ module _ (ws name bytes : List ℕ) (from i : ℕ) (h : from + name_words (lengt
   bytes_ended k =
       let l : length (name_of (length name) (drop from ws)) ≤ i = rw name_long k in
       sym (inv ∙ rw (drop_of_length-le name k, drop_of_length-le (name_of (length name) (drop from ws)) l))
+
+-- ---- what the functions of src/names.rt use
+
+pub ruleset name_compared = (name_fits, name_counts, name_bytes)
+
+pub ruleset bytes_compared = (bytes_differ, bytes_agree, bytes_ended)

@@ -8,10 +8,14 @@ use Rattle.word.specs.declared.answer.Answer.{Answer}
 use Rattle.word.specs.declared.refusal.Number.TheVariants.{EntryNone, EntrySeveral}
 use Rattle.word.specs.declared.refusal.Refusal.{Refusal}
 use Rattle.interface.specs.Meaning.{EntryPoint}
-use Rattle.interface.specs.Format.{Decoded, Damaged, Malformed, Pack, decoded_number, stage_at, stage_code, named}
+use Rattle.interface.specs.Format.{Decoded, Damaged, Malformed, Pack, decode, decoded_number, interface_of, stage_at, stage_code, named}
 use Rattle.interface.specs.declared.types.ShaderStage.{ShaderStage}
 use Rattle.entry_points.specs.declared.choose.ChoiceError.{ChoiceError}
 use Rattle.entry_points.specs.declared.choose.ChoiceError.TheVariants.{Absent, Several}
+
+-- the entry points of an accepted pack
+abbrev pub entries_in : List ℕ → List EntryPoint
+entries_in ws = (interface_of (decode ws)).entries
 
 -- the first of a stage and a name, by its position, counted on from a number
 unfoldable pub find_from : ShaderStage → List ℕ → List EntryPoint → ℕ → Option ℕ

@@ -1,11 +1,11 @@
 // The choice of an entry point of an accepted pack.
 ghost use Rattle.std.specs.Prelude.{◌≡◌, ◌<◌, ◌≤◌, length, IfSome, IfOk};
 ghost use Rattle.word.specs.Refusals.{answer_with};
-ghost use Rattle.interface.specs.Format.{named, decode, interface_of};
+ghost use Rattle.interface.specs.Format.{named, decode};
 ghost use Rattle.interface.specs.Meaning.{entry_point_nth};
 ghost use Rattle.interface.specs.Inner.Reads.{standing};
 ghost use Rattle.interface.specs.Inner.Parts.{Placed, entry_point_at, head_at, parts_at, workgroup_at};
-ghost use Rattle.entry_points.specs.Rules.{of_stage, find_entry_point, only_entry_point, choice_refusal, finalize_name};
+ghost use Rattle.entry_points.specs.Rules.{entries_in, of_stage, find_entry_point, only_entry_point, choice_refusal, finalize_name};
 
 use crate::module::Module;
 use crate::names::same_name;
@@ -37,7 +37,7 @@ impl From<ChoiceError> for Refusal {
 impl Module<'_> {
     // How many entry points there are.
     pub fn entry_count(&self) -> usize
-        ensures value { result ≡ length (interface_of (decode self.now.pack.now)).entries }
+        ensures value { result ≡ length (entries_in self.now.pack.now) }
         ensures upper_bound { result ≤ 16 }
     {
         entry_count(self.pack)
@@ -45,8 +45,8 @@ impl Module<'_> {
 
     // Where the parts of an entry point stand.
     pub fn entry_parts(&self, position: usize) -> EntryParts
-        requires { position < length (interface_of (decode self.now.pack.now)).entries }
-        ensures stands { standing self.now.pack.now result ≡ entry_point_nth (interface_of (decode self.now.pack.now)).entries position }
+        requires { position < length (entries_in self.now.pack.now) }
+        ensures stands { standing self.now.pack.now result ≡ entry_point_nth (entries_in self.now.pack.now) position }
         ensures placed { Placed self.now.pack.now result }
         ensures parts { result ≡ parts_at self.now.pack.now (head_at self.now.pack.now position) }
     {
@@ -54,10 +54,10 @@ impl Module<'_> {
     }
 
     // Where an entry point begins.
-    #[tactic(auto, using(interface::proofs::ReadsParts::heads_there, interface::proofs::ReadsParts::head_inside, interface::proofs::ReadsParts::name_placed, crate::proofs::ReadsChoice::stands_here))]
+    #[tactic(auto, using(interface::proofs::ReadsParts::found_head, crate::proofs::ReadsChoice::stands_here))]
     fn head(&self, position: usize) -> usize
-        requires { position < length (interface_of (decode self.now.pack.now)).entries }
-        ensures stands { entry_point_at self.now.pack.now result ≡ entry_point_nth (interface_of (decode self.now.pack.now)).entries position }
+        requires { position < length (entries_in self.now.pack.now) }
+        ensures stands { entry_point_at self.now.pack.now result ≡ entry_point_nth (entries_in self.now.pack.now) position }
         ensures inside { result < length self.now.pack.now }
         ensures name_inside { workgroup_at self.now.pack.now result ≤ length self.now.pack.now }
     {
@@ -67,16 +67,16 @@ impl Module<'_> {
     // The stage of an entry point.
     #[tactic(auto, using(crate::proofs::ReadsChoice::stage_read))]
     fn stage_of(&self, position: usize) -> ShaderStage
-        requires { position < length (interface_of (decode self.now.pack.now)).entries }
-        ensures { result ≡ (entry_point_nth (interface_of (decode self.now.pack.now)).entries position).stage }
+        requires { position < length (entries_in self.now.pack.now) }
+        ensures { result ≡ (entry_point_nth (entries_in self.now.pack.now) position).stage }
     {
         stage_at(self.pack[self.head(position)] / 0x100_0000 % 8)
     }
 
     // Whether an entry point has this stage.
     fn has_stage(&self, position: usize, stage: ShaderStage) -> bool
-        requires { position < length (interface_of (decode self.now.pack.now)).entries }
-        ensures { result ≡ of_stage stage (entry_point_nth (interface_of (decode self.now.pack.now)).entries position) }
+        requires { position < length (entries_in self.now.pack.now) }
+        ensures { result ≡ of_stage stage (entry_point_nth (entries_in self.now.pack.now) position) }
     {
         self.stage_of(position) == stage
     }
@@ -84,31 +84,25 @@ impl Module<'_> {
     // Whether an entry point has this stage and this name.
     #[tactic(auto, using(crate::proofs::ReadsChoice::name_read))]
     fn is_named(&self, position: usize, stage: ShaderStage, name: &[u8]) -> bool
-        requires { position < length (interface_of (decode self.now.pack.now)).entries }
-        ensures { result ≡ named stage name.now (entry_point_nth (interface_of (decode self.now.pack.now)).entries position) }
+        requires { position < length (entries_in self.now.pack.now) }
+        ensures { result ≡ named stage name.now (entry_point_nth (entries_in self.now.pack.now) position) }
     {
         self.has_stage(position, stage) && same_name(self.pack, self.head(position), name)
     }
 
     // The entry point of a stage and a name.
-    #[tactic(auto, using(crate::proofs::ReadsChoice::find_here, crate::proofs::ReadsChoice::find_onward, crate::proofs::ReadsChoice::find_ended))]
     pub fn find_entry_point(&self, stage: ShaderStage, name: &[u8]) -> Option<usize>
-        ensures value { result ≡ find_entry_point stage name.now (interface_of (decode self.now.pack.now)).entries }
-        ensures in_bounds { IfSome result (λ i. i < length (interface_of (decode self.now.pack.now)).entries) }
+        ensures value { result ≡ find_entry_point stage name.now (entries_in self.now.pack.now) }
+        ensures in_bounds { IfSome result (λ i. i < length (entries_in self.now.pack.now)) }
     {
-        for position in 0..self.entry_count() {
-            if self.is_named(position, stage, name) {
-                return Some(position);
-            }
-        }
-        None
+        (0..self.entry_count()).find(|position| self.is_named(*position, stage, name))
     }
 
     // A stage's one entry point.
-    #[tactic(auto, using(crate::proofs::ReadsChoice::only_other, crate::proofs::ReadsChoice::only_first, crate::proofs::ReadsChoice::only_second, crate::proofs::ReadsChoice::only_ended))]
+    #[tactic(auto, using(crate::proofs::ReadsChoice::found_only))]
     fn only_entry_point(&self, stage: ShaderStage) -> Result<usize, ChoiceError>
-        ensures value { result ≡ only_entry_point stage (interface_of (decode self.now.pack.now)).entries }
-        ensures in_bounds { IfOk result (λ i. i < length (interface_of (decode self.now.pack.now)).entries) }
+        ensures value { result ≡ only_entry_point stage (entries_in self.now.pack.now) }
+        ensures in_bounds { IfOk result (λ i. i < length (entries_in self.now.pack.now)) }
     {
         let mut only = None;
         for position in 0..self.entry_count() {
@@ -124,7 +118,7 @@ impl Module<'_> {
 }
 
 // The entry point that a stage means where no name is given, by its position.
-#[tactic(auto, using(crate::proofs::ReadsChoice::pack_refused, crate::proofs::ReadsChoice::stage_refused, crate::proofs::ReadsChoice::stage_chosen, crate::proofs::ReadsChoice::few_entries))]
+#[tactic(auto, using(crate::proofs::ReadsChoice::chosen_by_stage))]
 pub fn finalize_entry_point_name(pack: &[u32], stage: u32) -> Result<u32, Refusal>
     ensures { answer_with result ≡ finalize_name (decode pack.now) stage }
 {

@@ -14,7 +14,7 @@ pub fn name_count(head: u32) -> usize
 }
 
 // Whether the bytes of the words from a position on, low first, begin with these.
-#[tactic(auto, using(crate::proofs::ReadsNames::bytes_differ, crate::proofs::ReadsNames::bytes_agree, crate::proofs::ReadsNames::bytes_ended))]
+#[tactic(auto, using(crate::proofs::ReadsNames::bytes_compared))]
 fn same_bytes(pack: &[u32], from: usize, name: &[u8]) -> bool
     requires { from + name_words (length name.now) ≤ length pack.now }
     ensures { result ≡ same_bytes (name_of (length name.now) (drop from pack.now)) name.now }
@@ -28,7 +28,7 @@ fn same_bytes(pack: &[u32], from: usize, name: &[u8]) -> bool
 }
 
 // Whether the name of the entry point that begins at a position is these bytes.
-#[tactic(auto, using(crate::proofs::ReadsNames::name_fits, crate::proofs::ReadsNames::name_counts, crate::proofs::ReadsNames::name_bytes))]
+#[tactic(auto, using(crate::proofs::ReadsNames::name_compared))]
 pub(crate) fn same_name(pack: &[u32], head: usize, name: &[u8]) -> bool
     requires { workgroup_at pack.now head ≤ length pack.now }
     ensures { result ≡ same_bytes (name_at pack.now head) name.now }

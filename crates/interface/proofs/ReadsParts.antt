@@ -248,3 +248,15 @@ module _ (ws : List ℕ) (left at : ℕ) (ends : end_from (entry_end ws) left at
 
   pub name_within : workgroup_at ws at ≤ length ws
   name_within = omega (arith, workgroup_outputs, outputs_past ws at, entry_within)
+
+-- ---- what the functions of src/parts.rt and src/reads.rt use
+
+pub ruleset walked = (varyings_start, next_inside, varyings_more)
+
+pub ruleset found_parts = (counts_there, inputs_there, parts_read)
+
+pub ruleset found_end = (counts_placed, outputs_placed, entry_end_read)
+
+pub ruleset found_entry = (heads_there, head_inside, entry_inside, pack_short, nth_read, nth_parts)
+
+pub ruleset found_head = (heads_there, head_inside, name_placed)

@@ -46,10 +46,6 @@ unfolding end_from
 end_left after zero at h = absurd (h refl)
 end_left after (suc n) at h = rw sub-one
 
-pub end_none : (after : ℕ → ℕ) (n at : ℕ) → n ≡ 0 → end_from after n at ≡ at
-unfolding end_from
-end_none after n at h = rw h
-
 pub records_length : {A : Type 0} (record_at : ℕ → A) (after : ℕ → ℕ) (n at : ℕ) → length (records_from record_at after n at) ≡ n
 unfolding records_from
 records_length record_at after zero at = refl

@@ -51,3 +51,10 @@ module _ (ws : List ℕ) (h : decoded_number (decode ws) ≡ 0) where
 
   pub resources_few : word_at ws 1 / 65536 % 2048 ≤ 128
   resources_few = (accepted ws h).few_resources
+
+-- what the functions of src/reads.rt use
+pub ruleset read_limits = (long_pack, limits_read)
+
+pub ruleset counted_entries = (long_pack, entries_counted, entries_few)
+
+pub ruleset counted_resources = (long_pack, resources_counted, resources_few)

@@ -51,32 +51,8 @@ impl Counts {
     }
 }
 
-pub fn resources_counted(counts: u32) -> usize
-    ensures { result ≡ bits 23 18 counts }
-{
-    Counts::of(counts).resources
-}
-
-pub fn pairs_counted(counts: u32) -> usize
-    ensures { result ≡ bits 17 12 counts }
-{
-    Counts::of(counts).pairs
-}
-
-pub fn inputs_counted(counts: u32) -> usize
-    ensures { result ≡ bits 11 6 counts }
-{
-    Counts::of(counts).inputs
-}
-
-pub fn outputs_counted(counts: u32) -> usize
-    ensures { result ≡ bits 5 0 counts }
-{
-    Counts::of(counts).outputs
-}
-
 // The position behind as many varyings.
-#[tactic(auto, using(crate::proofs::ReadsParts::varyings_start, crate::proofs::ReadsParts::next_inside, crate::proofs::ReadsParts::varyings_more), unfolding(crate::specs::Inner::Parts::end_from))]
+#[tactic(auto, using(crate::proofs::ReadsParts::walked), unfolding(crate::specs::Inner::Parts::end_from))]
 fn varyings_end(pack: &[u32], from: usize, n: usize) -> usize
     requires { (varyings_end pack.now n from < length pack.now) × (length pack.now ≤ 4096) }
     ensures { result ≡ varyings_end pack.now n from }
@@ -89,7 +65,7 @@ fn varyings_end(pack: &[u32], from: usize, n: usize) -> usize
 }
 
 // The parts of the entry point that begins at a position.
-#[tactic(auto, using(crate::proofs::ReadsParts::counts_there, crate::proofs::ReadsParts::inputs_there, crate::proofs::ReadsParts::parts_read))]
+#[tactic(auto, using(crate::proofs::ReadsParts::found_parts))]
 pub(crate) fn parts_at(pack: &[u32], head: usize) -> EntryParts
     requires { (head < length pack.now) × (entry_end pack.now head < length pack.now) × (length pack.now ≤ 4096) }
     ensures { result ≡ parts_at pack.now head }
@@ -113,7 +89,7 @@ pub(crate) fn parts_at(pack: &[u32], head: usize) -> EntryParts
 }
 
 // The position behind the entry point that begins at a position.
-#[tactic(auto, using(crate::proofs::ReadsParts::counts_placed, crate::proofs::ReadsParts::outputs_placed, crate::proofs::ReadsParts::entry_end_read))]
+#[tactic(auto, using(crate::proofs::ReadsParts::found_end))]
 pub fn entry_end(pack: &[u32], head: usize) -> usize
     requires { (head < length pack.now) × (entry_end pack.now head < length pack.now) × (length pack.now ≤ 4096) }
     ensures { result ≡ entry_end pack.now head }

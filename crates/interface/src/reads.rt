@@ -85,7 +85,7 @@ fn limit(pack: &[u32], at: usize) -> u32
 }
 
 // The limits of an accepted pack.
-#[tactic(auto, using(crate::proofs::ReadsWays::long_pack, crate::proofs::ReadsWays::limits_read))]
+#[tactic(auto, using(crate::proofs::ReadsWays::read_limits))]
 pub fn limits(pack: &[u32]) -> Limits
     requires { decoded_number (decode pack.now) ≡ 0 }
     ensures { result ≡ (interface_of (decode pack.now)).limits }
@@ -108,7 +108,7 @@ pub fn limits(pack: &[u32]) -> Limits
 }
 
 // How many entry points an accepted pack has.
-#[tactic(auto, using(crate::proofs::ReadsWays::long_pack, crate::proofs::ReadsWays::entries_counted, crate::proofs::ReadsWays::entries_few))]
+#[tactic(auto, using(crate::proofs::ReadsWays::counted_entries))]
 pub fn entry_count(pack: &[u32]) -> usize
     requires { decoded_number (decode pack.now) ≡ 0 }
     ensures value { result ≡ length (interface_of (decode pack.now)).entries }
@@ -119,7 +119,7 @@ pub fn entry_count(pack: &[u32]) -> usize
 }
 
 // How many resources an accepted pack has.
-#[tactic(auto, using(crate::proofs::ReadsWays::long_pack, crate::proofs::ReadsWays::resources_counted, crate::proofs::ReadsWays::resources_few))]
+#[tactic(auto, using(crate::proofs::ReadsWays::counted_resources))]
 pub(crate) fn resource_count(pack: &[u32]) -> usize
     requires { decoded_number (decode pack.now) ≡ 0 }
     ensures value { result ≡ length (interface_of (decode pack.now)).resources }
@@ -138,7 +138,7 @@ pub fn position_at(table: &[u16], index: usize) -> u16
 }
 
 // The parts of the entry point at a place among those of an accepted pack.
-#[tactic(auto, using(crate::proofs::ReadsParts::heads_there, crate::proofs::ReadsParts::head_inside, crate::proofs::ReadsParts::entry_inside, crate::proofs::ReadsParts::pack_short, crate::proofs::ReadsParts::nth_read, crate::proofs::ReadsParts::nth_parts))]
+#[tactic(auto, using(crate::proofs::ReadsParts::found_entry))]
 pub fn entry_parts(pack: &[u32], heads: &[u16], position: usize) -> EntryParts
     requires accepted { (decoded_number (decode pack.now) ≡ 0) × Heads pack.now heads.now }
     requires position_in_bounds { position < length (interface_of (decode pack.now)).entries }

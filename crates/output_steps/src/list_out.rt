@@ -12,7 +12,7 @@ ghost use Rattle.output_steps.specs.Inner.ListOut.{output_encodable, handed};
 
 use crate::types::Summary;
 use input_steps::types::InputWalk;
-use interface::parts::outputs_counted;
+use interface::parts::Counts;
 use interface::reads::varying_width;
 use interface::types::{EntryParts, ShaderStage};
 use stage_lists::list_out::{begin_out, insert_words};
@@ -87,7 +87,7 @@ pub fn list_out(
     requires parts_in_bounds { 2 + 2 * local_count (standing pack.now parts).outputs ≤ length out.old }
     ensures { out.new ≡ encode_stage (stage_out stage (standing pack.now parts) walk out.old) }
 {
-    let n = outputs_counted(pack[parts.counts]);
+    let n = Counts::of(pack[parts.counts]).outputs;
     let primitive = primitive_out(stage, walk.primitive_index | outputs.primitive);
     let payload = varying::payload_of(pack[parts.workgroup + 3]);
     write_out(pack, parts.outputs, n, out, primitive, payload);

@@ -11,7 +11,7 @@ ghost use Rattle.output_steps.specs.Inner.Summary.{nothing, summary_of, plus};
 ghost use Rattle.output_steps.specs.Outputs.{location_use, location_uses, count_use, point_part, vertex_outputs, fragment_slots, attachment_use, fragment_outputs, slots_step};
 
 use crate::types::{Request, Summary};
-use interface::parts::{inputs_counted, outputs_counted};
+use interface::parts::Counts;
 use interface::reads::varying_width;
 use interface::types::{EntryParts, Limits, ShaderStage};
 use word::refusal::{Number, Refusal};
@@ -100,7 +100,7 @@ pub fn output_summary(pack: &[u32], parts: EntryParts) -> Summary
     requires { Placed pack.now parts }
     ensures { Summed pack.now parts result }
 {
-    let n = outputs_counted(pack[parts.counts]);
+    let n = Counts::of(pack[parts.counts]).outputs;
     summary(pack, parts.outputs, n)
 }
 
@@ -238,12 +238,12 @@ pub(crate) fn fragment_outputs(
     ensures { answer_of result ≡ fragment_outputs request limits (standing pack.now parts) locals }
 {
     let counts = pack[parts.counts];
-    let inputs = inputs_counted(counts);
+    let inputs = Counts::of(counts).inputs;
     let limit = limits.max_inter_stage_shader_variables;
     fragment_slots(pack, parts.inputs, inputs, limit, locals)?;
     let most = limits.max_color_attachments;
     if most < outputs.reach {
-        let n = outputs_counted(counts);
+        let n = Counts::of(counts).outputs;
         return location_uses(pack, parts.outputs, n, Number::ColourLocation, most, most);
     }
     attachment_use(pack, parts, outputs, request)
@@ -264,7 +264,7 @@ pub fn slots_step(
 {
     match request.stage {
         ShaderStage::Vertex => {
-            let n = outputs_counted(pack[parts.counts]);
+            let n = Counts::of(pack[parts.counts]).outputs;
             let limit = limits.max_inter_stage_shader_variables;
             vertex_outputs(pack, parts.outputs, n, outputs, request.topology, limit)
         }

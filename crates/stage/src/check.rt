@@ -6,7 +6,7 @@ ghost use Rattle.stage_lists.specs.Format.{out_well_formed, decode_stage};
 ghost use Rattle.interface.specs.Format.{decode, decoded_number, interface_of};
 ghost use Rattle.interface.specs.Meaning.{entry_point_nth};
 ghost use Rattle.interface.specs.Inner.Reads.{standing};
-ghost use Rattle.interface.specs.Inner.Parts.{Placed, Offsets, Heads};
+ghost use Rattle.interface.specs.Inner.Parts.{Placed, Offsets};
 ghost use Rattle.word.specs.Lists.{every};
 ghost use Rattle.output_steps.specs.Inner.Given.{Summed};
 ghost use Rattle.output_steps.specs.Inner.ListOut.{output_encodable};
@@ -22,7 +22,7 @@ ghost use Rattle.stage.specs.Stage.{input_walk, behind_pairs, request_of, derive
 use crate::judge::{judge, pair_step};
 use crate::types::Codes;
 use entry_points::module::Module;
-use interface::reads::{entry_parts, stage_at};
+use interface::reads::stage_at;
 use interface::types::EntryParts;
 use layouts::layout::layout_well_formed;
 use output_steps::list_out::list_out;
@@ -148,9 +148,8 @@ fn run_body(
 
 // The room of the list out, then all steps of the entry point at a place among those of the pack.
 fn on_entry_point(
-    pack: &[u32],
+    shader: &Module<'_>,
     offsets: &[u16],
-    heads: &[u16],
     position: usize,
     layout: &mut [u32],
     sizes: &mut [u32],
@@ -158,14 +157,15 @@ fn on_entry_point(
     out: &mut [u32],
     codes: Codes,
 ) -> Result<(), Refusal>
-    requires in_pack { (decoded_number (decode pack.now) ≡ 0) × Offsets pack.now offsets.now × Heads pack.now heads.now }
-    requires position_in_bounds { position < length (interface_of (decode pack.now)).entries }
+    requires in_pack { Offsets shader.now.pack.now offsets.now }
+    requires position_in_bounds { position < length (interface_of (decode shader.now.pack.now)).entries }
     requires well_formed { (layout_well_formed layout.old ≡ true) × (sizes_well_formed sizes.old ≡ true) × (out_well_formed inputs.now ≡ true) }
     ensures { outcome (answer_of result) layout.new sizes.new out.new ≡ on_entry_point (derived_of codes) (request_of codes)
         (lent layout.old sizes.old inputs.now out.old)
-        (interface_of (decode pack.now)) (entry_point_nth (interface_of (decode pack.now)).entries position) }
+        (interface_of (decode shader.now.pack.now)) (entry_point_nth (interface_of (decode shader.now.pack.now)).entries position) }
 {
-    let parts = entry_parts(pack, heads, position);
+    let pack = shader.pack;
+    let parts = shader.entry_parts(position);
     let outputs = output_summary(pack, parts);
     if out.len() < 2 + 2 * outputs.locals as usize {
         return Err(Refusal::plain(Number::ShortOut));
@@ -178,9 +178,8 @@ fn on_entry_point(
 // The entry point of a stage and a name, if there is one.
 #[tactic(auto, using(crate::proofs::CheckLaws::chosen_below, crate::proofs::CheckLaws::chosen_at, crate::proofs::CheckLaws::chosen_absent))]
 fn on_named(
-    pack: &[u32],
+    shader: &Module<'_>,
     offsets: &[u16],
-    heads: &[u16],
     layout: &mut [u32],
     sizes: &mut [u32],
     inputs: &[u32],
@@ -188,18 +187,15 @@ fn on_named(
     name: &[u8],
     codes: Codes,
 ) -> Result<(), Refusal>
-    requires in_pack { (decoded_number (decode pack.now) ≡ 0) × Offsets pack.now offsets.now × Heads pack.now heads.now }
+    requires in_pack { Offsets shader.now.pack.now offsets.now }
     requires well_formed { (layout_well_formed layout.old ≡ true) × (sizes_well_formed sizes.old ≡ true) × (out_well_formed inputs.now ≡ true) }
-    ensures { outcome (answer_of result) layout.new sizes.new out.new ≡ on_named (call pack.now name.now codes
-        (lent layout.old sizes.old inputs.now out.old)) (interface_of (decode pack.now)) }
+    ensures { outcome (answer_of result) layout.new sizes.new out.new ≡ on_named (call shader.now.pack.now name.now codes
+        (lent layout.old sizes.old inputs.now out.old)) (interface_of (decode shader.now.pack.now)) }
 {
-    let module = Module { pack, heads };
-    let Some(position) = module.find_entry_point(stage_at(codes.stage), name) else {
+    let Some(position) = shader.find_entry_point(stage_at(codes.stage), name) else {
         return Err(Refusal::plain(Number::EntryAbsent));
     };
-    on_entry_point(
-        pack, offsets, heads, position, layout, sizes, inputs, out, codes,
-    )
+    on_entry_point(shader, offsets, position, layout, sizes, inputs, out, codes)
 }
 
 // Whether the codes of a call are in their ranges.
@@ -230,9 +226,8 @@ fn call_good(layout: &[u32], sizes: &[u32], inputs: &[u32], codes: Codes) -> boo
 
 // The lists and codes of a call, and the entry point of its stage and name in a pack that was accepted.
 fn check_call(
-    pack: &[u32],
+    shader: &Module<'_>,
     offsets: &[u16],
-    heads: &[u16],
     layout: &mut [u32],
     sizes: &mut [u32],
     inputs: &[u32],
@@ -240,14 +235,12 @@ fn check_call(
     name: &[u8],
     codes: Codes,
 ) -> Result<(), Refusal>
-    requires { (decoded_number (decode pack.now) ≡ 0) × Offsets pack.now offsets.now × Heads pack.now heads.now }
-    ensures { outcome (answer_of result) layout.new sizes.new out.new ≡ check_stage (call pack.now name.now codes
+    requires { Offsets shader.now.pack.now offsets.now }
+    ensures { outcome (answer_of result) layout.new sizes.new out.new ≡ check_stage (call shader.now.pack.now name.now codes
         (lent layout.old sizes.old inputs.now out.old)) }
 {
     if call_good(layout, sizes, inputs, codes) {
-        return on_named(
-            pack, offsets, heads, layout, sizes, inputs, out, name, codes,
-        );
+        return on_named(shader, offsets, layout, sizes, inputs, out, name, codes);
     }
     Err(Refusal::plain(Number::BadCall))
 }
@@ -268,7 +261,9 @@ pub fn check_stage(
     let mut offsets: [u16; 128] = [0; 128];
     let mut heads: [u16; 16] = [0; 16];
     index_pack(pack, &mut offsets, &mut heads)?;
-    check_call(
-        pack, &offsets, &heads, layout, sizes, inputs, out, name, codes,
-    )
+    let shader = Module {
+        pack,
+        heads: &heads,
+    };
+    check_call(&shader, &offsets, layout, sizes, inputs, out, name, codes)
 }

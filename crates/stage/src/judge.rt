@@ -14,7 +14,7 @@ ghost use Rattle.stage.specs.Stage.{pair_step, input_walk, behind_inputs, behind
 use input_steps::inputs::input_steps;
 use input_steps::types::InputWalk;
 use input_steps::workgroup::workgroup_step;
-use interface::parts::inputs_counted;
+use interface::parts::Counts;
 use interface::reads::{limits, topology_at};
 use interface::types::{EntryParts, EntryPointMeshInfo, ShaderStage, WorkgroupSize};
 use last_steps::last::last_step;
@@ -134,7 +134,7 @@ pub(crate) fn judge(
 {
     size_step(pack, parts, request.stage)?;
     let mut walk = InputWalk::START;
-    let n = inputs_counted(pack[parts.counts]);
+    let n = Counts::of(pack[parts.counts]).inputs;
     input_steps(pack, parts.inputs, n, inputs, request.stage, &mut walk)?;
     after_inputs(pack, parts, outputs, inputs, request, walk)?;
     Ok(walk)
