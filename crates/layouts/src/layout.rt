@@ -13,7 +13,7 @@ use bindings::entry_words::words_well_formed;
 use bindings::sizes::{size_at, size_word};
 use places::heads::{counted, short_enough};
 use places::places::{distinct_places, find_near, find_word};
-use places::stores::store_four;
+use places::stores::push_record;
 use word::{content, index, kind, word};
 
 // How many words an entry has.
@@ -166,15 +166,7 @@ pub fn push_entry(l: &mut [u32], place: u32, ty: u32, least: u64, visibility: u3
         ≡ pick result (pushed (decode_layout l.old) (entry_of_parts place ty least visibility)) (decode_layout l.old) }
     ensures still_well_formed { layout_well_formed l.new ≡ true }
 {
-    let n = counted(l);
-    let at = 1 + ENTRY_WIDTH * n;
-    if l.len() < at + ENTRY_WIDTH {
-        return false;
-    }
-    let head = l[0];
-    store_four(l, at, place, ty, size_word(least), visibility);
-    l[0] = head + 1;
-    true
+    push_record(l, [place, ty, size_word(least), visibility])
 }
 
 // A stage's bit joined to the visibility of the entry at a position.
