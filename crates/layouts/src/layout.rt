@@ -107,6 +107,7 @@ pub fn find_entry_near(l: &[u32], place: u32, near: usize) -> Option<usize>
 }
 
 // A word of the entry at a position.
+// What these readers ask of the list stands at each: the list is lent for writing between look-ups, and a view would be made anew at each.
 fn entry_word(l: &[u32], index: usize, k: usize) -> u32
     requires well_formed { layout_well_formed l.now ≡ true }
     requires index_in_bounds { (index < length (decode_layout l.now).entries) × (k < entry_width) }
