@@ -2,23 +2,24 @@
 use Prim.Native.Nat.{ℕ, suc, ◌+◌, ◌*◌, ◌^◌, ◌<◌, ◌≤◌}
 use native.Mathlib.Omega.{arith}
 use mathlib.Core.Path.{◌≡◌, refl, sym, ap, ◌∙◌}
-use mathlib.Core.Bool.{true, false}
+use mathlib.Core.Bool.{Bool, true, false}
 use mathlib.Core.List.{List, [], ◌∷◌, ◌++◌}
 use lib.ListN.{length, drop, get_or, set}
 use lib.Seq.{drop-drop}
 use borrow.Author.Tests.{leb-true}
+use Rattle.word.specs.Choice.{pick}
 use Rattle.word.specs.Words.{word_at, kind_of, content_of, bits, of_kind}
 use Rattle.bindings.specs.Format.{place_word, size_width, size_word, size_standing, binding_type_of, binding_code, least_size_of, entry_well_formed, entry_words, entry_of, parts_well_formed, entry_of_parts, entry_well_formed_at, entry_at}
 use Rattle.bindings.specs.declared.types.BindGroupLayoutEntry.{BindGroupLayoutEntry}
 use Rattle.bindings.proofs.EntryFormat.{entry_back, least_back}
-use Rattle.word.proofs.Truth.{first, second}
-use Rattle.layouts.specs.Meaning.{entry_has, entry_nth, empty_entry, pushed, join_bit, seen_by, join_at, joined}
+use Rattle.word.proofs.Truth.{first, second, by_test}
+use Rattle.layouts.specs.Meaning.{Layout, entry_has, entry_nth, empty_entry, pushed, join_bit, seen_by, join_at, joined}
 use Rattle.places.specs.Records.{room_for, put, past, each, count_of}
 use Rattle.word.specs.Lists.{flat}
 use Rattle.layouts.specs.Format.{groups_of, read_entry, read_entries, entry_good, entry_fits, layout_well_formed, decode_layout, encode_layout, layout_good}
 use Rattle.places.proofs.Words.{there}
 use Rattle.word.proofs.Parse.{first_of}
-use Rattle.places.proofs.Records.{read_length, room_lacks, room_fits, each_nth, put_more, count_more, set_read}
+use Rattle.places.proofs.Records.{read_length, room_left, each_nth, put_more, count_more, set_read}
 use Rattle.layouts.proofs.LayoutLists.{entry_form, WellFormed, well_formed, encode_decode, decode_encode, well_formed_encode, good_decode}
 use Rattle.layouts.proofs.LayoutLaws.{nth_get_or, joined_set, length_join, good_pushed, good_joined}
 use Rattle.layouts.proofs.LayoutWays.{entries_counted, nth_read, entry_read}
@@ -33,15 +34,6 @@ entry_stored l m at p t least s v f e h = rw (entry_back p t (size_word least) v
 
 pub words_kept : (ws : List ℕ) → layout_well_formed ws ≡ true → ws ≡ encode_layout (decode_layout ws)
 words_kept ws f = sym (encode_decode ws f)
-
-module _ (ws : List ℕ) (n : ℕ) (f : layout_well_formed ws ≡ true) (en : n ≡ count_of ws) where
-  pub room_lacking : length ws < 1 + 4 * n + 4 → false ≡ room_for 4 (decode_layout ws).room
-  unfolding decode_layout
-  room_lacking h = sym (room_lacks 1 4 (count_of ws) ws (well_formed ws f).holds (rw en at h))
-
-  pub room_there : 1 + 4 * n + 4 ≤ length ws → true ≡ room_for 4 (decode_layout ws).room
-  unfolding decode_layout
-  room_there h = sym (room_fits 1 4 (count_of ws) ws (well_formed ws f).holds (rw en at h))
 
 pub head_there : (ws : List ℕ) → layout_well_formed ws ≡ true → 1 ≤ length ws
 head_there ws f = omega (arith, (well_formed ws f).holds)
@@ -67,20 +59,46 @@ pushed_words (w ∷ ws) e f h =
     let form = entry_form (bits 26 16 w) in
     put_more form n ws fit t.good w (w + 1) e ∙ rw (count_more form n ws fit t.good e, head)
 
-module _ (ws ws' : List ℕ) (e : BindGroupLayoutEntry) (n w : ℕ) (f : layout_well_formed ws ≡ true) (en : n ≡ count_of ws) (ew : w ≡ word_at ws 0)
-    (h : 1 + 4 * n + 4 ≤ length ws) (p : ws' ≡ put ws (1 + 4 * n) (entry_words e)) where
-  pub push_stored : set ws' 0 (w + 1) ≡ encode_layout (pushed (decode_layout ws) e)
-  push_stored = rw (p, ew, en) (pushed_words ws e f (rw en at h))
+pub push_room : (ws : List ℕ) (r : Bool) → r ≡ room_for 4 (past 4 (count_of ws) (drop 1 ws)) → r ≡ room_for 4 (decode_layout ws).room
+unfolding decode_layout
+push_room ws r h = h
 
-  module _ (t : entry_fits (decode_layout ws).groups e ≡ true) (u : entry_has e.bind (decode_layout ws).entries ≡ false) where
-    push_good : layout_good (pushed (decode_layout ws) e) ≡ true
-    push_good = good_pushed (decode_layout ws) (good_decode ws f) e t u (leb-true 4 (length (decode_layout ws).room) (sym (room_there ws n f en h)))
+module _ (ws ws' : List ℕ) (p t least s v : ℕ) (r : Bool) (f : layout_well_formed ws ≡ true) (er : r ≡ room_for 4 (past 4 (count_of ws) (drop 1 ws)))
+    (q : parts_well_formed p t least v ≡ true) (es : s ≡ size_word least)
+    (h : ws' ≡ pick r (set (put ws (1 + 4 * count_of ws) (p ∷ t ∷ s ∷ v ∷ [])) 0 (word_at ws 0 + 1)) ws) where
+  abbrev more : BindGroupLayoutEntry
+  more = entry_of_parts p t least v
 
-    pub push_decoded : decode_layout (set ws' 0 (w + 1)) ≡ pushed (decode_layout ws) e
-    push_decoded = rw push_stored (decode_encode (pushed (decode_layout ws) e) push_good)
+  abbrev after : Layout
+  after = pick r (pushed (decode_layout ws) more) (decode_layout ws)
 
-    pub push_well_formed : layout_well_formed (set ws' 0 (w + 1)) ≡ true
-    push_well_formed = rw push_stored (well_formed_encode (pushed (decode_layout ws) e) push_good)
+  roomy : r ≡ true → 1 + 4 * count_of ws + 4 ≤ length ws
+  roomy k = omega (arith, leb-true 4 (length (past 4 (count_of ws) (drop 1 ws))) (sym er ∙ k), room_left 1 4 (count_of ws) ws (well_formed ws f).holds)
+
+  pub push_encoded : ws' ≡ encode_layout after
+  push_encoded =
+      by_test r
+      (λ k.
+      let m = put ws (1 + 4 * count_of ws) (p ∷ t ∷ s ∷ v ∷ []) in
+      let g : ws' ≡ set m 0 (word_at ws 0 + 1) = rw k at h in
+      let w : m ≡ put ws (1 + 4 * count_of ws) (entry_words more) = entry_stored ws m (1 + 4 * count_of ws) p t least s v q es refl in
+      rw k (g ∙ ap (λ (x : List ℕ). set x 0 (word_at ws 0 + 1)) w ∙ pushed_words ws more f (roomy k)))
+      (λ k.
+      let g : ws' ≡ ws = rw k at h in
+      rw k (g ∙ words_kept ws f))
+
+  module _ (fits : entry_fits (decode_layout ws).groups more ≡ true) (u : entry_has more.bind (decode_layout ws).entries ≡ false) where
+    push_good : layout_good after ≡ true
+    push_good =
+        by_test r
+        (λ k. rw k (good_pushed (decode_layout ws) (good_decode ws f) more fits u (leb-true 4 (length (decode_layout ws).room) (sym (push_room ws r er) ∙ k))))
+        (λ k. rw k (good_decode ws f))
+
+    pub push_decoded : decode_layout ws' ≡ after
+    push_decoded = rw push_encoded (decode_encode after push_good)
+
+    pub push_well_formed : layout_well_formed ws' ≡ true
+    push_well_formed = rw push_encoded (well_formed_encode after push_good)
 
 -- ---- the words of an entry
 

@@ -13,7 +13,7 @@ use bindings::entry_words::words_well_formed;
 use bindings::sizes::{size_at, size_word};
 use places::heads::{counted, short_enough};
 use places::places::{distinct_places, find_near, find_word};
-use places::stores::store_four;
+use places::stores::push_record;
 use word::{content, index, kind, word};
 
 // How many words an entry has.
@@ -107,6 +107,7 @@ pub fn find_entry_near(l: &[u32], place: u32, near: usize) -> Option<usize>
 }
 
 // A word of the entry at a position.
+// What these readers ask of the list stands at each: the list is lent for writing between look-ups, and a view would be made anew at each.
 fn entry_word(l: &[u32], index: usize, k: usize) -> u32
     requires well_formed { layout_well_formed l.now ≡ true }
     requires index_in_bounds { (index < length (decode_layout l.now).entries) × (k < entry_width) }
@@ -166,15 +167,7 @@ pub fn push_entry(l: &mut [u32], place: u32, ty: u32, least: u64, visibility: u3
         ≡ pick result (pushed (decode_layout l.old) (entry_of_parts place ty least visibility)) (decode_layout l.old) }
     ensures still_well_formed { layout_well_formed l.new ≡ true }
 {
-    let n = counted(l);
-    let at = 1 + ENTRY_WIDTH * n;
-    if l.len() < at + ENTRY_WIDTH {
-        return false;
-    }
-    let head = l[0];
-    store_four(l, at, place, ty, size_word(least), visibility);
-    l[0] = head + 1;
-    true
+    push_record(l, [place, ty, size_word(least), visibility])
 }
 
 // A stage's bit joined to the visibility of the entry at a position.

@@ -7,10 +7,13 @@ use mathlib.Core.Path.{◌≡◌, refl, sym, ap, ◌∙◌}
 use mathlib.Core.Bool.{Bool, true, false}
 use mathlib.Core.List.{List, [], ◌∷◌, ◌++◌, append_assoc, append-nil, map}
 use lib.ListN.{length, take, drop, get_or, set, length-drop, length-append}
-use lib.Seq.{drop-drop, take_at, drop_at, set-append_left}
+use lib.Seq.{drop-drop, take_at, take_all, drop_at, set-append_left, paste}
+use borrow.Rule.Slice.PartMut.{put_mid}
+use Rattle.std.proofs.lemmas.Slice.{put_mid-paste}
 use borrow.Author.Tests.{le-leb, lt-leb}
 use Rattle.word.specs.Choice.{pick}
-use Rattle.places.specs.Records.{room_for, past, each, put, records}
+use Rattle.word.specs.Words.{word_at}
+use Rattle.places.specs.Records.{room_for, past, each, put, count_of, records}
 use Rattle.word.specs.Lists.{every, flat}
 use Rattle.places.proofs.Words.{put_next, set_behind}
 use Rattle.word.proofs.Lists.{first_passes, rest_passes}
@@ -278,3 +281,27 @@ module _ {A : Type 0} {width : ℕ} {read : List ℕ → A} {words : A → List 
   set_read n i j v ws a d h t k m e =
       let b : i < length (records width read n ws) = omega (arith, read_length width read n ws) in
       ap (λ l. set l (width * i + j) v) (sym (flat_read n ws h t)) ∙ set_flat (records width read n ws) (past width n ws) i j v a d b m e
+
+-- ---- a record at the end
+
+-- a part of the words written over
+part_written : (l ws part : List ℕ) (at to : ℕ) → part ≡ ws → at + length ws ≡ to → put_mid at (to - at) l part ≡ put l at ws
+unfolding put
+part_written l ws part at to e h =
+    let k : to - at ≡ length ws = omega arith in
+    let p : put_mid at (to - at) l part ≡ paste l at ws (length ws) = put_mid-paste at (to - at) l part ws (length ws) e (sym k) refl in
+    let t : take (length ws) ws ≡ ws = take_all (length ws) ws (omega arith) in
+    p ∙ rw t (append_assoc (take at l) ws (drop (at + length ws) l))
+
+module _ (l : List ℕ) (width n : ℕ) (en : n ≡ count_of l) (h : 1 + width * count_of l ≤ length l) where
+  pub record_refused : length l < 1 + width * n + width → false ≡ room_for width (past width (count_of l) (drop 1 l))
+  record_refused k = sym (room_lacks 1 width (count_of l) l h (rw en at k))
+
+  pub record_fits : 1 + width * n + width ≤ length l → true ≡ room_for width (past width (count_of l) (drop 1 l))
+  record_fits k = sym (room_fits 1 width (count_of l) l h (rw en at k))
+
+pub record_pushed : (l ws part : List ℕ) (width n w : ℕ) → n ≡ count_of l → length ws ≡ width → part ≡ ws → w ≡ word_at l 0
+    → set (put_mid (1 + width * n) (1 + width * n + width - (1 + width * n)) l part) 0 (w + 1) ≡ set (put l (1 + width * count_of l) ws) 0 (word_at l 0 + 1)
+record_pushed l ws part width n w en el ep ew =
+    let p = part_written l ws part (1 + width * n) (1 + width * n + width) ep (omega arith) in
+    rw (p, en, ew)

@@ -92,10 +92,6 @@ put_kept l at j a b h =
     let e : at + suc (suc j) ≡ at + 2 + j = omega arith in
     rw (n, e, ← drop-drop j (at + 2) l, take-append-drop j (drop (at + 2) l))
 
-pub stored_four : (l m k : List ℕ) (at a b c d : ℕ) → at + 4 ≤ length l → m ≡ put l at (a ∷ b ∷ []) → k ≡ put m (at + 2) (c ∷ d ∷ [])
-    → k ≡ put l at (a ∷ b ∷ c ∷ d ∷ [])
-stored_four l m k at a b c d h hm hk = hk ∙ rw (hm, put_put l at (a ∷ b ∷ []) (c ∷ d ∷ []) (omega arith))
-
 pub put_next : (w : ℕ) (l : List ℕ) (at : ℕ) (p : List ℕ) → put (w ∷ l) (1 + at) p ≡ w ∷ put l at p
 unfolding put
 put_next w l at p =

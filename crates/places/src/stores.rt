@@ -1,6 +1,10 @@
 // Records written into a list.
-ghost use Rattle.std.specs.Prelude.{◌≡◌, [], ◌∷◌, ◌+◌, ◌≤◌, length};
-ghost use Rattle.places.specs.Records.{put};
+ghost use Rattle.std.specs.Prelude.{◌≡◌, [], ◌∷◌, ◌+◌, ◌*◌, ◌<◌, ◌≤◌, ◌^◌, length, drop, set};
+ghost use Rattle.word.specs.Choice.{pick};
+ghost use Rattle.word.specs.Words.{word_at};
+ghost use Rattle.places.specs.Records.{count_of, past, put, room_for};
+
+use crate::heads::counted;
 
 // Two words stored at a position.
 pub fn store_two(l: &mut [u32], at: usize, first: u32, second: u32)
@@ -11,11 +15,19 @@ pub fn store_two(l: &mut [u32], at: usize, first: u32, second: u32)
     l[at + 1] = second;
 }
 
-// Four words stored at a position.
-pub fn store_four(l: &mut [u32], at: usize, a: u32, b: u32, c: u32, d: u32)
-    requires { at + 4 ≤ length l.old }
-    ensures { l.new ≡ put l.old at (a ∷ b ∷ c ∷ d ∷ []) }
+// A record at the end of a list, whose head counts it, or nothing where the free room is too small.
+pub fn push_record<const WIDTH: usize>(l: &mut [u32], words: [u32; WIDTH]) -> bool
+    requires within { (0 < WIDTH) × (WIDTH ≤ 4) × (1 + WIDTH * count_of l.old ≤ length l.old) }
+    requires countable { word_at l.old 0 + 1 < 2 ^ 32 }
+    ensures value { result ≡ room_for WIDTH (past WIDTH (count_of l.old) (drop 1 l.old)) }
+    ensures words { l.new ≡ pick result (set (put l.old (1 + WIDTH * count_of l.old) words.entry) 0 (word_at l.old 0 + 1)) l.old }
 {
-    store_two(l, at, a, b);
-    store_two(l, at + 2, c, d);
+    let at = 1 + WIDTH * counted(l);
+    if l.len() < at + WIDTH {
+        return false;
+    }
+    let head = l[0];
+    l[at..at + WIDTH].copy_from_slice(&words);
+    l[0] = head + 1;
+    true
 }

@@ -2,18 +2,19 @@
 use Rattle.std.proofs.Common.{Option, Some, None}
 use Prim.Native.Nat.{ℕ, suc, ◌+◌, ◌-◌, ◌*◌, ◌^◌, ◌<◌, ◌≤◌, max}
 use native.Mathlib.Omega.{arith}
-use mathlib.Core.Path.{◌≡◌, sym, ap, ◌∙◌}
-use mathlib.Core.Bool.{true, false}
+use mathlib.Core.Path.{◌≡◌, refl, sym, ap, ◌∙◌}
+use mathlib.Core.Bool.{Bool, true, false}
 use mathlib.Core.List.{List, [], ◌∷◌, ◌++◌}
 use lib.ListN.{length, drop, get_or, set}
-use borrow.Author.Tests.{eqb-true}
+use borrow.Author.Tests.{eqb-true, leb-true}
+use Rattle.word.specs.Choice.{pick}
 use Rattle.word.specs.Words.{word_at, kind_of, content_of, bits, of_kind}
 use Rattle.bindings.specs.Format.{place_well_formed, place_of, size_limit, size_word}
 use Rattle.word.specs.Lists.{flat}
 use Rattle.bindings.specs.declared.types.ResourceBinding.{ResourceBinding}
 use Rattle.bindings.proofs.ReadLaws.{place_encodable_lem}
 use Rattle.bindings.proofs.EntryFormat.{place_back}
-use Rattle.word.proofs.Truth.{first, second}
+use Rattle.word.proofs.Truth.{first, second, by_test}
 use Rattle.sizes.specs.Meaning.{size_places, size_has, size_record, size_fits, recorded}
 use Rattle.places.specs.Places.{found_below, place_from, distinct_places, places}
 use Rattle.places.specs.Records.{room_for, put, past, each, count_of}
@@ -22,7 +23,7 @@ use Rattle.sizes.specs.declared.size_record.SizeRecord.{SizeRecord}
 use Rattle.sizes.specs.Inner.Near.{find_size, note_next}
 use Rattle.places.proofs.Words.{there, slice_from, slice_from_is, slice_holds}
 use Rattle.places.specs.Inner.Begins.{place_first}
-use Rattle.places.proofs.Records.{each_weaker, read_length, room_lacks, room_fits, nth_record, each_nth, put_more, count_more, set_read}
+use Rattle.places.proofs.Records.{each_weaker, read_length, room_left, nth_record, each_nth, put_more, count_more, set_read}
 use Rattle.places.proofs.PlaceWays.{place_found, place_lacks, found_inside}
 use Rattle.sizes.proofs.SizeLists.{size_form, WellFormed, well_formed, encode_decode, decode_encode, well_formed_encode, good_decode}
 use Rattle.sizes.proofs.SizeLaws.{raised, no_record, raised_set, length_raised, good_recorded}
@@ -140,25 +141,6 @@ size_raised s s' p size z n i r f l ez en er below h e =
 
 -- ---- a new record
 
-module _ (s : List ℕ) (place : ResourceBinding) (size n : ℕ) (f : sizes_well_formed s ≡ true) (en : n ≡ count_of s) (new : size_has place (decode_sizes s).records ≡ false) where
-  room_lacking : length s < 1 + 2 * n + 2 → room_for 2 (decode_sizes s).room ≡ false
-  unfolding decode_sizes
-  room_lacking h = room_lacks 1 2 (count_of s) s (well_formed s f).holds (rw en at h)
-
-  room_there : 1 + 2 * n + 2 ≤ length s → room_for 2 (decode_sizes s).room ≡ true
-  unfolding decode_sizes
-  room_there h = room_fits 1 2 (count_of s) s (well_formed s f).holds (rw en at h)
-
-  pub push_lacks : length s < 1 + 2 * n + 2 → false ≡ size_fits place (decode_sizes s)
-  push_lacks h = rw (new, room_lacking h)
-
-  pub push_fits : 1 + 2 * n + 2 ≤ length s → true ≡ size_fits place (decode_sizes s)
-  push_fits h = rw (new, room_there h)
-
-  pub push_refused : length s < 1 + 2 * n + 2 → s ≡ encode_sizes (recorded place size (decode_sizes s))
-  unfolding recorded
-  push_refused h = rw (new, room_lacking h) (sym (encode_decode s f))
-
 pub head_there : (s : List ℕ) → sizes_well_formed s ≡ true → 1 ≤ length s
 head_there s f = omega (arith, (well_formed s f).holds)
 
@@ -180,14 +162,30 @@ pushed_words (w ∷ ws) place size f h =
     let head : of_kind 20 (n + 1) ≡ w + 1 = omega arith in
     put_more size_form n ws fit t.good w (w + 1) (size_record place size) ∙ rw (count_more size_form n ws fit t.good (size_record place size), head)
 
-pub push_stored : (s s' : List ℕ) (p size z n w : ℕ) → sizes_well_formed s ≡ true → n ≡ count_of s → place_well_formed p ≡ true → z ≡ size_word size
-    → size_has (place_of p) (decode_sizes s).records ≡ false → w ≡ word_at s 0 → 1 + 2 * n + 2 ≤ length s → s' ≡ put s (1 + 2 * n) (p ∷ z ∷ [])
-    → set s' 0 (w + 1) ≡ encode_sizes (recorded (place_of p) size (decode_sizes s))
+module _ (s : List ℕ) (place : ResourceBinding) (r : Bool) (er : r ≡ room_for 2 (past 2 (count_of s) (drop 1 s))) (new : size_has place (decode_sizes s).records ≡ false) where
+  push_room : r ≡ room_for 2 (decode_sizes s).room
+  unfolding decode_sizes
+  push_room = er
+
+  pub push_fits : r ≡ size_fits place (decode_sizes s)
+  push_fits = rw new push_room
+
+pub push_stored : (s s' : List ℕ) (p size z : ℕ) (r : Bool) → sizes_well_formed s ≡ true → r ≡ room_for 2 (past 2 (count_of s) (drop 1 s)) → place_well_formed p ≡ true
+    → z ≡ size_word size → size_has (place_of p) (decode_sizes s).records ≡ false
+    → s' ≡ pick r (set (put s (1 + 2 * count_of s) (p ∷ z ∷ [])) 0 (word_at s 0 + 1)) s → s' ≡ encode_sizes (recorded (place_of p) size (decode_sizes s))
 unfolding recorded
-push_stored s s' p size z n w f en fp ez new ew h e =
-    let q : s' ≡ put s (1 + 2 * count_of s) (size_record_words (size_record (place_of p) size)) = rw (place_back p fp, ← ez, ← en) e in
-    rw (new, room_there s (place_of p) size n f en new h, q, ew)
-    (pushed_words s (place_of p) size f (rw en at h))
+push_stored s s' p size z r f er fp ez new h =
+    by_test r
+    (λ k.
+    let room : 1 + 2 * count_of s + 2 ≤ length s
+    = omega (arith, leb-true 2 (length (past 2 (count_of s) (drop 1 s))) (sym er ∙ k), room_left 1 2 (count_of s) s (well_formed s f).holds) in
+    let m = put s (1 + 2 * count_of s) (p ∷ z ∷ []) in
+    let g : s' ≡ set m 0 (word_at s 0 + 1) = rw k at h in
+    let w : put s (1 + 2 * count_of s) (size_record_words (size_record (place_of p) size)) ≡ m = rw (place_back p fp, ← ez) refl in
+    rw (new, sym (push_room s (place_of p) r er new) ∙ k) (g ∙ ap (λ (x : List ℕ). set x 0 (word_at s 0 + 1)) (sym w) ∙ pushed_words s (place_of p) size f room))
+    (λ k.
+    let g : s' ≡ s = rw k at h in
+    rw (new, sym (push_room s (place_of p) r er new) ∙ k) (g ∙ sym (encode_decode s f)))
 
 -- ---- what holds of the words after either
 

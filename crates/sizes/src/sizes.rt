@@ -10,7 +10,7 @@ ghost use Rattle.sizes.specs.Inner.Near.{find_size, note_next};
 use bindings::sizes::size_word;
 use places::heads::{counted, short_enough};
 use places::places::{distinct_places, find_near};
-use places::stores::store_two;
+use places::stores::push_record;
 use word::{content, kind, word};
 
 // How many words a record has.
@@ -81,15 +81,7 @@ fn push_size(s: &mut [u32], place: u32, size: u64) -> bool
     ensures value { result ≡ size_fits (place_of place) (decode_sizes s.old) }
     ensures encoded { s.new ≡ encode_sizes (recorded (place_of place) size (decode_sizes s.old)) }
 {
-    let n = counted(s);
-    let at = 1 + SIZE_RECORD_WIDTH * n;
-    if s.len() < at + SIZE_RECORD_WIDTH {
-        return false;
-    }
-    let head = s[0];
-    store_two(s, at, place, size_word(size));
-    s[0] = head + 1;
-    true
+    push_record(s, [place, size_word(size)])
 }
 
 // The larger of a word and the one at a position stored there.

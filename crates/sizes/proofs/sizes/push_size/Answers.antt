@@ -1,17 +1,13 @@
-use Rattle.sizes.proofs.SizeStores.{head_there, push_lacks, push_fits, push_refused, head_more, push_stored}
+use mathlib.Core.Path.{refl}
+use native.Mathlib.Omega.{arith}
+use borrow.Author.Rules.{rules}
+use Rattle.sizes.proofs.SizeLists.{well_formed}
+use Rattle.sizes.proofs.SizeStores.{push_fits, head_more, push_stored}
 use Rattle.sizes.proofs.sizes.push_size.Goals as goal
 
-pub counted-n-requires : goal.counted-n-requires
-counted-n-requires c = search head_there
-
-pub returns-then-s-at-clause-value : goal.returns-then-s-at-clause-value
-returns-then-s-at-clause-value c = search push_lacks
-
-pub returns-then-s-at-clause-encoded : goal.returns-then-s-at-clause-encoded
-returns-then-s-at-clause-encoded c = search push_refused
-
-pub overflow_add-s : goal.overflow_add-s
-overflow_add-s c = search head_more
+pub push_record-requires : goal.push_record-requires
+push_record-requires c =
+    (search rules, ((search rules, search rules, omega (arith, (well_formed _ c.requires.well_formed).holds)), head_more _ _ c.requires.well_formed refl))
 
 pub returns-clause-value : goal.returns-clause-value
 returns-clause-value c = search push_fits
