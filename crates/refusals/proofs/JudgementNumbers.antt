@@ -39,7 +39,7 @@ use Rattle.input_steps.specs.Inputs.{vertex_input, fragment_input, input_number,
 use Rattle.output_steps.specs.Outputs.{location_use, location_uses, count_use, clip_slot_count, point_part, local_count, built_in_slot_count, any_of, is_depth, vertex_outputs, attachment_use, fragment_slots, fragment_outputs, slots_step}
 use Rattle.last_steps.specs.Last.{value_use, mesh_use, payload_use, payload_match, primitive_use, draw_use, per_vertex_use, last_step}
 use Rattle.input_steps.specs.declared.types.InputWalk.{InputWalk}
-use Rattle.input_steps.specs.declared.types.Walked.{Walked}
+use Rattle.input_steps.specs.Inputs.{Walked}
 use Rattle.resource_steps.specs.Resources.{resource_nth}
 use Rattle.resource_steps.specs.Resources.{sample_number, filtering, pair_number, pair_use, pair_uses, type_at}
 use Rattle.stage.specs.Stage.{pair_step, input_walk, behind_inputs, judgement}
