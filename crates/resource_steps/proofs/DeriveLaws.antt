@@ -4,10 +4,10 @@ use Prim.Native.Nat.{ℕ, ◌+◌, ◌^◌, ◌<◌, ◌≤◌}
 use native.Mathlib.Omega.{arith}
 use mathlib.Core.Path.{◌≡◌, refl, sym, ap, ◌∙◌}
 use mathlib.Core.Bool.{Bool, true, false, not, ◌&&◌}
-use mathlib.Core.List.{List, [], ◌∷◌}
+use mathlib.Core.List.{List}
 use lib.Dec.{eqb}
 use lib.ListN.{length, drop}
-use borrow.Author.Tests.{ne_eqb, lt-ltb, eqb-true, eqb-false, not-false}
+use borrow.Author.Tests.{eq-eqb, ne_eqb, lt-ltb, eqb-true, eqb-false, not-false}
 use Rattle.word.specs.Choice.{pick}
 use Rattle.word.specs.Words.{word_at, content_of, bits, of_kind}
 use Rattle.word.specs.Answers.{accepted}
@@ -37,10 +37,9 @@ use Rattle.interface.specs.declared.types.SamplingPair.{SamplingPair}
 use Rattle.word.specs.Refusals.{answer_of, refusal_answer}
 use Rattle.word.specs.declared.refusal.Refusal.{Refusal}
 use Rattle.word.proofs.Both.{number_nonzero}
-use Rattle.std.specs.List.{list_any}
 use Rattle.resource_steps.specs.declared.types.EntryType.{EntryType}
 use Rattle.resource_steps.specs.Resources.{resource_nth, layout_after, vacant, place_step, derive_step, named_texture, DeriveResult, derive_result, derive_steps}
-use Rattle.resource_steps.proofs.ResourceParts.{contents_cons, contents_none}
+use Rattle.resource_steps.proofs.ResourceParts.{contents_cons, contents_none, pairs_cons, pairs_none}
 use Rattle.resource_steps.proofs.ResourceWalk.{one_more}
 
 -- the type word and the least size of a binding type that a layout list can hold
@@ -140,10 +139,19 @@ module _ (named : Bool) (w size ty least : ℕ) (h : type_encodable (resource_ty
 
 -- ---- the texture that a pair names
 
-pub named_any : (i : ℕ) (ws : List ℕ) → list_any (λ w. eqb (bits 15 8 w) i) ws ≡ named_texture i (pairs_of ws)
-unfolding named_texture pairs_of
-named_any i [] = refl
-named_any i (w ∷ ws) = by_test (eqb (bits 15 8 w) i) (λ t. rw t) (λ f. rw f (named_any i ws))
+module _ (ws : List ℕ) (k i : ℕ) (goal : Bool) (inv : goal ≡ named_texture i (pairs_of (drop k ws))) where
+  module _ (h : k < length ws) where
+    pub named_here : bits 15 8 (word_at ws k) ≡ i → true ≡ goal
+    unfolding named_texture
+    named_here t = sym (inv ∙ rw (pairs_cons ws k h, eq-eqb (bits 15 8 (word_at ws k)) i t))
+
+    pub named_onward : (bits 15 8 (word_at ws k) ≡ i → ⊥) → goal ≡ named_texture i (pairs_of (drop (k + 1) ws))
+    unfolding named_texture
+    named_onward t = inv ∙ rw (pairs_cons ws k h, ne_eqb (bits 15 8 (word_at ws k)) i t)
+
+  pub named_ended : length ws ≤ k → false ≡ goal
+  unfolding named_texture
+  named_ended h = sym (inv ∙ rw (pairs_none ws k h))
 
 -- only a sampled texture derives by its name
 sampled_alone : (w size : ℕ) (b : Bool) → derive_binding_type (resource_type_of w size) (eqb (type_code w) 2 && b) ≡ derive_binding_type (resource_type_of w size) b

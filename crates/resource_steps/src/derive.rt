@@ -128,7 +128,12 @@ fn derive_step(
 fn named_texture(pairs: &[u32], texture: u32) -> bool
     ensures { result ≡ named_texture texture (pairs_of pairs.now) }
 {
-    pairs.iter().any(|w| *w / 256 % 256 == texture)
+    for w in pairs {
+        if *w / 256 % 256 == texture {
+            return true;
+        }
+    }
+    false
 }
 
 // The same for a sampled texture alone: no other resource derives by its name.

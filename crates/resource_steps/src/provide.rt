@@ -25,11 +25,7 @@ use word_rules::uses::words_use;
 
 // Records the size that a buffer asks for; a list without room is 5.
 #[tactic(auto, unfolding(crate::specs::Resources::record_size, bindings::specs::Format::resource_type_of))]
-fn record_buffer(
-    words: ResourceWords,
-    next: &mut usize,
-    sizes: &mut [u32],
-) -> Result<(), Refusal>
+fn record_buffer(words: ResourceWords, next: &mut usize, sizes: &mut [u32]) -> Result<(), Refusal>
     requires well_formed { sizes_well_formed sizes.old ≡ true }
     ensures sizes_after { sizes_after (answer_of result) (decode_sizes sizes.new)
         ≡ record_size (place_of words.place) (resource_type_of words.ty words.size) (decode_sizes sizes.old) }
