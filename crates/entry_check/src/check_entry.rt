@@ -88,8 +88,8 @@ fn pair_well_formed(w: u32, table: &[Role; 128]) -> bool
 {
     word::kind(w) == 5
         && w / 0x1_0000 % 0x800 == 0
-        && role_at(table, (w / 0x100 % 0x100) as usize) == Role::Texture
-        && role_at(table, (w % 0x100) as usize) == Role::Sampler
+        && matches!(role_at(table, (w / 0x100 % 0x100) as usize), Role::Texture)
+        && matches!(role_at(table, (w % 0x100) as usize), Role::Sampler)
 }
 
 // The position behind so many pairs.
