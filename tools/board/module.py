@@ -18,7 +18,7 @@ TYPED = rf'(?:ptr {VALUE}|{NUMBER} {OPERAND})'
 # two numbers that a function returns: on both processors each lies at a multiple of its own width
 PAIR = r'\{ (?:i8|i16|i32|i64|float|double), (?:i8|i16|i32|i64|float|double) \}'
 RESULT = rf'(?:void|{NUMBER}|{PAIR})'
-NAME = r'(?:"[\w:.<>(), &\'#{}+]+"|bokwingi_\w+)'
+NAME = r'(?:"[\w:.<>(), &\'#{}+=*\[\]]+"|bokwingi_\w+)'
 PARAMETER = rf'{TYPE} (?:noundef )?(?:zeroext |signext )?{VALUE}'
 ARGUMENT = rf'(?:ptr|{NUMBER}) (?:noundef )?(?:zeroext |signext )?{OPERAND}'
 COMPARISON = r'(?:icmp (?:eq|ne|[us](?:lt|le|gt|ge))|fcmp (?:o|u)(?:eq|ne|lt|le|gt|ge))'

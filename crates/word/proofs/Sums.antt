@@ -1,5 +1,5 @@
 -- Laws of the closing sum.
-use Rattle.std.proofs.Common.{◌≡◌, ℕ, ◌+◌, ◌-◌, ◌%◌, ◌^◌, ◌<◌, List, [], ◌∷◌, ◌++◌, length, take, refl, arith}
+use Rattle.std.proofs.Common.{◌≡◌, ℕ, ◌+◌, ◌-◌, ◌%◌, ◌^◌, ◌<◌, List, [], ◌∷◌, ◌++◌, length, get_or, take, zero, suc, refl, add-one, arith}
 use lib.Seq.{take_at}
 use Rattle.std.specs.List.{fold}
 use Rattle.word.specs.Words.{sum_of, closing_sum}
@@ -12,6 +12,14 @@ added_up : (ws : List ℕ) (total : ℕ) → total < 2 ^ 32 → added ws total �
 unfolding sum_of
 added_up [] total h = omega arith
 added_up (w ∷ ws) total h = omega (arith, added_up ws ((total + w) % 2 ^ 32) (omega arith))
+
+pub added_more : (ws : List ℕ) (i total : ℕ) → i < length ws → added (take (i + 1) ws) total ≡ (added (take i ws) total + get_or ws i 0) % 2 ^ 32
+added_more ws i total h = rw add-one (go ws i total h)
+  where
+    go : (ws : List ℕ) (i total : ℕ) → i < length ws → added (take (suc i) ws) total ≡ (added (take i ws) total + get_or ws i 0) % 2 ^ 32
+    go [] i total h = absurd (omega arith)
+    go (w ∷ ws) zero total h = refl
+    go (w ∷ ws) (suc i) total h = go ws i ((total + w) % 2 ^ 32) (omega arith)
 
 -- the words before the last, added up
 pub sum_added : (s before : List ℕ) (last : ℕ) → s ≡ before ++ (last ∷ []) → length before + 1 ≡ length s → added before 0 ≡ closing_sum s

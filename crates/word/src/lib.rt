@@ -41,8 +41,13 @@ pub fn content(w: u32) -> u32
 pub fn closing_sum(s: &[u32]) -> u32
     ensures { result ≡ closing_sum s.now }
 {
-    match s.split_last() {
-        Some((_, before)) => before.iter().fold(0, |total, w| total.wrapping_add(*w)),
-        None => 0,
+    let Some((_, before)) = s.split_last() else {
+        return 0;
+    };
+    let mut total: u32 = 0;
+    // not `fold`: an iterator over a slice hands on pairs with a pointer, which tools/board/build refuses
+    for w in before {
+        total = total.wrapping_add(*w);
     }
+    total
 }
