@@ -1,8 +1,7 @@
 -- Laws of stages and names compared.
-use Rattle.std.proofs.Common.{◌≡◌, ℕ, zero, suc, ◌+◌, ◌-◌, ◌*◌, ◌/◌, ◌%◌, ◌^◌, ◌<◌, ◌≤◌, Bool, true, false, not, ◌||◌, eqb, List, [], ◌∷◌, ◌++◌, length, get_or, take, drop, sym, refl, ap, ◌∙◌, ap₂, add-one, arith, drop_of_length-le, length-take, length-drop, take_all, drop-cons, eq-eqb, ne_eqb}
+use Rattle.std.proofs.Common.{◌≡◌, ℕ, zero, suc, ◌+◌, ◌-◌, ◌*◌, ◌/◌, ◌%◌, ◌^◌, ◌<◌, ◌≤◌, Bool, true, false, not, eqb, List, [], ◌∷◌, ◌++◌, length, get_or, take, drop, sym, refl, ap, ◌∙◌, ap₂, add-one, arith, drop_of_length-le, length-take, length-drop, take_all, drop-cons, eq-eqb, ne_eqb}
 use native.Mathlib.Nat.{zero-sub, sub-zero, suc-sub-suc}
 use borrow.Author.Tests.{not-true, not-false}
-use Rattle.std.specs.List.{list_any}
 use Rattle.word.specs.Choice.{pick}
 use Rattle.word.specs.Words.{word_at}
 use Rattle.word.proofs.Parse.{first_of, others_of}
@@ -168,14 +167,23 @@ module _ (ws : List ℕ) (g h v w : ℕ) (e : v ≡ word_at ws g) (f : w ≡ wor
     unfolding same_head same_name
     heads_compared b n x = rw (← e, ← f, eq-eqb (v / 16777216 % 8) (w / 16777216 % 8) s, ← n) x
 
-pub heads_any : (ws : List ℕ) (h : ℕ) (hs : List ℕ) → list_any (λ g. same_head ws g h) hs ≡ has_head ws h hs
+-- the walk over heads: one that is the same, one that is not, the end
+module _ (ws hs : List ℕ) (h i g : ℕ) (b goal : Bool) (inv : goal ≡ has_head ws h (drop i hs)) (k : i < length hs)
+    (f : g ≡ get_or hs i 0) (e : b ≡ same_head ws g h) where
+  alike : b ≡ same_head ws (get_or hs i 0) h
+  alike = rw (← f) e
+
+  pub head_found : b ≡ true → true ≡ goal
+  unfolding has_head
+  head_found t = sym (inv ∙ rw (drop-cons hs i 0 k, ← alike, t))
+
+  pub head_missed : b ≡ false → goal ≡ has_head ws h (drop (i + 1) hs)
+  unfolding has_head
+  head_missed t = inv ∙ rw (drop-cons hs i 0 k, ← alike, t, add-one i)
+
+pub heads_ended : (ws hs : List ℕ) (h i : ℕ) (goal : Bool) → goal ≡ has_head ws h (drop i hs) → length hs ≤ i → false ≡ goal
 unfolding has_head
-heads_any ws h [] = refl
-heads_any ws h (g ∷ hs) = rw (heads_any ws h hs) (by (same_head ws g h))
-  where
-    by : (t : Bool) → (t || has_head ws h hs) ≡ pick t true (has_head ws h hs)
-    by true = refl
-    by false = refl
+heads_ended ws hs h i goal inv k = sym (inv ∙ rw (drop_of_length-le hs k))
 
 -- the names behind one, as the code takes them
 others_all : (hs : List ℕ) (i : ℕ) → take (length hs - i) (drop i hs) ≡ drop i hs

@@ -44,7 +44,13 @@ fn kinds_next(body: &[u32], from: usize, n: u32, kind: u32) -> Option<usize>
 {
     let end = from + n as usize;
     let words = body.get(from..end)?;
-    words.iter().all(|w| word::kind(*w) == kind).then_some(end)
+    // A `for` and no chain: the board's build has no form for a pair that holds a pointer (docs/BOARD.md).
+    for w in words {
+        if word::kind(*w) != kind {
+            return None;
+        }
+    }
+    Some(end)
 }
 
 fn workgroup_next(body: &[u32], at: usize) -> Option<usize>
@@ -100,10 +106,12 @@ fn pairs_next(body: &[u32], from: usize, n: u32, table: &[Role; 128]) -> Option<
 {
     let end = from + n as usize;
     let words = body.get(from..end)?;
-    words
-        .iter()
-        .all(|w| pair_well_formed(*w, table))
-        .then_some(end)
+    for w in words {
+        if !pair_well_formed(*w, table) {
+            return None;
+        }
+    }
+    Some(end)
 }
 
 // The index that a word of kind 5 holds; a word of another kind gives a number past all indexes.

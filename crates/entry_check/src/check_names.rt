@@ -91,7 +91,12 @@ fn same_head(body: &[u32], g: u16, h: u16) -> bool
 fn head_again(body: &[u32], h: u16, heads: &[u16]) -> bool
     ensures { result ≡ has_head body.now h heads.now }
 {
-    heads.iter().any(|g| same_head(body, *g, h))
+    for g in heads {
+        if same_head(body, *g, h) {
+            return true;
+        }
+    }
+    false
 }
 
 // Whether stage and name together occur once among entry points, listed by the positions of their first words.

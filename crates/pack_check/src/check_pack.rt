@@ -152,9 +152,10 @@ fn limits_next(body: &[u32]) -> Option<usize>
     ensures end { IfSome result (λ next. (next ≡ 15) × (next ≤ length body.now)) }
 {
     let limits = body.get(2..15)?;
-    let good = limits
-        .iter()
-        .fold(true, |good, w| good & (word::kind(*w) == 3));
+    let mut good = true;
+    for w in limits {
+        good = good & (word::kind(*w) == 3);
+    }
     good.then_some(15)
 }
 
