@@ -6,16 +6,15 @@ use native.Mathlib.Numerals.{sub-one}
 use mathlib.Core.Path.{◌≡◌, refl, sym, ap, ◌∙◌}
 use mathlib.Core.Bool.{Bool, true, false}
 use mathlib.Core.List.{List, [], ◌∷◌, ◌++◌, append_assoc, append-nil, map}
-use lib.ListN.{length, take, drop, get_or, set, length-drop, length-append}
-use lib.Seq.{drop-drop, take_at, take_all, drop_at, set-append_left, paste}
-use borrow.Rule.Slice.PartMut.{put_mid}
-use Rattle.std.proofs.lemmas.Slice.{put_mid-paste}
+use lib.ListN.{length, take, drop, get_or, set, length-drop, length-append, take-append-drop}
+use lib.Seq.{drop-drop, take_at, take_all, drop_at, set-append_left, length-take-le}
+use Rattle.std.proofs.lemmas.List.{take_more}
 use borrow.Author.Tests.{le-leb, lt-leb}
 use Rattle.word.specs.Choice.{pick}
 use Rattle.word.specs.Words.{word_at}
 use Rattle.places.specs.Records.{room_for, past, each, put, count_of, records}
 use Rattle.word.specs.Lists.{every, flat}
-use Rattle.places.proofs.Words.{put_next, set_behind}
+use Rattle.places.proofs.Words.{stored_one, put_put, put_next, set_behind}
 use Rattle.word.proofs.Lists.{first_passes, rest_passes}
 
 -- ---- positions
@@ -284,15 +283,6 @@ module _ {A : Type 0} {width : ℕ} {read : List ℕ → A} {words : A → List 
 
 -- ---- a record at the end
 
--- a part of the words written over
-part_written : (l ws part : List ℕ) (at to : ℕ) → part ≡ ws → at + length ws ≡ to → put_mid at (to - at) l part ≡ put l at ws
-unfolding put
-part_written l ws part at to e h =
-    let k : to - at ≡ length ws = omega arith in
-    let p : put_mid at (to - at) l part ≡ paste l at ws (length ws) = put_mid-paste at (to - at) l part ws (length ws) e (sym k) refl in
-    let t : take (length ws) ws ≡ ws = take_all (length ws) ws (omega arith) in
-    p ∙ rw t (append_assoc (take at l) ws (drop (at + length ws) l))
-
 module _ (l : List ℕ) (width n : ℕ) (en : n ≡ count_of l) (h : 1 + width * count_of l ≤ length l) where
   pub record_refused : length l < 1 + width * n + width → false ≡ room_for width (past width (count_of l) (drop 1 l))
   record_refused k = sym (room_lacks 1 width (count_of l) l h (rw en at k))
@@ -300,8 +290,22 @@ module _ (l : List ℕ) (width n : ℕ) (en : n ≡ count_of l) (h : 1 + width *
   pub record_fits : 1 + width * n + width ≤ length l → true ≡ room_for width (past width (count_of l) (drop 1 l))
   record_fits k = sym (room_fits 1 width (count_of l) l h (rw en at k))
 
-pub record_pushed : (l ws part : List ℕ) (width n w : ℕ) → n ≡ count_of l → length ws ≡ width → part ≡ ws → w ≡ word_at l 0
-    → set (put_mid (1 + width * n) (1 + width * n + width - (1 + width * n)) l part) 0 (w + 1) ≡ set (put l (1 + width * count_of l) ws) 0 (word_at l 0 + 1)
-record_pushed l ws part width n w en el ep ew =
-    let p = part_written l ws part (1 + width * n) (1 + width * n + width) ep (omega arith) in
-    rw (p, en, ew)
+-- its words one after the other: the start, one word more, the end
+pub push_start : (l ws : List ℕ) (at : ℕ) → l ≡ put l at (take 0 ws)
+unfolding put
+push_start l ws at = let e : at + 0 ≡ at = omega arith in sym (rw (e, take-append-drop at l))
+
+module _ (l m ws : List ℕ) (at i : ℕ) (inv : m ≡ put l at (take i ws)) (same : length m ≡ length l) (fits : at + length ws ≤ length l) where
+  pub push_onward : i < length ws → set m (at + i) (get_or ws i 0) ≡ put l at (take (i + 1) ws)
+  push_onward h =
+      let k : length (take i ws) ≡ i = length-take-le i ws (omega arith) in
+      let w = get_or ws i 0 in
+      let s : set m (at + i) w ≡ put m (at + i) (w ∷ []) = stored_one m (at + i) w (omega arith) in
+      let p : put (put l at (take i ws)) (at + length (take i ws)) (w ∷ []) ≡ put l at (take i ws ++ (w ∷ [])) = put_put l at (take i ws) (w ∷ []) (omega (arith, k)) in
+      s ∙ rw (take_more ws i 0 h, inv) (rw k at p)
+
+pub record_pushed : (l m ws : List ℕ) (width n i w : ℕ) → n ≡ count_of l → length ws ≡ width → i ≤ width → width ≤ i → m ≡ put l (1 + width * n) (take i ws) → w ≡ word_at l 0
+    → set m 0 (w + 1) ≡ set (put l (1 + width * count_of l) ws) 0 (word_at l 0 + 1)
+record_pushed l m ws width n i w en el hi ki em ew =
+    let t : take i ws ≡ ws = take_all i ws (omega arith) in
+    rw (em, t, en, ew)

@@ -43,6 +43,10 @@ two_at l at h = two (drop at l) (omega (arith, length-drop at l)) ∙ rw (first_
 
 -- ---- words written
 
+pub stored_one : (l : List ℕ) (at a : ℕ) → at + 1 ≤ length l → set l at a ≡ put l at (a ∷ [])
+unfolding put
+stored_one l at a h = sets-eq (a ∷ []) l at h ∙ append_assoc (take at l) (a ∷ []) (drop (at + 1) l)
+
 pub stored_two : (l : List ℕ) (at a b : ℕ) → at + 2 ≤ length l → set (set l at a) (at + 1) b ≡ put l at (a ∷ b ∷ [])
 unfolding put
 stored_two l at a b h = rw (add-one at) (sets-eq (a ∷ b ∷ []) l at h ∙ append_assoc (take at l) (a ∷ b ∷ []) (drop (at + 2) l))

@@ -27,7 +27,10 @@ pub fn push_record<const WIDTH: usize>(l: &mut [u32], words: [u32; WIDTH]) -> bo
         return false;
     }
     let head = l[0];
-    l[at..at + WIDTH].copy_from_slice(&words);
+    // not `copy_from_slice`: it hands on pairs with a pointer, which tools/board/build refuses
+    for i in 0..WIDTH {
+        l[at + i] = words[i];
+    }
     l[0] = head + 1;
     true
 }

@@ -4,10 +4,9 @@ use Prim.Native.Nat.{ℕ, zero, suc, ◌+◌, ◌-◌, ◌*◌, ◌%◌, ◌^◌
 use native.Mathlib.Omega.{arith}
 use mathlib.Core.Path.{◌≡◌, refl, sym, ap, ◌∙◌}
 use mathlib.Core.Bool.{Bool, true, false}
-use mathlib.Core.List.{List, [], ◌∷◌, ◌++◌, append_assoc}
+use mathlib.Core.List.{List, [], ◌∷◌, ◌++◌}
 use lib.ListN.{length, take, drop, set, length-append, length-drop, length-set}
-use lib.Seq.{drop-drop, drop_at, take-append-le, take-take, length-take-le, get_or-set_same}
-use Rattle.std.specs.List.{copy_within}
+use lib.Seq.{drop-drop, length-take-le, get_or-set_same}
 use borrow.Author.Tests.{eqb-true}
 use Rattle.word.specs.Choice.{pick}
 use Rattle.word.specs.Words.{word_at, kind_of, content_of, bits, of_kind}
@@ -20,7 +19,7 @@ use Rattle.varying.proofs.Joined.{payload_written, location_written, var_written
 use Rattle.stage_lists.specs.Meaning.{StageIo, rising, insert, inserted, varying_at, is_provided}
 use Rattle.places.specs.Records.{put, past, each, count_of, records}
 use Rattle.stage_lists.specs.Format.{primitive_code, read_located, located_good, read_varyings, out_well_formed, decode_stage, encode_stage, out_good}
-use Rattle.places.proofs.Words.{there, put_after, put_own, put_kept}
+use Rattle.places.proofs.Words.{there, two_at, drop_put, put_put, put_after, put_own, put_kept}
 use Rattle.word.proofs.Parse.{first_of}
 use Rattle.places.proofs.Records.{read_length, room_left, left_none, each_cons, each_nth, past_drop, flat_append, flat_length, take_read}
 use Rattle.stage_lists.proofs.StageLists.{located_form, WellFormed, well_formed, is_good, code_back, decode_encode, well_formed_encode, good_decode}
@@ -29,20 +28,25 @@ use Rattle.stage_lists.proofs.InsertLaws.{last_from, insert_last, insert_before,
 
 -- ---- records moved up
 
-pub shifted : (l moved m : List ℕ) (at n a b : ℕ) → at + 2 * n + 2 ≤ length l → moved ≡ copy_within l at (at + 2 * n) (at + 2) → m ≡ put moved at (a ∷ b ∷ [])
-    → m ≡ put l at (a ∷ b ∷ take (2 * n) (drop at l))
-unfolding put
-shifted l moved m at n a b h em e =
-    let q = take (2 * n) (drop at l) in
-    let tail = drop (at + 2 + 2 * n) l in
-    let j : at + 2 * n - at ≡ 2 * n = omega arith in
-    let d : length q ≡ 2 * n = length-take-le (2 * n) (drop at l) (omega (arith, length-drop at l)) in
-    let f : length (take (at + 2) l) ≡ at + 2 = length-take-le (at + 2) l (omega arith) in
-    let c : moved ≡ take (at + 2) l ++ (q ++ tail) = em ∙ rw j (append_assoc (take (at + 2) l) q tail) in
-    let t : take at moved ≡ take at l = rw c (take-append-le at (take (at + 2) l) (q ++ tail) (omega (arith, f)) ∙ take-take at (at + 2) l (omega arith)) in
-    let r : drop (at + 2) moved ≡ q ++ tail = rw c (drop_at (take (at + 2) l) (q ++ tail) (at + 2) f) in
-    let k : at + suc (suc (length q)) ≡ at + 2 + 2 * n = omega (arith, d) in
-    e ∙ rw (t, r, k)
+module _ (l goal : List ℕ) (from n i a b : ℕ) (inv : goal ≡ put l (from + 2 * i) (a ∷ b ∷ take (2 * (n - i)) (drop (from + 2 * i) l))) where
+  pub shift_onward : (m : List ℕ) (c d : ℕ) → i < n → from + 2 * n + 2 ≤ length l → c ≡ word_at l (from + 2 * i) → d ≡ word_at l (from + 2 * i + 1)
+      → m ≡ put l (from + 2 * i) (a ∷ b ∷ []) → goal ≡ put m (from + 2 * (i + 1)) (c ∷ d ∷ take (2 * (n - (i + 1))) (drop (from + 2 * (i + 1)) m))
+  shift_onward m c d z h ec ed em =
+      let at = from + 2 * i in
+      let j = 2 * (n - (i + 1)) in
+      let e : 2 * (n - i) ≡ suc (suc j) = omega arith in
+      let f : from + 2 * (i + 1) ≡ at + 2 = omega arith in
+      let q = word_at l at ∷ word_at l (at + 1) ∷ take j (drop (at + 2) l) in
+      let k : length (take j (drop (at + 2) l)) ≡ j = length-take-le j (drop (at + 2) l) (omega (arith, length-drop (at + 2) l)) in
+      let p : put (put l at (a ∷ b ∷ [])) (at + 2) q ≡ put l at (a ∷ b ∷ q) = put_put l at (a ∷ b ∷ []) q (omega (arith, k)) in
+      let r : drop (at + 2) (put l at (a ∷ b ∷ [])) ≡ drop (at + 2) l = drop_put l at (a ∷ b ∷ []) (omega arith) in
+      inv ∙ rw (e, two_at l at (omega arith), em, ec, ed, f, r) (sym p)
+
+  pub shift_ended : (m : List ℕ) → i ≤ n → n ≤ i → m ≡ put l (from + 2 * n) (a ∷ b ∷ []) → m ≡ goal
+  shift_ended m y z em =
+      let k : n - i ≡ 0 = omega arith in
+      let e : n ≡ i = omega arith in
+      em ∙ sym (inv ∙ rw (k, e))
 
 -- ---- a variable put into its place
 

@@ -31,8 +31,18 @@ fn shift(out: &mut [u32], from: usize, n: usize, first: u32, second: u32)
     requires { (from + 2 * n + 2 ≤ length out.old) × (from + 2 * n < 2 ^ 60) }
     ensures { out.new ≡ put out.old from (first ∷ second ∷ take (2 * n) (drop from out.old)) }
 {
-    out.copy_within(from..from + 2 * n, from + 2);
-    store_two(out, from, first, second);
+    // not `copy_within`: it hands on pairs with a pointer, which tools/board/build refuses
+    let mut a = first;
+    let mut b = second;
+    for i in 0..n {
+        let at = from + 2 * i;
+        let c = out[at];
+        let d = out[at + 1];
+        store_two(out, at, a, b);
+        a = c;
+        b = d;
+    }
+    store_two(out, from + 2 * n, a, b);
 }
 
 // A variable put into its place among as many: 1 where its location is new.
