@@ -1,7 +1,7 @@
 // What stands at positions of a type list.
 ghost use Rattle.std.specs.Prelude.{◌≡◌, ◌<◌, ◌≤◌, ◌^◌, drop};
 ghost use Rattle.word.specs.Words.{word_at, content_of, bits};
-ghost use Rattle.type_check.specs.Inner.Positions.{member_width};
+ghost use Rattle.type_check.specs.Inner.Positions.{member_width, struct_at};
 
 // How many words a member takes.
 pub fn member_width(words: &[u32], at: usize) -> usize
@@ -29,4 +29,12 @@ pub fn member_count(words: &[u32], at: usize) -> u32
     ensures few { result < 65536 }
 {
     word::word(words, at) % 0x1_0000
+}
+
+// Whether the type at a position is a struct.
+pub fn is_struct(words: &[u32], at: usize) -> bool
+    ensures { result ≡ struct_at words.now at }
+{
+    let kind = word::kind(word::word(words, at));
+    kind != 22 && kind != 23
 }

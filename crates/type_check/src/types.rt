@@ -3,6 +3,7 @@ ghost use Rattle.std.specs.Prelude.{◌≡◌, ◌<◌, length};
 ghost use Rattle.type_check.specs.Inner.Positions.{earlier_of, struct_at};
 ghost use Rattle.type_check.specs.Inner.Notes.{start_at, note_at, Noted, Noted-prop};
 
+use crate::members::is_struct;
 use crate::notes::{Note, TypeNote};
 
 // As many as are noted, the first of a list, with where each stands and what it gives.
@@ -38,7 +39,6 @@ impl Types<'_> {
         requires { n < self.now.count }
         ensures { result ≡ struct_at self.now.words.now (start_at self.now.notes.now n) }
     {
-        let kind = word::kind(word::word(self.words, self.start(n)));
-        kind != 22 && kind != 23
+        is_struct(self.words, self.start(n))
     }
 }
