@@ -79,7 +79,10 @@ pub extern "C" fn bokwingi_check_stage(
 pub extern "C" fn bokwingi_entry_point(pack: &[u32], stage: u32, details: &mut [u32]) -> u32
     ensures { Handed (finalize_name (decode pack.now) stage) result details.old details.new }
 {
-    hand_out(Answer::from(finalize_entry_point_name(pack, stage)), details)
+    hand_out(
+        Answer::from(finalize_entry_point_name(pack, stage)),
+        details,
+    )
 }
 
 // The type of a vertex format, as a lone type word in the first detail.

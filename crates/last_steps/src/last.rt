@@ -106,11 +106,7 @@ pub(crate) fn primitive_use(
 
 // A mesh stage behind a task stage has no draw index.
 #[tactic(auto, unfolding(crate::specs::Last::draw_use, word::specs::Choice::yes))]
-pub(crate) fn draw_use(
-    stage: ShaderStage,
-    draw: bool,
-    input: Option<u32>,
-) -> Result<(), Refusal>
+pub(crate) fn draw_use(stage: ShaderStage, draw: bool, input: Option<u32>) -> Result<(), Refusal>
     ensures { answer_of result ≡ draw_use stage draw input }
 {
     match (stage, input) {

@@ -29,7 +29,12 @@ fn put_varyings(types: &Types<'_>, asked: usize, binding: Binding, out: &mut [u3
 }
 
 // The answer on the asked type with a binding that is well formed.
-fn populate_asked(types: &Types<'_>, asked: usize, binding: Binding, out: &mut [u32]) -> Result<u32, Refusal>
+fn populate_asked(
+    types: &Types<'_>,
+    asked: usize,
+    binding: Binding,
+    out: &mut [u32],
+) -> Result<u32, Refusal>
     requires { asked < types.now.count }
     ensures { (answer_with result, out.new) ≡ populated (earlier_of types.now.words.now types.now.count) asked (binding_of binding.first binding.second) out.old }
 {
@@ -48,7 +53,12 @@ fn populate_asked(types: &Types<'_>, asked: usize, binding: Binding, out: &mut [
 }
 
 // The answer on the asked type with its binding, which is one whole binding and may stand on the type.
-fn populate_bound(types: &Types<'_>, asked: usize, words: &[u32], out: &mut [u32]) -> Result<u32, Refusal>
+fn populate_bound(
+    types: &Types<'_>,
+    asked: usize,
+    words: &[u32],
+    out: &mut [u32],
+) -> Result<u32, Refusal>
     requires { asked < types.now.count }
     ensures { (answer_with result, out.new) ≡ bound_on (earlier_of types.now.words.now types.now.count) asked (read_binding words.now) out.old }
 {
@@ -63,7 +73,12 @@ fn populate_bound(types: &Types<'_>, asked: usize, words: &[u32], out: &mut [u32
 }
 
 // The varyings of a type of a list with its binding, written one behind the other; their count is the first detail.
-pub fn populate_types(types: &[u32], asked: u32, binding: &[u32], out: &mut [u32]) -> Result<u32, Refusal>
+pub fn populate_types(
+    types: &[u32],
+    asked: u32,
+    binding: &[u32],
+    out: &mut [u32],
+) -> Result<u32, Refusal>
     ensures { (answer_with result, out.new) ≡ populate_call types.now asked binding.now out.old }
 {
     let mut notes = [TypeNote::NONE; 256];

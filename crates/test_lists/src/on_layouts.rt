@@ -91,8 +91,6 @@ pub(crate) fn push(rt: &impl Print, l: &mut [u32], entry: [u32; 4]) -> io::Resul
     }
     match find_entry_word(l, place) {
         Some(_) => print::nothing(rt),
-        None => {
-            print::yes_no(rt, push_entry(l, place, ty, word_size(least), visibility))
-        }
+        None => { print::yes_no(rt, push_entry(l, place, ty, word_size(least), visibility)) }
     }
 }
