@@ -18,11 +18,10 @@ use Rattle.word.proofs.Truth.{by_test}
 use Rattle.word.proofs.Lists.{first_passes, rest_passes}
 use Rattle.layouts.specs.Meaning.{Layout}
 use Rattle.interface.specs.Format.{pair_of, pairs_of}
-use Rattle.word.specs.Refusals.{answer_of, refusal_answer}
+use Rattle.word.specs.Refusals.{answer_of, refusal_answer, number_or_none}
 use Rattle.word.specs.declared.refusal.Number.{Number}
 use Rattle.word.specs.declared.refusal.Refusal.{Refusal}
 use Rattle.word.proofs.Both.{number_nonzero}
-use Rattle.resource_steps.specs.Inner.Stops.{number_or_zero}
 use Rattle.resource_steps.specs.Inner.Given.{pair_below, pairs_below, WordMeans}
 use Rattle.resource_steps.specs.Resources.{filtering, pair_number, type_at, pair_use, pair_uses}
 use Rattle.resource_steps.proofs.ResourceParts.{pairs_cons, pairs_none}
@@ -50,8 +49,8 @@ number_texture w least sampler = by_test (eqb (bits 26 23 w) 0) (λ t. rw t) (λ
 -- ---- one pair
 
 module _ (L : Layout) (t s x y : ℕ) (o : Result Unit Number) (p : WordMeans x (type_at L (place_of t))) (q : WordMeans y (type_at L (place_of s)))
-    (n : number_or_zero o ≡ pair_number (binding_type_of x 0) (binding_type_of y 0)) where
-  pub judged : number_or_zero o ≡ pair_number (type_at L (place_of t)) (type_at L (place_of s))
+    (n : number_or_none o ≡ pair_number (binding_type_of x 0) (binding_type_of y 0)) where
+  pub judged : number_or_none o ≡ pair_number (type_at L (place_of t)) (type_at L (place_of s))
   judged = n ∙ rw (p.1, q.1, number_texture x p.0 (binding_type_of y q.0), number_sampler (binding_type_of x 0) y q.0)
 
 -- ---- one after the other

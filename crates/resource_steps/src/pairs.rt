@@ -2,12 +2,11 @@
 ghost use Rattle.std.specs.Prelude.{◌≡◌, true, length};
 ghost use Rattle.word.specs.Words.{bits};
 ghost use Rattle.word.specs.Numbers.{number_of};
-ghost use Rattle.word.specs.Refusals.{answer_of, refusal_answer};
+ghost use Rattle.word.specs.Refusals.{answer_of, refusal_answer, number_or_none};
 ghost use Rattle.bindings.specs.Format.{place_of, sample_at, binding_type_of};
 ghost use Rattle.layouts.specs.Format.{layout_well_formed, decode_layout};
 ghost use Rattle.interface.specs.Format.{pair_of, pairs_of};
 ghost use Rattle.resource_steps.specs.Inner.Given.{pair_below, pairs_below, WordMeans};
-ghost use Rattle.resource_steps.specs.Inner.Stops.{number_or_zero};
 ghost use Rattle.resource_steps.specs.Resources.{filtering, sample_number, pair_number, type_at, pair_answer, pair_use, pair_uses};
 
 use crate::resources::noted;
@@ -28,7 +27,7 @@ fn filtering(sampler: u32) -> bool
 // What filtering asks of a texture's type word: 32 for a float that is not filterable, 33 for an integer.
 #[tactic(auto, unfolding(word::specs::Choice::yes))]
 fn sample_use(texture: u32) -> Result<(), Number>
-    ensures { number_or_zero result ≡ sample_number (sample_at (bits 6 4 texture)) }
+    ensures { number_or_none result ≡ sample_number (sample_at (bits 6 4 texture)) }
 {
     match texture / 16 % 8 {
         0 | 2 => Ok(()),
@@ -40,7 +39,7 @@ fn sample_use(texture: u32) -> Result<(), Number>
 // The type words of a texture's entry and of a sampler's entry: 34 where the first is no texture.
 #[tactic(auto, unfolding(crate::specs::Resources::pair_number, bindings::specs::Format::binding_type_of))]
 fn types_use(texture: u32, sampler: u32) -> Result<(), Number>
-    ensures { number_or_zero result ≡ pair_number (binding_type_of texture 0) (binding_type_of sampler 0) }
+    ensures { number_or_none result ≡ pair_number (binding_type_of texture 0) (binding_type_of sampler 0) }
 {
     match texture / 0x80_0000 % 16 {
         2 => {

@@ -1,6 +1,6 @@
 // The resources of an entry point against a provided layout: their sizes recorded, and each served by its entry.
 ghost use Rattle.std.specs.Prelude.{◌≡◌, true, ◌<◌, length};
-ghost use Rattle.word.specs.Refusals.{answer_of};
+ghost use Rattle.word.specs.Refusals.{answer_of, number_or_none};
 ghost use Rattle.bindings.specs.Format.{place_of, resource_type_of, resource};
 ghost use Rattle.layouts.specs.Meaning.{find_entry, entry_nth};
 ghost use Rattle.layouts.specs.Format.{layout_well_formed, decode_layout};
@@ -8,7 +8,7 @@ ghost use Rattle.sizes.specs.Format.{sizes_well_formed, decode_sizes};
 ghost use Rattle.interface.specs.Format.{contents};
 ghost use Rattle.resource_steps.specs.Inner.Given.{each_below};
 ghost use Rattle.resource_steps.specs.Inner.Notes.{note_at, step_notes, provide_notes};
-ghost use Rattle.resource_steps.specs.Inner.Stops.{number_or_zero, stopped_answer, stopped_passed};
+ghost use Rattle.resource_steps.specs.Inner.Stops.{stopped_answer, stopped_passed};
 ghost use Rattle.resource_steps.specs.Resources.{resource_nth, sizes_after, record_size, entry_use, provided_use, provide_step, provide_result, provide_steps};
 
 use crate::resources::{note, noted, place_refusal};
@@ -50,7 +50,7 @@ fn entry_use(
 ) -> Result<(), Number>
     requires well_formed { layout_well_formed layout.now ≡ true }
     requires index_in_bounds { index < length (decode_layout layout.now).entries }
-    ensures { number_or_zero result
+    ensures { number_or_none result
         ≡ entry_use stage (resource_type_of words.ty words.size) (entry_nth (decode_layout layout.now).entries index) }
 {
     if !sees(entry_visibility(layout, index), stage_code(stage)) {
