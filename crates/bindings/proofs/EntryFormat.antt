@@ -1,5 +1,6 @@
 -- Reader and writer of layout entries belong together.
 use Rattle.std.proofs.Common.{◌≡◌, ℕ, ◌+◌, ◌*◌, ◌/◌, ◌%◌, ◌^◌, ◌<◌, Bool, true, false, ◌&&◌, ◌||◌, eqb, ltb, [], ◌∷◌, sym, refl, ◌∙◌, arith, ltb-true, lt-ltb, eq-eqb, ne_eqb, eqb-true}
+use Rattle.std.proofs.lemmas.Bool.{or_right}
 use native.Mathlib.Nat.{div-add-mod, div-div-eq-div-mul}
 use borrow.Author.Tests.{eqb-false}
 use Rattle.word.specs.Choice.{yes}
@@ -20,7 +21,7 @@ use Rattle.bindings.specs.declared.types.StorageTextureAccess.TheVariants as Acc
 use Rattle.bindings.specs.declared.types.BindingType.{BindingType}
 use Rattle.bindings.specs.declared.types.BindingType.TheVariants as Bind
 use Rattle.bindings.specs.declared.types.BindGroupLayoutEntry.{BindGroupLayoutEntry}
-use Rattle.word.proofs.Truth.{first, second, or_right, by_test, never, codes_back}
+use Rattle.word.proofs.Truth.{first, second, by_test, never, codes_back}
 use Rattle.bindings.proofs.CodeLaws.{flag_most, sample_most, view_most, access_most, buffer_most, code_fits, least_fits}
 use Rattle.bindings.proofs.ReadLaws.{place_encodable_lem}
 

@@ -1,7 +1,8 @@
--- What an entry refuses a resource for: never that none can be derived for its address space.
+-- What an entry refuses a resource for: never that none can be derived for its address space. A derivation is refused for that alone.
 use Rattle.std.proofs.Common.{◌≡◌, Bool, true, false, refl, Result, Ok, Err, eqb, ltb}
 use Rattle.word.specs.Choice.{pick}
-use Rattle.bindings.specs.Rules.{same_bool, storable, space_of, same_space, buffer_use, comparing, sampler_use, class_of, view_fits, sampled_fits, storage_fits, access_of, is_external, class_use, texture_use, acceleration_use, check_binding_use}
+use Rattle.bindings.specs.Rules.{same_bool, storable, space_of, same_space, buffer_use, comparing, sampler_use, class_of, view_fits, sampled_fits, storage_fits, access_of, is_external, class_use, texture_use, acceleration_use, check_binding_use, derive_binding_type}
+use Rattle.bindings.specs.declared.types.AddressSpace.TheVariants as Space
 use Rattle.bindings.specs.declared.types.ResourceType.{ResourceType}
 use Rattle.bindings.specs.declared.types.ResourceType.TheVariants as Res
 use Rattle.bindings.specs.declared.types.TextureViewDimension.TheVariants as View
@@ -59,3 +60,24 @@ use_gives (Res.AccelerationStructure returns) (Bind.Texture sample view multi) =
 use_gives (Res.AccelerationStructure returns) (Bind.StorageTexture access format view) = refl
 use_gives (Res.AccelerationStructure returns) Bind.ExternalTexture = refl
 use_gives (Res.AccelerationStructure returns) (Bind.AccelerationStructure r) = either (same_bool returns r) _ _ refl refl
+
+-- an error that a derivation gives
+abbrev pub derives : Result BindingType BindingError → Bool
+derives (Ok ty) = true
+derives (Err Error.WrongType) = false
+derives (Err Error.WrongAddressSpace) = false
+derives (Err Error.WrongBufferAddressSpace) = true
+derives (Err Error.WrongBufferSize) = false
+derives (Err Error.WrongTextureViewDimension) = false
+derives (Err Error.WrongTextureClass) = false
+derives (Err Error.WrongSamplerComparison) = false
+derives (Err Error.BadStorageFormat) = false
+
+pub derivation_gives : (r : ResourceType) (named : Bool) → derives (derive_binding_type r named) ≡ true
+unfolding derive_binding_type
+derivation_gives (Res.Buffer size Space.Uniform) named = refl
+derivation_gives (Res.Buffer size (Space.Storage access)) named = refl
+derivation_gives (Res.Buffer size Space.Other) named = refl
+derivation_gives (Res.Sampler comparison) named = refl
+derivation_gives (Res.Texture dim arrayed class) named = refl
+derivation_gives (Res.AccelerationStructure returns) named = refl

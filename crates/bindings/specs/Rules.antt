@@ -46,11 +46,6 @@ abbrev pub use_number : Result Unit BindingError → ℕ
 use_number (Ok served) = 0
 use_number (Err e) = error_number e
 
--- the number of a derivation
-abbrev pub derived_number : Result BindingType BindingError → ℕ
-derived_number (Ok ty) = 0
-derived_number (Err e) = error_number e
-
 -- ---- numbers of the enums that are compared (document 01's codes)
 
 abbrev pub sample_kind_code : SampleKind → ℕ

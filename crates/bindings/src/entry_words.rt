@@ -11,6 +11,8 @@ use crate::types::{
 };
 use word::word;
 
+// What a code means: the words are tested before they are read, and past the last code each of these gives the last case.
+// A `From` would hide that, and the error of a `TryFrom` could not come up.
 fn view_at(code: u32) -> TextureViewDimension
     ensures { result ≡ view_at code }
 {
@@ -24,6 +26,7 @@ fn view_at(code: u32) -> TextureViewDimension
     }
 }
 
+// No `From`, as above.
 fn sample_at(code: u32) -> TextureSampleType
     ensures { result ≡ sample_at code }
 {
@@ -36,6 +39,7 @@ fn sample_at(code: u32) -> TextureSampleType
     }
 }
 
+// No `From`, as above.
 fn access_at(code: u32) -> StorageTextureAccess
     ensures { result ≡ access_at code }
 {
@@ -47,6 +51,7 @@ fn access_at(code: u32) -> StorageTextureAccess
     }
 }
 
+// No `From`, as above.
 fn sampler_at(code: u32) -> SamplerBindingType
     ensures { result ≡ sampler_at code }
 {
@@ -57,6 +62,7 @@ fn sampler_at(code: u32) -> SamplerBindingType
     }
 }
 
+// No `From`: a word holds more than the two bits that are read.
 fn buffer_at(w: u32) -> BufferBindingType
     ensures { result ≡ buffer_at w }
 {

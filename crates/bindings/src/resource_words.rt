@@ -31,6 +31,7 @@ pub fn place_of(w: u32) -> ResourceBinding
     }
 }
 
+// What a code means. No `From` of a number: past the last code it gives the last case, where the words were tested before.
 fn dimension_at(code: u32) -> ImageDimension
     ensures { result ≡ dimension_at code }
 {
@@ -42,6 +43,7 @@ fn dimension_at(code: u32) -> ImageDimension
     }
 }
 
+// No `From`, as above.
 fn sample_kind_at(code: u32) -> SampleKind
     ensures { result ≡ sample_kind_at code }
 {
@@ -52,6 +54,7 @@ fn sample_kind_at(code: u32) -> SampleKind
     }
 }
 
+// No `From`: two numbers, of which the first may be any.
 fn space_at(code: u32, access: u32) -> AddressSpace
     ensures { result ≡ space_at code access }
 {

@@ -9,6 +9,7 @@ pub struct ResourceBinding {
 }
 
 // Where a buffer lives. Access is the sum of 1 load, 2 store and 4 atomic.
+// It stays a number, as a texture's access and format do: the rules answer for any, and a caller may give any.
 #[derive(Clone, Copy, Debug, PartialEq, Eq)]
 pub enum AddressSpace {
     Uniform,
@@ -104,7 +105,7 @@ pub enum StorageTextureAccess {
     Atomic = 3,
 }
 
-// What a layout entry provides. A least size of 0 is none.
+// What a layout entry provides. A least size of 0 is none, as in the words: an Option would have two values for that, None and Some(0).
 #[derive(Clone, Copy, Debug, PartialEq, Eq)]
 pub enum BindingType {
     Buffer {

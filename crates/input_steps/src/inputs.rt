@@ -136,26 +136,27 @@ pub(crate) fn input_step(
     Ok(())
 }
 
-// Each input in order, until one is refused.
+// Each input in order, until one is refused, and what the walk has met by then.
 pub fn input_steps(
     pack: &[u32],
     from: usize,
     n: usize,
     inputs: &[u32],
     stage: ShaderStage,
-    walk: &mut InputWalk,
-) -> Result<(), Refusal>
+) -> (Result<(), Refusal>, InputWalk)
     requires in_bounds { (varyings_end pack.now n from < length pack.now) × (length pack.now ≤ 4096) × (n ≤ 63) }
     requires well_formed { out_well_formed inputs.now ≡ true }
-    requires room { walk.old.locals + n < 2 ^ 31 }
-    ensures answer { answer_of result ≡ (input_steps stage (decode_stage inputs.now).varyings (varyings n (drop from pack.now)) walk.old).answer }
-    ensures walk { walk.new ≡ (input_steps stage (decode_stage inputs.now).varyings (varyings n (drop from pack.now)) walk.old).walk }
+    ensures answer { answer_of result.0 ≡ (input_steps stage (decode_stage inputs.now).varyings (varyings n (drop from pack.now)) start_walk).answer }
+    ensures walk { result.1 ≡ (input_steps stage (decode_stage inputs.now).varyings (varyings n (drop from pack.now)) start_walk).walk }
 {
+    let mut walk = InputWalk::START;
     let mut at = from;
     for _i in 0..n {
         let first = pack[at];
-        input_step(stage, inputs, first, pack[at + 1], walk)?;
+        if let Err(refusal) = input_step(stage, inputs, first, pack[at + 1], &mut walk) {
+            return (Err(refusal), walk);
+        }
         at += varying_width(first);
     }
-    Ok(())
+    (Ok(()), walk)
 }

@@ -1,4 +1,3 @@
-// What the walk over the inputs comes to.
 // What the walk over an entry point's inputs has met.
 #[derive(Clone, Copy, Debug, PartialEq, Eq)]
 pub struct InputWalk {

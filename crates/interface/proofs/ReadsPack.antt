@@ -1,4 +1,5 @@
 -- What an accepted pack holds stands at the positions that its words give.
+use Rattle.std.proofs.lemmas.Bool.{or_parts}
 use Prim.Native.Nat.{ℕ, ◌+◌, ◌-◌, ◌<◌, ◌≤◌}
 use native.Mathlib.Omega.{arith}
 use mathlib.Core.Path.{◌≡◌, refl, sym, ap, ◌∙◌}
@@ -15,7 +16,7 @@ use Rattle.word.proofs.ParseReads.{Stands, next_then, next_reads, picked, one_st
 use Rattle.bindings.specs.Format.{read_resource, resource, resource_at, is_buffer_word, place_well_formed, resource_word_well_formed, size_well_formed}
 use Rattle.bindings.specs.declared.types.Resource.{Resource}
 use Rattle.bindings.proofs.ReadLaws.{type_sizeless}
-use Rattle.word.proofs.Truth.{first, second, neither, by_test}
+use Rattle.word.proofs.Truth.{first, second, by_test}
 use Rattle.interface.specs.Meaning.{Interface}
 use Rattle.interface.specs.Format.{read_pack, read_entry_point, edition_well_formed, totals_well_formed, of_word, limits_of, distinct_names, Decoded, Damaged, Malformed, Pack, damaged, whole, body, decode, decoded_number}
 use Rattle.interface.specs.Format.{interface_of}
@@ -122,9 +123,9 @@ pub record Sound (ws : List ℕ) : Type 0 where
 sound : (ws : List ℕ) → damaged ws ≡ false → Sound ws
 unfolding damaged
 sound ws h =
-    let (a, b) = neither (ltb (length ws) 16) _ h in
-    let (c, d) = neither (ltb 4096 (length ws)) _ b in
-    let (f, g) = neither (not (eqb (bits 15 0 (word_at ws 0)) (length ws))) _ d in
+    let (a, b) = or_parts (ltb (length ws) 16) _ h in
+    let (c, d) = or_parts (ltb 4096 (length ws)) _ b in
+    let (f, g) = or_parts (not (eqb (bits 15 0 (word_at ws 0)) (length ws))) _ d in
     record {
       long = ltb-false (length ws) 16 a;
       short = ltb-false 4096 (length ws) c;

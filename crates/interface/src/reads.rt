@@ -10,7 +10,7 @@ use crate::parts::parts_at;
 use crate::types::{BuiltIn, EntryParts, Limits, PrimitiveTopology, SamplingPair, ShaderStage};
 use word::{content, kind};
 
-// The stage that a code means; a pack's codes are those below 5.
+// The stage that a code means; a pack's codes are those below 5. No `From` of a number: it gives the last case past the last code.
 pub fn stage_at(code: u32) -> ShaderStage
     ensures { result ≡ stage_at code }
 {
@@ -30,7 +30,7 @@ pub fn stage_code(stage: ShaderStage) -> u32
     stage as u32
 }
 
-// The topology that a code means; a pack's codes are those below 5.
+// The topology that a code means; a pack's codes are those below 5. No `From`, as above.
 pub fn topology_at(code: u32) -> PrimitiveTopology
     ensures { result ≡ topology_at code }
 {
@@ -43,7 +43,7 @@ pub fn topology_at(code: u32) -> PrimitiveTopology
     }
 }
 
-// The built-in that a word of kind 14 means.
+// The built-in that a word of kind 14 means. No `From`: a word of another kind means none.
 pub fn built_in_of(w: u32) -> BuiltIn
     ensures { result ≡ built_in_of w }
 {
@@ -65,7 +65,7 @@ pub fn varying_width(w: u32) -> usize
     if kind(w) == 12 { 2 } else { 1 }
 }
 
-// The sampling pair that a word means.
+// The sampling pair that a word means. No `From`: a word of another kind means none.
 pub fn pair_of(w: u32) -> SamplingPair
     ensures value { result ≡ pair_of w }
     ensures below_256 { (result.texture < 256) × (result.sampler < 256) }

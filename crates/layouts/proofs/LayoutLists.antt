@@ -6,9 +6,10 @@ use mathlib.Core.Bool.{true}
 use mathlib.Core.List.{List, [], ◌∷◌, ◌++◌}
 use lib.ListN.{length, drop}
 use borrow.Author.Tests.{eqb-true, leb-true, le-leb}
+use Rattle.std.proofs.lemmas.Bool.{and_from}
 use Rattle.word.specs.Words.{word_at, kind_of, bits, of_kind}
 use Rattle.bindings.specs.Format.{entry_words, place_of, place_word, entry_of, entry_encodable}
-use Rattle.word.proofs.Truth.{first, second, both}
+use Rattle.word.proofs.Truth.{first, second}
 use Rattle.layouts.specs.Meaning.{Layout, distinct_entries}
 use Rattle.word.specs.Lists.{every}
 use Rattle.places.specs.Records.{each, count_of}
@@ -45,7 +46,7 @@ entry_form groups =
     record {
       wide = entry_wide;
       written = λ ws h t. rw (entry_back (word_at ws 0) (word_at ws 1) (word_at ws 2) (word_at ws 3) (search first)) (sym (four ws h));
-      kept = λ ws t. both (entry_encodable (read_entry ws)) (ltb (read_place ws).group groups)
+      kept = λ ws t. and_from (entry_encodable (read_entry ws)) (ltb (read_place ws).group groups)
           (entry_encodable_lem (word_at ws 0) (word_at ws 1) (word_at ws 2) (word_at ws 3) (search first)) (search second);
       again = λ e ws t. entry_again e ws (search first);
       passed = entry_passed groups;

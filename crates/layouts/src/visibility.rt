@@ -2,7 +2,8 @@
 ghost use Rattle.std.specs.Prelude.{◌≡◌, ◌+◌, ◌<◌, ◌≤◌, ◌^◌};
 ghost use Rattle.layouts.specs.Meaning.{sees_bit, join_bit};
 
-// Whether a visibility has a stage's bit.
+// Whether a visibility has a stage's bit. A stage is its number here: the enum stands in interface, above the lists, and would be turned into
+// the number at each call.
 pub fn sees(visibility: u32, stage: u32) -> bool
     requires { stage ≤ 4 }
     ensures { result ≡ sees_bit stage visibility }

@@ -5,6 +5,7 @@ ghost use Rattle.numeric.specs.TypeWords.{kind_at, vector_size_at, shape_at, wid
 use crate::types::{Misfit, NumericDimension, NumericType, Scalar, ScalarKind, VectorSize};
 use word::refusal::Number;
 
+// What a code means. No `From` of a number: past the last code it gives the last case, where the words were tested before.
 fn kind_at(code: u32) -> ScalarKind
     ensures { result ≡ kind_at code }
 {
@@ -16,6 +17,7 @@ fn kind_at(code: u32) -> ScalarKind
     }
 }
 
+// No `From`, as above.
 fn size_at(components: u32) -> VectorSize
     ensures { result ≡ vector_size_at components }
 {
@@ -26,6 +28,7 @@ fn size_at(components: u32) -> VectorSize
     }
 }
 
+// No `From`: it asks for a code below 16.
 fn dimension_at(code: u32) -> NumericDimension
     requires { code < 16 }
     ensures { result ≡ shape_at code }

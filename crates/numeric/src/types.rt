@@ -69,9 +69,9 @@ pub struct NumericType {
 // Why a type does not fit where another is provided.
 #[derive(Clone, Copy, Debug, PartialEq, Eq)]
 pub enum Misfit {
-    TooWide = 1,
-    OtherKind = 2,
-    OtherShape = 3,
+    TooWide,
+    OtherKind,
+    OtherShape,
 }
 
 // Whether a shape is below another: a scalar below a vector, a vector below a longer one, a matrix below itself.

@@ -5,6 +5,7 @@ use native.Mathlib.Omega.{arith}
 use mathlib.Core.Path.{◌≡◌, refl, sym, ◌∙◌}
 use mathlib.Core.Bool.{Bool, true, false, not, ◌&&◌, ◌||◌, or-false}
 use mathlib.Core.List.{List, [], ◌∷◌}
+use mathlib.Core.Logic.{◌⊎◌, inl, inr}
 use lib.Dec.{eqb, ltb}
 use lib.ListN.{length, drop}
 use borrow.Author.Tests.{eq-eqb, ne_eqb, lt-ltb, le-ltb, ltb-true}
@@ -37,6 +38,10 @@ use Rattle.output_steps.specs.Inner.Summary.{reach_part, reach_of, nothing, summ
 use Rattle.output_steps.specs.declared.types.Summary.{Summary}
 use Rattle.interface.proofs.ReadsWays.{width_there}
 use Rattle.input_steps.proofs.VaryingLaws.{varyings_left, varyings_none, Ahead, ahead_onward}
+
+-- varyings are left where the index is below their number
+pub left_some : (n i : ℕ) → i < n → n - i ≡ 0 → ⊥
+left_some n i h z = omega arith
 
 -- ---- summaries
 
@@ -84,33 +89,21 @@ one_varying : (v : Varying) → summary_of (v ∷ []) ≡ part_of v
 unfolding summary_of local_count clip_slot_count built_in_slot_count reach_of any_of
 one_varying v = simp (add-zero, max-zero, pick_itself)
 
--- a built-in by the code and the slots of its word
-abbrev coded : ℕ → ℕ → BuiltIn
-coded code slots =
-    pick (eqb code 0) (In.Other slots) (pick (eqb code 1) (In.PrimitiveIndex slots) (pick (eqb code 2) (In.DrawIndex slots)
-    (pick (eqb code 3) (In.FragDepth slots) (In.ClipDistances slots))))
+-- a built-in by itself
+pub built_in_one : (b : BuiltIn) (r : Summary) → r ≡ part_of (Var.BuiltIn b) → r ≡ summary_of (Var.BuiltIn b ∷ [])
+built_in_one b r e = e ∙ sym (one_varying (Var.BuiltIn b))
 
-pub built_in_taking : (w : ℕ) (r : Summary) → w / 2 ^ 24 % 8 < 4
-    → r ≡ record { locals = 0; clip_slots = 0; built_in_slots = w % 256; reach = 0; depth = eqb (w / 2 ^ 24 % 8) 3; primitive = eqb (w / 2 ^ 24 % 8) 1 }
-    → r ≡ summary_of (Var.BuiltIn (built_in_of w) ∷ [])
-built_in_taking w r h e = e ∙ go (w / 2 ^ 24 % 8) (w % 256) h ∙ sym (one_varying (Var.BuiltIn (built_in_of w)))
+-- the clip distances that a word means are at most as many as a byte counts
+pub clip_few : (b : BuiltIn) (w size : ℕ) → b ≡ built_in_of w → b ≡ In.ClipDistances size → size < 256
+clip_few b w size e f = go (eqb (bits 26 24 w) 0) (eqb (bits 26 24 w) 1) (eqb (bits 26 24 w) 2) (eqb (bits 26 24 w) 3) (sym f ∙ e)
   where
-    go : (code slots : ℕ) → code < 4
-        → ◌≡◌ {A = Summary} (record { locals = 0; clip_slots = 0; built_in_slots = slots; reach = 0; depth = eqb code 3; primitive = eqb code 1 })
-        (part_of (Var.BuiltIn (coded code slots)))
-    go zero slots h = refl
-    go (suc zero) slots h = refl
-    go (suc (suc zero)) slots h = refl
-    go (suc (suc (suc zero))) slots h = refl
-    go (suc (suc (suc (suc code)))) slots h = absurd (omega (arith, h))
-
-clip_coded : (code size : ℕ) → 4 ≤ code → coded code size ≡ In.ClipDistances size
-clip_coded code size h = rw (ne_eqb code 0 (omega (arith, h)), ne_eqb code 1 (omega (arith, h)), ne_eqb code 2 (omega (arith, h)), ne_eqb code 3 (omega (arith, h)))
-
-pub built_in_clip : (w q : ℕ) → 4 ≤ w / 2 ^ 24 % 8 → q ≡ (w % 256 + 3) / 4
-    → ◌≡◌ {A = Summary} (record { locals = 0; clip_slots = q; built_in_slots = 0; reach = 0; depth = false; primitive = false })
-    (summary_of (Var.BuiltIn (built_in_of w) ∷ []))
-built_in_clip w q h e = rw (e, clip_coded (w / 2 ^ 24 % 8) (w % 256) h) (sym (one_varying (Var.BuiltIn (In.ClipDistances (w % 256)))))
+    go : (a b c d : Bool) → In.ClipDistances size ≡ pick a (In.Other (bits 7 0 w)) (pick b (In.PrimitiveIndex (bits 7 0 w)) (pick c (In.DrawIndex (bits 7 0 w))
+        (pick d (In.FragDepth (bits 7 0 w)) (In.ClipDistances (bits 7 0 w))))) → size < 256
+    go true b c d x = let y : ◌≡◌ {A = ℕ} 0 1 = cc in absurd (omega arith)
+    go false true c d x = let y : ◌≡◌ {A = ℕ} 0 1 = cc in absurd (omega arith)
+    go false false true d x = let y : ◌≡◌ {A = ℕ} 0 1 = cc in absurd (omega arith)
+    go false false false true x = let y : ◌≡◌ {A = ℕ} 0 1 = cc in absurd (omega arith)
+    go false false false false x = let y : size ≡ bits 7 0 w = cc in omega arith
 
 -- ---- a varying by its first word
 
@@ -330,24 +323,29 @@ module _ (vs : List Varying) (s : Summary) (hs : s ≡ summary_of vs) where
 
 -- ---- attachments
 
-module _ (ws : List ℕ) (p : EntryParts) (dual depth : Bool) (r : Answer) (head : ℕ) (b : Bool) (eh : head ≡ word_at ws p.head)
-    (e : b ≡ (dual && not (eqb (head % 2) 1))) where
-  shader_is : (standing ws p).dual ≡ eqb (head % 2) 1
+module _ (ws : List ℕ) (p : EntryParts) (dual : Bool) where
+  shader_is : (standing ws p).dual ≡ eqb (word_at ws p.head % 2) 1
   unfolding standing
-  shader_is = rw eh
+  shader_is = refl
 
-  pub dual_lacks : b ≡ true → r ≡ refused 66 → r ≡ attachment_use dual depth (standing ws p).dual (standing ws p).outputs
+  pub dual_given : (dual ≡ true × word_at ws p.head % 2 ≡ 1) ⊎ (dual ≡ false) → dual && not (eqb (word_at ws p.head % 2) 1) ≡ false
+  dual_given (inl (d, e)) = rw (d, eq-eqb (word_at ws p.head % 2) 1 e)
+  dual_given (inr d) = rw d
+
+module _ (ws : List ℕ) (p : EntryParts) (s : Summary) (g : Summed ws p s) (dual depth : Bool) (r : Answer) where
+  pub dual_absent : dual ≡ true → (word_at ws p.head % 2 ≡ 1 → ⊥) → r ≡ refused 66
+      → r ≡ attachment_use dual depth (standing ws p).dual (standing ws p).outputs
   unfolding attachment_use yes
-  dual_lacks t x = rw (shader_is, ← e, t) x
+  dual_absent d n x = rw (shader_is ws p dual, d, ne_eqb (word_at ws p.head % 2) 1 n) x
 
-  module _ (s : Summary) (g : Summed ws p s) (d : Bool) (f : d ≡ (s.depth && not depth)) (n : b ≡ false) where
-    pub depth_lacks : d ≡ true → r ≡ refused 67 → r ≡ attachment_use dual depth (standing ws p).dual (standing ws p).outputs
+  module _ (f : dual && not (eqb (word_at ws p.head % 2) 1) ≡ false) where
+    pub depth_absent : s.depth ≡ true → not depth ≡ true → r ≡ refused 67 → r ≡ attachment_use dual depth (standing ws p).dual (standing ws p).outputs
     unfolding attachment_use yes
-    depth_lacks t x = rw (shader_is, ← e, n, depth_is (standing ws p).outputs s g.outputs, ← f, t) x
+    depth_absent d n x = rw (shader_is ws p dual, f, depth_is (standing ws p).outputs s g.outputs, d, n) x
 
-    pub attachments_good : d ≡ false → r ≡ accepted → r ≡ attachment_use dual depth (standing ws p).dual (standing ws p).outputs
+    pub attachments_good : s.depth && not depth ≡ false → r ≡ accepted → r ≡ attachment_use dual depth (standing ws p).dual (standing ws p).outputs
     unfolding attachment_use yes
-    attachments_good t x = rw (shader_is, ← e, n, depth_is (standing ws p).outputs s g.outputs, ← f, t) x
+    attachments_good d x = rw (shader_is ws p dual, f, depth_is (standing ws p).outputs s g.outputs, d) x
 
 -- ---- an entry point by its parts
 

@@ -1,3 +1,4 @@
 pub mod Given
 pub mod ListOut
+pub mod Stands
 pub mod Summary

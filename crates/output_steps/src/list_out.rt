@@ -3,18 +3,18 @@ ghost use Rattle.std.specs.Prelude.{◌≡◌, true, [], ◌∷◌, ◌+◌, ◌
 ghost use Rattle.word.specs.Lists.{every};
 ghost use Rattle.varying.specs.Format.{payload_encodable};
 ghost use Rattle.stage_lists.specs.Format.{out_well_formed, decode_stage, encode_stage};
-ghost use Rattle.interface.specs.Inner.Reads.{varying, varyings, standing};
-ghost use Rattle.interface.specs.Inner.Parts.{Placed, varyings_end};
+ghost use Rattle.interface.specs.Inner.Reads.{varying, varyings};
+ghost use Rattle.output_steps.specs.Inner.Stands.{meant};
+ghost use Rattle.interface.specs.Inner.Parts.{varyings_end};
 ghost use Rattle.output_steps.specs.Outputs.{is_local, local_count};
 ghost use Rattle.output_steps.specs.ListOut.{locals_of, primitive_out, stage_out};
-ghost use Rattle.output_steps.specs.Inner.Given.{Summed};
 ghost use Rattle.output_steps.specs.Inner.ListOut.{output_encodable, handed};
 
-use crate::types::Summary;
+use crate::types::EntryPoint;
 use input_steps::types::InputWalk;
 use interface::parts::Counts;
 use interface::reads::varying_width;
-use interface::types::{EntryParts, ShaderStage};
+use interface::types::ShaderStage;
 use stage_lists::list_out::{begin_out, insert_words};
 use word::kind;
 
@@ -73,22 +73,15 @@ pub(crate) fn write_out(
     out[0] = head;
 }
 
-// The list out of the entry point whose parts stand at these positions.
-pub fn list_out(
-    pack: &[u32],
-    parts: EntryParts,
-    stage: ShaderStage,
-    walk: InputWalk,
-    outputs: Summary,
-    out: &mut [u32],
-)
-    requires placed { Placed pack.now parts × Summed pack.now parts outputs }
-    requires parts_value { every output_encodable (standing pack.now parts).outputs ≡ true }
-    requires parts_in_bounds { 2 + 2 * local_count (standing pack.now parts).outputs ≤ length out.old }
-    ensures { out.new ≡ encode_stage (stage_out stage (standing pack.now parts) walk out.old) }
+// The list out of an entry point.
+pub fn list_out(entry: &EntryPoint<'_>, stage: ShaderStage, walk: InputWalk, out: &mut [u32])
+    requires encodable { every output_encodable (meant entry.now).outputs ≡ true }
+    requires room { 2 + 2 * local_count (meant entry.now).outputs ≤ length out.old }
+    ensures { out.new ≡ encode_stage (stage_out stage (meant entry.now) walk out.old) }
 {
-    let n = Counts::of(pack[parts.counts]).outputs;
-    let primitive = primitive_out(stage, walk.primitive_index | outputs.primitive);
-    let payload = varying::payload_of(pack[parts.workgroup + 3]);
-    write_out(pack, parts.outputs, n, out, primitive, payload);
+    let parts = entry.parts;
+    let n = Counts::of(entry.pack[parts.counts]).outputs;
+    let primitive = primitive_out(stage, walk.primitive_index || entry.outputs.primitive);
+    let payload = varying::payload_of(entry.pack[parts.workgroup + 3]);
+    write_out(entry.pack, parts.outputs, n, out, primitive, payload);
 }

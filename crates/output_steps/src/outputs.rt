@@ -3,17 +3,17 @@ ghost use Rattle.std.specs.Prelude.{◌≡◌, [], ◌∷◌, ◌+◌, ◌*◌, 
 ghost use Rattle.word.specs.Numbers.{number_of};
 ghost use Rattle.word.specs.Refusals.{answer_of};
 ghost use Rattle.interface.specs.Format.{built_in_of};
-ghost use Rattle.interface.specs.Inner.Reads.{varying, varyings, standing};
+ghost use Rattle.interface.specs.Inner.Reads.{varying, varyings};
+ghost use Rattle.output_steps.specs.Inner.Stands.{meant};
 ghost use Rattle.interface.specs.declared.types.Varying.TheVariants as Var;
 ghost use Rattle.interface.specs.Inner.Parts.{Placed, varyings_end};
-ghost use Rattle.output_steps.specs.Inner.Given.{Summed};
 ghost use Rattle.output_steps.specs.Inner.Summary.{nothing, summary_of, plus};
 ghost use Rattle.output_steps.specs.Outputs.{location_use, location_uses, count_use, point_part, vertex_outputs, fragment_slots, attachment_use, fragment_outputs, slots_step};
 
-use crate::types::{Request, Summary};
+use crate::types::{EntryPoint, Request, Summary};
 use interface::parts::Counts;
-use interface::reads::varying_width;
-use interface::types::{EntryParts, Limits, ShaderStage};
+use interface::reads::{built_in_of, varying_width};
+use interface::types::{BuiltIn, EntryParts, Limits, ShaderStage};
 use word::refusal::{Number, Refusal};
 use word::{content, kind};
 
@@ -28,21 +28,29 @@ const NOTHING: Summary = Summary {
 };
 
 // The summary of the built-in that a word means.
+#[tactic(auto, using(crate::proofs::OutputLaws::built_in_one, crate::proofs::OutputLaws::clip_few))]
 fn built_in_summary(w: u32) -> Summary
     ensures { result ≡ summary_of (Var.BuiltIn (built_in_of w) ∷ []) }
 {
-    let code = w / 0x100_0000 % 8;
-    if code < 4 {
-        return Summary {
-            built_in_slots: w % 256,
-            depth: code == 3,
-            primitive: code == 1,
+    match built_in_of(w) {
+        BuiltIn::Other { places } | BuiltIn::DrawIndex { places } => Summary {
+            built_in_slots: places,
             ..NOTHING
-        };
-    }
-    Summary {
-        clip_slots: (w % 256 + 3) / 4,
-        ..NOTHING
+        },
+        BuiltIn::PrimitiveIndex { places } => Summary {
+            built_in_slots: places,
+            primitive: true,
+            ..NOTHING
+        },
+        BuiltIn::FragDepth { places } => Summary {
+            built_in_slots: places,
+            depth: true,
+            ..NOTHING
+        },
+        BuiltIn::ClipDistances { array_size } => Summary {
+            clip_slots: (array_size + 3) / 4,
+            ..NOTHING
+        },
     }
 }
 
@@ -95,13 +103,20 @@ pub(crate) fn summary(pack: &[u32], from: usize, n: usize) -> Summary
     s
 }
 
-// What stands among the outputs of an entry point.
-pub fn output_summary(pack: &[u32], parts: EntryParts) -> Summary
-    requires { Placed pack.now parts }
-    ensures { Summed pack.now parts result }
-{
-    let n = Counts::of(pack[parts.counts]).outputs;
-    summary(pack, parts.outputs, n)
+impl<'a> EntryPoint<'a> {
+    // The entry point whose parts stand at these positions.
+    pub fn new(pack: &'a [u32], parts: EntryParts) -> Self
+        requires { Placed pack.now parts }
+        ensures { (result.pack.now ≡ pack.now) × (result.parts ≡ parts) }
+    {
+        let n = Counts::of(pack[parts.counts]).outputs;
+        let outputs = summary(pack, parts.outputs, n);
+        Self {
+            pack,
+            parts,
+            outputs,
+        }
+    }
 }
 
 // A local variable at or past a location is refused, by its first word.
@@ -206,20 +221,15 @@ pub(crate) fn fragment_slots(
 }
 
 // Dual source blending asks for a shader that has it, and fragment depth for a depth attachment.
-pub(crate) fn attachment_use(
-    pack: &[u32],
-    parts: EntryParts,
-    outputs: Summary,
-    request: Request,
-) -> Result<(), Refusal>
-    requires { Placed pack.now parts × Summed pack.now parts outputs }
-    ensures { answer_of result ≡ attachment_use request.dual_source request.depth (standing pack.now parts).dual (standing pack.now parts).outputs }
+pub(crate) fn attachment_use(entry: &EntryPoint<'_>, request: Request) -> Result<(), Refusal>
+    ensures { answer_of result ≡ attachment_use request.dual_source request.depth
+        (meant entry.now).dual (meant entry.now).outputs }
 {
-    let shader = pack[parts.head] % 2 == 1;
-    if request.dual_source & !shader {
+    let shader = entry.pack[entry.parts.head] % 2 == 1;
+    if request.dual_source && !shader {
         return Err(Refusal::plain(Number::DualSource));
     }
-    if outputs.depth & !request.depth {
+    if entry.outputs.depth && !request.depth {
         return Err(Refusal::plain(Number::DepthAttachment));
     }
     Ok(())
@@ -227,48 +237,57 @@ pub(crate) fn attachment_use(
 
 // The inputs and outputs of a fragment stage.
 pub(crate) fn fragment_outputs(
-    pack: &[u32],
-    parts: EntryParts,
+    entry: &EntryPoint<'_>,
     limits: Limits,
-    outputs: Summary,
     request: Request,
     locals: u32,
 ) -> Result<(), Refusal>
-    requires { Placed pack.now parts × Summed pack.now parts outputs }
-    ensures { answer_of result ≡ fragment_outputs request limits (standing pack.now parts) locals }
+    ensures { answer_of result ≡ fragment_outputs request limits (meant entry.now) locals }
 {
-    let counts = pack[parts.counts];
-    let inputs = Counts::of(counts).inputs;
+    let parts = entry.parts;
+    let counts = Counts::of(entry.pack[parts.counts]);
     let limit = limits.max_inter_stage_shader_variables;
-    fragment_slots(pack, parts.inputs, inputs, limit, locals)?;
+    fragment_slots(entry.pack, parts.inputs, counts.inputs, limit, locals)?;
     let most = limits.max_color_attachments;
-    if most < outputs.reach {
-        let n = Counts::of(counts).outputs;
-        return location_uses(pack, parts.outputs, n, Number::ColourLocation, most, most);
+    if most < entry.outputs.reach {
+        let n = counts.outputs;
+        return location_uses(
+            entry.pack,
+            parts.outputs,
+            n,
+            Number::ColourLocation,
+            most,
+            most,
+        );
     }
-    attachment_use(pack, parts, outputs, request)
+    attachment_use(entry, request)
 }
 
 // What a stage puts out, or a fragment stage takes in, against the slots that there are.
 #[tactic(auto, unfolding(crate::specs::Outputs::slots_step))]
 pub fn slots_step(
-    pack: &[u32],
-    parts: EntryParts,
+    entry: &EntryPoint<'_>,
     limits: Limits,
-    outputs: Summary,
     request: Request,
     locals: u32,
 ) -> Result<(), Refusal>
-    requires { Placed pack.now parts × Summed pack.now parts outputs }
-    ensures { answer_of result ≡ slots_step request.stage request limits (standing pack.now parts) locals }
+    ensures { answer_of result ≡ slots_step request.stage request limits (meant entry.now) locals }
 {
     match request.stage {
         ShaderStage::Vertex => {
-            let n = Counts::of(pack[parts.counts]).outputs;
+            let parts = entry.parts;
+            let n = Counts::of(entry.pack[parts.counts]).outputs;
             let limit = limits.max_inter_stage_shader_variables;
-            vertex_outputs(pack, parts.outputs, n, outputs, request.topology, limit)
+            vertex_outputs(
+                entry.pack,
+                parts.outputs,
+                n,
+                entry.outputs,
+                request.topology,
+                limit,
+            )
         }
-        ShaderStage::Fragment => fragment_outputs(pack, parts, limits, outputs, request, locals),
+        ShaderStage::Fragment => fragment_outputs(entry, limits, request, locals),
         _ => Ok(()),
     }
 }

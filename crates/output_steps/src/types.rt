@@ -1,7 +1,12 @@
-// What a stage check is asked for, and what stands among varyings.
-use interface::types::ShaderStage;
+// What a stage check is asked for, an entry point by its words, and what stands among varyings.
+ghost use Rattle.std.specs.Prelude.{◌≡◌};
+ghost use Rattle.interface.specs.Inner.Parts.{Placed};
+ghost use Rattle.output_steps.specs.Inner.Given.{Summed};
 
-// The codes of a call, but for the mode, once they are known to be good. A topology of 5 is none.
+use interface::types::{EntryParts, ShaderStage};
+
+// The codes of a call, but for the mode, once they are known to be good. A topology of 5 is none. It stays a number: the steps answer for any,
+// and a caller may give any.
 #[derive(Clone, Copy, Debug, PartialEq, Eq)]
 pub struct Request {
     pub stage: ShaderStage,
@@ -19,4 +24,14 @@ pub struct Summary {
     pub reach: u32,
     pub depth: bool,
     pub primitive: bool,
+}
+
+// An entry point: the pack that it stands in, where its parts stand, and what stands among its outputs.
+#[derive(Clone, Copy)]
+pub struct EntryPoint<'a> {
+    pub pack: &'a [u32],
+    pub parts: EntryParts,
+    pub outputs: Summary,
+    pub ghost placed: { Placed pack.now parts },
+    pub ghost summed: { Summed pack.now parts outputs },
 }

@@ -1,4 +1,5 @@
 -- The code's ways through a pack.
+use Rattle.std.proofs.lemmas.Bool.{or_parts}
 use Prim.Native.Nat.{ℕ, ◌-◌, ◌%◌, ◌<◌, ◌≤◌}
 use native.Mathlib.Omega.{arith}
 use mathlib.Core.Path.{◌≡◌, refl, sym, ◌∙◌}
@@ -23,7 +24,7 @@ use Rattle.entry_check.specs.declared.role.Role.{Role}
 use Rattle.entry_check.specs.declared.role.Role.TheVariants.{Other}
 use Rattle.pack_check.specs.Inner.Records.{Headed, entries_behind, records_behind}
 use Rattle.pack_check.proofs.CheckRecords.{listed_long}
-use Rattle.word.proofs.Truth.{first, second, neither, never}
+use Rattle.word.proofs.Truth.{first, second, never}
 use Rattle.entry_check.proofs.CheckSteps.{step_stop, step_go, word_stop, word_go}
 use Rattle.entry_check.proofs.CheckWalks.{on_word, on_step}
 use Rattle.pack_check.proofs.CheckEntries.{distinct_named}
@@ -158,11 +159,11 @@ module _ (ws : List ℕ) (b : Bool) (e : b ≡ damaged ws) where
   module _ (t : b ≡ false) where
     pub low : 16 ≤ length ws
     unfolding damaged
-    low = ltb-false (length ws) 16 (neither (ltb (length ws) 16) _ (sym e ∙ t)).0
+    low = ltb-false (length ws) 16 (or_parts (ltb (length ws) 16) _ (sym e ∙ t)).0
 
     high : length ws ≤ 4096
     unfolding damaged
-    high = ltb-false 4096 (length ws) (neither (ltb 4096 (length ws)) _ (neither (ltb (length ws) 16) _ (sym e ∙ t)).1).0
+    high = ltb-false 4096 (length ws) (or_parts (ltb 4096 (length ws)) _ (or_parts (ltb (length ws) 16) _ (sym e ∙ t)).1).0
 
     pub pack_some : 1 ≤ length ws
     pack_some = omega (arith, low)

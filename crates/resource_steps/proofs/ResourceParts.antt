@@ -2,7 +2,7 @@
 use Prim.Native.Nat.{ℕ, zero, suc, ◌+◌, ◌<◌, ◌≤◌}
 use native.Mathlib.Omega.{arith}
 use native.Mathlib.Numerals.{add-one}
-use mathlib.Core.Path.{◌≡◌, refl, sym, ◌∙◌}
+use mathlib.Core.Path.{ap, ◌≡◌, refl, sym, ◌∙◌}
 use mathlib.Core.Bool.{true}
 use mathlib.Core.List.{List, [], ◌∷◌}
 use lib.ListN.{length, take, drop, length-take}
@@ -17,7 +17,7 @@ use Rattle.bindings.specs.declared.types.Resource.{Resource}
 use Rattle.interface.specs.Format.{contents, pair_of, pairs_of}
 use Rattle.interface.specs.Inner.Reads.{resources_at}
 use Rattle.interface.specs.Inner.Parts.{resource_count}
-use Rattle.resource_steps.specs.Inner.Given.{resource_table, Tabled, each_encodable}
+use Rattle.resource_steps.specs.Inner.Given.{resource_table, Inside, each_encodable}
 use Rattle.resource_steps.specs.Resources.{resource_nth}
 
 -- the words from a position on
@@ -75,7 +75,7 @@ module _ (ws offsets : List ℕ) (i : ℕ) (h : i < length (resource_table ws of
   nth_at = listed_at ws (take (resource_count ws) offsets) i counted.1 ∙ rw (get_or-take (resource_count ws) offsets i 0 counted.0)
 
 -- the resource of an index, among those that a table gives
-module _ (ws offsets : List ℕ) (rs : List Resource) (v : resource_table ws offsets ≡ rs) (t : Tabled ws offsets) (i : ℕ) (h : i < length rs) where
+module _ (ws offsets : List ℕ) (rs : List Resource) (v : resource_table ws offsets ≡ rs) (t : Inside ws offsets) (i : ℕ) (h : i < length rs) where
   below : i < length (resource_table ws offsets)
   below = rw v h
 
@@ -83,16 +83,17 @@ module _ (ws offsets : List ℕ) (rs : List Resource) (v : resource_table ws off
   position_there = there ws offsets i below
 
   pub words_there : word_at offsets i + resource_width ≤ length ws
-  words_there = t.inside.words i below
+  words_there = t.words i below
 
   nth_there : resource_at ws (word_at offsets i) ≡ resource_nth rs i
   nth_there = sym (nth_at ws offsets i below) ∙ rw v
 
-  encodable_there : type_encodable (resource_type_of (word_at ws (word_at offsets i + 1)) (size_standing ws (word_at offsets i + 2))) ≡ true
-  encodable_there =
+  encodable_there : resource_encodable (resource_nth rs i) ≡ true
+      → type_encodable (resource_type_of (word_at ws (word_at offsets i + 1)) (size_standing ws (word_at offsets i + 2))) ≡ true
+  encodable_there e =
       second (place_encodable (place_of (word_at ws (word_at offsets i))))
       (type_encodable (resource_type_of (word_at ws (word_at offsets i + 1)) (size_standing ws (word_at offsets i + 2))))
-      (rw (nth_at ws offsets i below) at (listed_encodable (resource_table ws offsets) i t.encodable))
+      (ap resource_encodable nth_there ∙ e)
 
   module _ (o : ℕ) (q : o ≡ word_at offsets i) where
     pub place_there : place_of (word_at ws o) ≡ (resource_nth rs i).bind
@@ -102,5 +103,5 @@ module _ (ws offsets : List ℕ) (rs : List Resource) (v : resource_table ws off
       pub words_listed : resource (word_at ws o) (word_at ws (o + 1)) size ≡ resource_nth rs i
       words_listed = rw (z, q, ← nth_there)
 
-      pub words_encodable : type_encodable (resource_type_of (word_at ws (o + 1)) size) ≡ true
-      words_encodable = rw (z, q) encodable_there
+      pub words_encodable : resource_encodable (resource_nth rs i) ≡ true → type_encodable (resource_type_of (word_at ws (o + 1)) size) ≡ true
+      words_encodable e = rw (z, q) (encodable_there e)

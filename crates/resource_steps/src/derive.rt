@@ -11,7 +11,7 @@ ghost use Rattle.resource_steps.specs.Inner.Stops.{stopped_answer, stopped_passe
 ghost use Rattle.resource_steps.specs.Resources.{resource_nth, layout_after, occupied, vacant, place_step, derive_step, named_texture, derive_result, derive_steps};
 
 use crate::resources::place_refusal;
-use crate::table::ResourceTable;
+use crate::table::Resources;
 use crate::types::{EntryType, ResourceWords, Stopped};
 use interface::reads::stage_code;
 use interface::types::ShaderStage;
@@ -128,6 +128,7 @@ fn derive_step(
 fn named_texture(pairs: &[u32], texture: u32) -> bool
     ensures { result ≡ named_texture texture (pairs_of pairs.now) }
 {
+    // not `any`: an iterator over a slice hands on pairs with a pointer, which tools/board/build refuses
     for w in pairs {
         if *w / 256 % 256 == texture {
             return true;
@@ -145,16 +146,16 @@ fn named_sampled(pairs: &[u32], ty: u32, texture: u32) -> bool
 
 // One resource of the entry point, by its index.
 fn derive_resource(
-    resources: &ResourceTable,
+    resources: &Resources<'_>,
     i: u32,
     pairs: &[u32],
     stage: ShaderStage,
     layout: &mut [u32],
 ) -> Result<(), Refusal>
     requires well_formed { layout_well_formed layout.old ≡ true }
-    requires i_in_bounds { i < length resources.now }
+    requires i_in_bounds { i < length resources.now.table }
     ensures layout_after { layout_after (answer_of result) (decode_layout layout.new)
-        ≡ derive_step stage (named_texture i (pairs_of pairs.now)) (resource_nth resources.now i) (decode_layout layout.old) }
+        ≡ derive_step stage (named_texture i (pairs_of pairs.now)) (resource_nth resources.now.table i) (decode_layout layout.old) }
     ensures well_formed_after { layout_well_formed layout.new ≡ true }
 {
     let words = resources.words(i);
@@ -164,16 +165,16 @@ fn derive_resource(
 
 // Each resource of the entry point in list order, up to the first that is refused.
 pub fn derive_steps(
-    resources: &ResourceTable,
+    resources: &Resources<'_>,
     listed: &[u32],
     pairs: &[u32],
     stage: ShaderStage,
     layout: &mut [u32],
 ) -> Result<(), Stopped>
     requires well_formed { layout_well_formed layout.old ≡ true }
-    requires listed_below { each_below (length resources.now) (contents listed.now) ≡ true }
+    requires listed_below { each_below (length resources.now.table) (contents listed.now) ≡ true }
     ensures layout_after { derive_result (stopped_answer result) (stopped_passed (length listed.now) result) (decode_layout layout.new)
-        ≡ derive_steps stage resources.now (pairs_of pairs.now) (contents listed.now) (decode_layout layout.old) }
+        ≡ derive_steps stage resources.now.table (pairs_of pairs.now) (contents listed.now) (decode_layout layout.old) }
     ensures well_formed_after { layout_well_formed layout.new ≡ true }
 {
     for (passed, w) in listed.iter().enumerate() {

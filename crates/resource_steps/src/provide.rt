@@ -12,7 +12,7 @@ ghost use Rattle.resource_steps.specs.Inner.Stops.{stopped_answer, stopped_passe
 ghost use Rattle.resource_steps.specs.Resources.{resource_nth, sizes_after, record_size, entry_use, provided_use, provide_step, provide_result, provide_steps};
 
 use crate::resources::{note, noted, place_refusal};
-use crate::table::ResourceTable;
+use crate::table::Resources;
 use crate::types::{ResourceWords, Stopped};
 use interface::reads::stage_code;
 use interface::types::ShaderStage;
@@ -89,7 +89,7 @@ fn provided_use(
 // One resource of the entry point, by its index: its size recorded, then its use judged.
 #[tactic(auto, unfolding(crate::specs::Resources::provide_step, crate::specs::Inner::Notes::step_notes))]
 fn provide_step(
-    resources: &ResourceTable,
+    resources: &Resources<'_>,
     i: u32,
     near: usize,
     stage: ShaderStage,
@@ -99,12 +99,12 @@ fn provide_step(
     sizes: &mut [u32],
 ) -> Result<(), Refusal>
     requires well_formed { (layout_well_formed layout.now ≡ true) × (sizes_well_formed sizes.old ≡ true) }
-    requires i_in_bounds { i < length resources.now }
+    requires i_in_bounds { i < length resources.now.table }
     ensures sizes_after { sizes_after (answer_of result) (decode_sizes sizes.new)
-        ≡ provide_step stage (decode_layout layout.now) (resource_nth resources.now i) (decode_sizes sizes.old) }
+        ≡ provide_step stage (decode_layout layout.now) (resource_nth resources.now.table i) (decode_sizes sizes.old) }
     ensures well_formed_after { sizes_well_formed sizes.new ≡ true }
     ensures entries_after { entries.new
-        ≡ step_notes (decode_layout layout.now) (resource_nth resources.now i) i (decode_sizes sizes.old) entries.old }
+        ≡ step_notes (decode_layout layout.now) (resource_nth resources.now.table i) i (decode_sizes sizes.old) entries.old }
 {
     let words = resources.words(i);
     record_buffer(words, next, sizes)?;
@@ -113,7 +113,7 @@ fn provide_step(
 
 // Each resource of the entry point in list order, up to the first that is refused. Entries and sizes mostly stand in the same order.
 pub fn provide_steps(
-    resources: &ResourceTable,
+    resources: &Resources<'_>,
     listed: &[u32],
     stage: ShaderStage,
     entries: &mut [u8; 128],
@@ -121,12 +121,12 @@ pub fn provide_steps(
     sizes: &mut [u32],
 ) -> Result<(), Stopped>
     requires well_formed { (layout_well_formed layout.now ≡ true) × (sizes_well_formed sizes.old ≡ true) }
-    requires listed_below { each_below (length resources.now) (contents listed.now) ≡ true }
+    requires listed_below { each_below (length resources.now.table) (contents listed.now) ≡ true }
     ensures sizes_after { provide_result (stopped_answer result) (stopped_passed (length listed.now) result) (decode_sizes sizes.new)
-        ≡ provide_steps stage (decode_layout layout.now) resources.now (contents listed.now) (decode_sizes sizes.old) }
+        ≡ provide_steps stage (decode_layout layout.now) resources.now.table (contents listed.now) (decode_sizes sizes.old) }
     ensures well_formed_after { sizes_well_formed sizes.new ≡ true }
     ensures entries_after { entries.new
-        ≡ provide_notes stage (decode_layout layout.now) resources.now (contents listed.now) (decode_sizes sizes.old) entries.old }
+        ≡ provide_notes stage (decode_layout layout.now) resources.now.table (contents listed.now) (decode_sizes sizes.old) entries.old }
 {
     let mut near: usize = 0;
     let mut next = 0;

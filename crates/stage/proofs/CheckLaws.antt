@@ -35,7 +35,7 @@ use Rattle.stage.specs.declared.types.Codes.{Codes}
 use Rattle.stage.specs.Meaning.{Lent, Call, Outcome, outcome}
 use Rattle.resource_steps.specs.Meaning.{state}
 use Rattle.resource_steps.specs.Resources.{provide_result, provide_steps, derive_result, derive_steps, resource_steps}
-use Rattle.resource_steps.specs.Inner.Given.{resource_table, each_encodable, each_below, pairs_below}
+use Rattle.resource_steps.specs.Inner.Given.{Inside, resource_table, each_encodable, each_below}
 use Rattle.resource_steps.specs.Inner.Stops.{stopped_answer}
 use Rattle.resource_steps.specs.declared.types.Stopped.{Stopped}
 use Rattle.std.proofs.Common.{Result, Ok, Err}
@@ -43,8 +43,8 @@ use Rattle.word.specs.Refusals.{answer_of, refusal_answer}
 use Rattle.word.specs.declared.refusal.Refusal.{Refusal}
 use Rattle.word.proofs.Both.{number_nonzero}
 use Rattle.bindings.specs.declared.types.Resource.{Resource}
-use Rattle.stage.specs.Inner.Given.{Named, Given}
-use Rattle.stage.specs.Inner.Judging.{binding_steps}
+use Rattle.stage.specs.Inner.Given.{Named}
+use Rattle.stage.specs.Inner.Bindings.{binding_steps}
 use Rattle.stage.specs.Stage.{pair_step, lists_good, request_of, derived_of, out_words, run_body, on_entry_point, on_chosen, on_named}
 use Rattle.stage.proofs.JudgeLaws.{pairs_standing}
 use Rattle.resource_steps.proofs.ResourceParts.{counted}
@@ -57,29 +57,29 @@ module _ (ws : List ℕ) (p : EntryParts) (w : Placed ws p) where
   unfolding standing
   resources_standing = let n : p.pairs - p.resources ≡ bits 23 18 (word_at ws p.counts) = omega (arith, w.resources) in rw n
 
-  pub resources_below : (rs : List Resource) → each_below (length rs) (standing ws p).resources ≡ true
+  pub resources_below : (i : Interface) (rs : List Resource) → rs ≡ i.resources → Named i (standing ws p)
       → each_below (length rs) (contents (take (p.pairs - p.resources) (drop p.resources ws))) ≡ true
-  resources_below rs h = rw resources_standing h
+  resources_below i rs e n = rw (e, resources_standing) n.below
 
-  module _ (rs : List Resource) (stage mode : ℕ) (s : ShaderStage) (L : Layout) (S : Sizes) (o : Result Unit Stopped) (passed : ℕ) (es : s ≡ stage_at stage) where
-    module _ (M : Layout) (t : mode ≡ 1)
+  module _ (rs : List Resource) (s : ShaderStage) (derived : Bool) (L : Layout) (S : Sizes) (o : Result Unit Stopped) (passed : ℕ) where
+    module _ (M : Layout) (t : derived ≡ true)
         (h : derive_result (stopped_answer o) passed M
         ≡ derive_steps s rs (pairs_of (take (p.inputs - p.pairs) (drop p.pairs ws))) (contents (take (p.pairs - p.resources) (drop p.resources ws))) L) where
       pub resources_derived : (a : Answer) → stopped_answer o ≡ a
-          → state a M S ≡ resource_steps (stage_at stage) (eqb mode 1) rs (standing ws p).pairs (standing ws p).resources L S
+          → state a M S ≡ resource_steps s derived rs (standing ws p).pairs (standing ws p).resources L S
       unfolding resource_steps
       resources_derived a k =
-          let e = rw (es, pairs_standing ws p w, resources_standing) at h in
-          rw (yes_true (eqb mode 1) (eq-eqb mode 1 t), ← e, k)
+          let e = rw (pairs_standing ws p w, resources_standing) at h in
+          rw (yes_true derived t, ← e, k)
 
-    module _ (T : Sizes) (t : mode ≡ 1 → ⊥)
+    module _ (T : Sizes) (t : derived ≡ false)
         (h : provide_result (stopped_answer o) passed T ≡ provide_steps s L rs (contents (take (p.pairs - p.resources) (drop p.resources ws))) S) where
       pub resources_provided : (a : Answer) → stopped_answer o ≡ a
-          → state a L T ≡ resource_steps (stage_at stage) (eqb mode 1) rs (standing ws p).pairs (standing ws p).resources L S
+          → state a L T ≡ resource_steps s derived rs (standing ws p).pairs (standing ws p).resources L S
       unfolding resource_steps
       resources_provided a k =
-          let e = rw (es, resources_standing) at h in
-          rw (yes_false (eqb mode 1) (ne_eqb mode 1 t), ← e, k)
+          let e = rw resources_standing at h in
+          rw (yes_false derived t, ← e, k)
 
 pub stopped_at : (o : Result Unit Stopped) (s : Stopped) (r : Refusal) → o ≡ Err s → r ≡ s.refusal → stopped_answer o ≡ refusal_answer r
 stopped_at o s r z e = rw (z, e)
@@ -87,43 +87,38 @@ stopped_at o s r z e = rw (z, e)
 pub stopped_nowhere : (o : Result Unit Stopped) (v : Unit) → o ≡ Ok v → stopped_answer o ≡ accepted
 stopped_nowhere o v z = rw z
 
--- ---- the judgement, and the list out
+-- ---- the resources, and the pairs behind them
 
-module _ (ws offsets : List ℕ) (i : Interface) (e : EntryPoint) (g : Given ws offsets i e) where
-  pub table_encodable : each_encodable (resource_table ws offsets) ≡ true
-  table_encodable = rw g.table g.named.encodable
+module _ (i : Interface) (e : EntryPoint) (rs : List Resource) (q : rs ≡ i.resources) (derived : Bool) (stage : ShaderStage) (L : Layout) (S : Sizes)
+    (o : Result Unit Refusal) (M : Layout) (T : Sizes) (steps : state (answer_of o) M T ≡ resource_steps stage derived rs e.pairs e.resources L S) where
+  pub bindings_refused : (r : Refusal) → o ≡ Err r → state (refusal_answer r) M T ≡ binding_steps derived stage i e L S
+  bindings_refused r z = rw (← q, ← steps, z, number_nonzero r.number)
 
-  pub table_outputs : every output_encodable e.outputs ≡ true
-  table_outputs = g.named.outputs
-
--- the resources that a table gives, and the pairs behind them
-module _ (ws offsets : List ℕ) (i : Interface) (e : EntryPoint) (g : Given ws offsets i e) (rs : List Resource) (q : rs ≡ resource_table ws offsets) where
-  as_decoded : rs ≡ i.resources
-  as_decoded = q ∙ g.table
-
-  pub listed_below : each_below (length rs) e.resources ≡ true
-  listed_below = rw as_decoded g.named.below
-
-  pub named_pairs : pairs_below (length rs) e.pairs ≡ true
-  named_pairs = rw as_decoded g.named.pairs
-
-  module _ (derived : Bool) (stage : ShaderStage) (L : Layout) (S : Sizes) (o : Result Unit Refusal) (M : Layout) (T : Sizes)
-      (steps : state (answer_of o) M T ≡ resource_steps stage derived rs e.pairs e.resources L S) where
-    pub bindings_refused : (r : Refusal) → o ≡ Err r → state (refusal_answer r) M T ≡ binding_steps derived stage i e L S
-    bindings_refused r z = rw (← as_decoded, ← steps, z, number_nonzero r.number)
-
-    pub bindings_went : (b : Answer) (v : Unit) → o ≡ Ok v → b ≡ pair_step derived rs e M → state b M T ≡ binding_steps derived stage i e L S
-    bindings_went b v z h = rw (← as_decoded, ← steps, z, ← h)
+  pub bindings_went : (b : Answer) (v : Unit) → o ≡ Ok v → b ≡ pair_step derived rs e M → state b M T ≡ binding_steps derived stage i e L S
+  bindings_went b v z h = rw (← q, ← steps, z, ← h)
 
 -- ---- the entry point
 
 names_of : (ws : List ℕ) (k : ℕ) → decoded_number (decode ws) ≡ 0 → Named (interface_of (decode ws)) (entry_point_nth (interface_of (decode ws)).entries k)
 names_of ws k z = record { encodable = given_encodable ws z; below = given_below ws z k; pairs = given_pairs ws z k; outputs = given_outputs ws z k }
 
-pub gives : (ws offsets : List ℕ) (p : EntryParts) (k : ℕ) → decoded_number (decode ws) ≡ 0 → Offsets ws offsets → standing ws p ≡ entry_point_nth (interface_of (decode ws)).entries k
-    → Given ws offsets (interface_of (decode ws)) (standing ws p)
-unfolding resource_table
-gives ws offsets p k z o e = rw e (record { table = o.resources z; inside = record { words = λ i h. o.within z i (counted ws offsets i h).0 }; named = names_of ws k z })
+pub names_at : (ws : List ℕ) (p : EntryParts) (k : ℕ) → decoded_number (decode ws) ≡ 0 → standing ws p ≡ entry_point_nth (interface_of (decode ws)).entries k
+    → Named (interface_of (decode ws)) (standing ws p)
+names_at ws p k z e = rw e (names_of ws k z)
+
+-- the resources by the table of their positions
+module _ (ws offsets : List ℕ) (z : decoded_number (decode ws) ≡ 0) (o : Offsets ws offsets) where
+  pub table_inside : Inside ws offsets
+  unfolding resource_table
+  table_inside = record { words = λ i h. o.within z i (counted ws offsets i h).0 }
+
+  module _ (rs : List Resource) (q : rs ≡ resource_table ws offsets) where
+    pub table_listed : rs ≡ (interface_of (decode ws)).resources
+    unfolding resource_table
+    table_listed = q ∙ o.resources z
+
+    pub table_encodable : each_encodable rs ≡ true
+    table_encodable = rw table_listed (given_encodable ws z)
 
 out_words_lem : (ws : List ℕ) (p : EntryParts) (s : Summary) → Summed ws p s → 2 + 2 * s.locals ≡ out_words (standing ws p)
 unfolding summary_of

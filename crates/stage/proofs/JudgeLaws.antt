@@ -40,6 +40,7 @@ use Rattle.output_steps.specs.ListOut.{stage_out}
 use Rattle.input_steps.specs.declared.types.InputWalk.{InputWalk}
 use Rattle.resource_steps.specs.Resources.{pair_uses}
 use Rattle.resource_steps.specs.Inner.Given.{pairs_below}
+use Rattle.stage.specs.Inner.Given.{Named}
 use Rattle.stage.specs.Stage.{pair_step, input_walk, behind_inputs, behind_pairs, handed_out}
 use Rattle.interface.specs.declared.types.EntryPointMeshInfo.{EntryPointMeshInfo}
 
@@ -47,10 +48,6 @@ use Rattle.interface.specs.declared.types.EntryPointMeshInfo.{EntryPointMeshInfo
 pub inputs_standing : (ws : List ℕ) (p : EntryParts) → (standing ws p).inputs ≡ varyings (bits 11 6 (word_at ws p.counts)) (drop p.inputs ws)
 unfolding standing
 inputs_standing ws p = refl
-
-pub inputs_inside : (ws : List ℕ) (p : EntryParts) (k n : ℕ) → Placed ws p → k ≡ word_at ws p.counts → n ≡ bits 11 6 k
-    → varyings_end ws n p.inputs < length ws
-inputs_inside ws p k n h ek en = rw (en, ek) h.inputs_end
 
 -- the judgement, step by step, of an entry point that stands at positions
 module _ (q : Request) (i : Interface) (ws : List ℕ) (p : EntryParts) (inputs : StageIo) (size : Result Unit Refusal)
@@ -75,13 +72,6 @@ module _ (q : Request) (i : Interface) (ws : List ℕ) (p : EntryParts) (inputs 
 
     pub inputs_went : (v : Unit) (rest : Answer) → met ≡ Ok v → rest ≡ behind_inputs q i.limits (standing ws p) inputs w → rest ≡ behind_pairs q i (standing ws p) inputs
     inputs_went v rest z h = passed_on u size _ _ _ es zs (passed_on v met _ _ _ met_is z (h ∙ ap (behind_inputs q i.limits (standing ws p) inputs) walk_standing))
-
--- a refused judgement leaves the list out as it was
-pub judged_none : (r : Refusal) (s : ShaderStage) (e : EntryPoint) (w : InputWalk) (out : List ℕ) → out ≡ handed_out (refusal_answer r) s e w out
-judged_none r s e w out = rw (number_nonzero r.number)
-
-pub judged_out : (s : ShaderStage) (e : EntryPoint) (w v : InputWalk) (out o : List ℕ) → w ≡ v → o ≡ encode_stage (stage_out s e w out) → o ≡ handed_out accepted s e v out
-judged_out s e w v out o h eo = rw (← h) eo
 
 -- ---- parts of an entry point that stands at positions
 
@@ -112,9 +102,9 @@ module _ (ws : List ℕ) (p : EntryParts) (w : Placed ws p) where
   unfolding standing
   pairs_standing = let n : p.inputs - p.pairs ≡ bits 17 12 (word_at ws p.counts) = omega (arith, w.pairs) in rw n
 
-  pub pairs_given : (rs : List Resource) → pairs_below (length rs) (standing ws p).pairs ≡ true
+  pub pairs_given : (i : Interface) (rs : List Resource) → rs ≡ i.resources → Named i (standing ws p)
       → pairs_below (length rs) (pairs_of (take (p.inputs - p.pairs) (drop p.pairs ws))) ≡ true
-  pairs_given rs h = rw pairs_standing h
+  pairs_given i rs e n = rw (e, pairs_standing) n.pairs
 
   pub pairs_provided : (L : Layout) (rs : List Resource) (derived : Bool) (r : Answer) → derived ≡ false
       → r ≡ pair_uses L rs (pairs_of (take (p.inputs - p.pairs) (drop p.pairs ws))) → r ≡ pair_step derived rs (standing ws p) L

@@ -27,7 +27,7 @@ use Rattle.stage.specs.declared.types.Codes.{Codes}
 use Rattle.stage.specs.Meaning.{Lent, lent, Call, call, Outcome, outcome, and_then}
 use Rattle.resource_steps.specs.Meaning.{State, state}
 use Rattle.resource_steps.specs.Resources.{resource_steps}
-use Rattle.stage.specs.Inner.Judging.{binding_steps}
+use Rattle.stage.specs.Inner.Bindings.{binding_steps}
 use Rattle.stage.specs.Stage.{pair_step, input_walk, behind_pairs, judgement, stage_body, lists_good, codes_good, call_good, unchanged, handed_out, finish, run_body, on_named, on_decoded, check_stage}
 
 -- ---- the body
@@ -46,8 +46,9 @@ unfolding stage_body judgement
 body_is derived q i e inputs L S =
     two_behind (resource_steps q.stage derived i.resources e.pairs e.resources L S) (λ L. pair_step derived i.resources e L) (behind_pairs q i e inputs)
 
-module _ (derived : Bool) (q : Request) (t : Lent) (i : Interface) (e : EntryPoint) (bindings : Result Unit Refusal) (l s : List ℕ)
-    (steps : state (answer_of bindings) (decode_layout l) (decode_sizes s) ≡ binding_steps derived q.stage i e (decode_layout t.layout) (decode_sizes t.sizes))
+-- by a request that was read from the codes
+module _ (derived : Bool) (q : Request) (t : Lent) (i : Interface) (e : EntryPoint) (bindings : Result Unit Refusal) (l s : List ℕ) (r : Request) (er : r ≡ q)
+    (steps : state (answer_of bindings) (decode_layout l) (decode_sizes s) ≡ binding_steps derived r.stage i e (decode_layout t.layout) (decode_sizes t.sizes))
     (fl : layout_well_formed l ≡ true) (fs : sizes_well_formed s ≡ true) where
   abbrev body : State
   body = stage_body derived q i e (decode_stage t.inputs) (decode_layout t.layout) (decode_sizes t.sizes)
@@ -55,18 +56,18 @@ module _ (derived : Bool) (q : Request) (t : Lent) (i : Interface) (e : EntryPoi
   body_on : body ≡ and_then (state (answer_of bindings) (decode_layout l) (decode_sizes s)) (λ L S. state (behind_pairs q i e (decode_stage t.inputs)) L S)
   body_on =
       body_is derived q i e (decode_stage t.inputs) (decode_layout t.layout) (decode_sizes t.sizes)
-      ∙ ap (λ (x : State). and_then x (λ L S. state (behind_pairs q i e (decode_stage t.inputs)) L S)) (sym steps)
+      ∙ ap (λ (x : State). and_then x (λ L S. state (behind_pairs q i e (decode_stage t.inputs)) L S)) (sym (rw er at steps))
 
-  pub body_refused : (r : Refusal) (a : Answer) (o : List ℕ) → o ≡ t.out → bindings ≡ Err r → a ≡ refusal_answer r → outcome a l s o ≡ run_body derived q t i e
+  pub body_refused : (refusal : Refusal) (a : Answer) (o : List ℕ) → o ≡ t.out → bindings ≡ Err refusal → a ≡ refusal_answer refusal
+      → outcome a l s o ≡ run_body derived q t i e
   unfolding run_body finish
-  body_refused r a o eo z h =
-      rw (eo, h, body_on, z, number_nonzero r.number, number_nonzero r.number, layouts.encode_decode l fl, sizes.encode_decode s fs)
+  body_refused refusal a o eo z h =
+      rw (eo, h, body_on, z, number_nonzero refusal.number, number_nonzero refusal.number, layouts.encode_decode l fl, sizes.encode_decode s fs)
 
-  -- by a request that was read from the codes
-  pub body_went : (r : Request) (b : Answer) (o : List ℕ) (v : Unit) → bindings ≡ Ok v → r ≡ q → b ≡ behind_pairs r i e (decode_stage t.inputs)
+  pub body_went : (b : Answer) (o : List ℕ) (v : Unit) → bindings ≡ Ok v → b ≡ behind_pairs r i e (decode_stage t.inputs)
       → o ≡ handed_out b r.stage e (input_walk r e (decode_stage t.inputs)).walk t.out → outcome b l s o ≡ run_body derived q t i e
   unfolding run_body finish
-  body_went r b o v z er eb eo =
+  body_went b o v z eb eo =
       let k : b ≡ behind_pairs q i e (decode_stage t.inputs) = rw (← er) eb in
       rw (body_on, z, ← k, layouts.encode_decode l fl, sizes.encode_decode s fs, ← er, ← eo)
 

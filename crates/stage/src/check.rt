@@ -1,112 +1,95 @@
 // A stage check, whole: the pack, the lists and codes of the call, the entry point, and its steps.
-ghost use Rattle.std.specs.Prelude.{◌≡◌, true, ◌&&◌, ◌+◌, ◌*◌, ◌<◌, ◌≤◌, length};
+ghost use Rattle.std.specs.Prelude.{◌≡◌, true, ◌&&◌, ◌<◌, ◌≤◌, length};
+ghost use Rattle.word.specs.Refusals.{answer_of};
 ghost use Rattle.layouts.specs.Format.{layout_well_formed, decode_layout};
 ghost use Rattle.sizes.specs.Format.{sizes_well_formed, decode_sizes};
 ghost use Rattle.stage_lists.specs.Format.{out_well_formed, decode_stage};
-ghost use Rattle.interface.specs.Format.{decode, decoded_number, interface_of};
+ghost use Rattle.interface.specs.Format.{decode, interface_of};
 ghost use Rattle.interface.specs.Meaning.{entry_point_nth};
-ghost use Rattle.interface.specs.Inner.Reads.{standing};
-ghost use Rattle.interface.specs.Inner.Parts.{Placed, Offsets};
-ghost use Rattle.word.specs.Lists.{every};
-ghost use Rattle.output_steps.specs.Inner.Given.{Summed};
-ghost use Rattle.output_steps.specs.Inner.ListOut.{output_encodable};
-ghost use Rattle.stage.specs.Meaning.{lent, call, outcome};
-ghost use Rattle.word.specs.Refusals.{answer_of};
+ghost use Rattle.output_steps.specs.Inner.Stands.{meant};
 ghost use Rattle.resource_steps.specs.Meaning.{state};
-ghost use Rattle.resource_steps.specs.Inner.Given.{each_below};
 ghost use Rattle.resource_steps.specs.Resources.{resource_steps};
-ghost use Rattle.stage.specs.Inner.Given.{Given};
-ghost use Rattle.stage.specs.Inner.Judging.{binding_steps};
+ghost use Rattle.stage.specs.Meaning.{lent, call, outcome};
+ghost use Rattle.stage.specs.Inner.Bindings.{binding_steps};
 ghost use Rattle.stage.specs.Stage.{input_walk, behind_pairs, request_of, derived_of, lists_good, codes_good, out_words, handed_out, run_body, on_entry_point, on_named, check_stage};
 
 use crate::judge::{judge, pair_step};
-use crate::types::Codes;
+use crate::types::{Codes, Shader, StageEntry};
 use entry_points::module::Module;
 use interface::reads::stage_at;
-use interface::types::EntryParts;
+use interface::types::ShaderStage;
 use layouts::layout::layout_well_formed;
 use output_steps::list_out::list_out;
-use output_steps::outputs::output_summary;
-use output_steps::types::{Request, Summary};
+use output_steps::types::{EntryPoint, Request};
 use pack_check::check_pack::index_pack;
 use resource_steps::derive::derive_steps;
 use resource_steps::provide::provide_steps;
-use resource_steps::table::ResourceTable;
+use resource_steps::table::{ResourceTable, Resources};
 use sizes::sizes::sizes_well_formed;
 use stage_lists::stage_io::stage_well_formed;
 use word::refusal::{Number, Refusal};
 
 // The resources of an entry point against the layout and the sizes.
 fn check_resources(
-    pack: &[u32],
-    parts: EntryParts,
-    resources: &ResourceTable,
+    entry: &StageEntry<'_, '_>,
     entries: &mut [u8; 128],
     layout: &mut [u32],
     sizes: &mut [u32],
-    codes: Codes,
+    stage: ShaderStage,
+    derived: bool,
 ) -> Result<(), Refusal>
-    requires placed { Placed pack.now parts }
-    requires well_formed { (layout_well_formed layout.old ≡ true) × (sizes_well_formed sizes.old ≡ true) }
-    requires listed_below { each_below (length resources.now) (standing pack.now parts).resources ≡ true }
+    requires { (layout_well_formed layout.old ≡ true) × (sizes_well_formed sizes.old ≡ true) }
     ensures state_after { state (answer_of result) (decode_layout layout.new) (decode_sizes sizes.new)
-        ≡ resource_steps (request_of codes).stage (derived_of codes) resources.now
-        (standing pack.now parts).pairs (standing pack.now parts).resources
+        ≡ resource_steps stage derived entry.now.resources.now.table (meant entry.now.point).pairs (meant entry.now.point).resources
         (decode_layout layout.old) (decode_sizes sizes.old) }
     ensures well_formed_after { (layout_well_formed layout.new ≡ true) × (sizes_well_formed sizes.new ≡ true) }
 {
-    let stage = stage_at(codes.stage);
+    let pack = entry.point.pack;
+    let parts = entry.point.parts;
     let listed = &pack[parts.resources..parts.pairs];
-    if codes.mode == 1 {
+    if derived {
         let pairs = &pack[parts.pairs..parts.inputs];
-        derive_steps(resources, listed, pairs, stage, layout)?;
+        derive_steps(entry.resources, listed, pairs, stage, layout)?;
         return Ok(());
     }
-    provide_steps(resources, listed, stage, entries, layout, sizes)?;
+    provide_steps(entry.resources, listed, stage, entries, layout, sizes)?;
     Ok(())
 }
 
 // The resources, and the pairs where the layout is provided.
 fn check_bindings(
-    pack: &[u32],
-    parts: EntryParts,
-    offsets: &[u16],
+    entry: &StageEntry<'_, '_>,
     layout: &mut [u32],
     sizes: &mut [u32],
-    codes: Codes,
+    stage: ShaderStage,
+    derived: bool,
 ) -> Result<(), Refusal>
-    requires placed { Placed pack.now parts }
-    requires well_formed { (layout_well_formed layout.old ≡ true) × (sizes_well_formed sizes.old ≡ true) }
-    requires given { Given pack.now offsets.now (interface_of (decode pack.now)) (standing pack.now parts) }
+    requires { (layout_well_formed layout.old ≡ true) × (sizes_well_formed sizes.old ≡ true) }
     ensures state_after { state (answer_of result) (decode_layout layout.new) (decode_sizes sizes.new)
-        ≡ binding_steps (derived_of codes) (request_of codes).stage (interface_of (decode pack.now)) (standing pack.now parts)
+        ≡ binding_steps derived stage (interface_of (decode entry.now.point.pack.now)) (meant entry.now.point)
         (decode_layout layout.old) (decode_sizes sizes.old) }
     ensures well_formed_after { (layout_well_formed layout.new ≡ true) × (sizes_well_formed sizes.new ≡ true) }
 {
-    let resources = ResourceTable::new(pack, offsets);
     let mut entries: [u8; 128] = [0; 128];
-    check_resources(pack, parts, &resources, &mut entries, layout, sizes, codes)?;
-    pair_step(pack, parts, &resources, &entries, layout, codes.mode == 1)
+    check_resources(entry, &mut entries, layout, sizes, stage, derived)?;
+    pair_step(entry, &entries, layout, derived)
 }
 
 // The steps behind the pairs, and the list out where all of them passed.
 fn judge_out(
-    pack: &[u32],
-    parts: EntryParts,
-    outputs: Summary,
+    entry: &StageEntry<'_, '_>,
     inputs: &[u32],
     out: &mut [u32],
     request: Request,
 ) -> Result<(), Refusal>
-    requires in_pack { (decoded_number (decode pack.now) ≡ 0) × Placed pack.now parts × (out_well_formed inputs.now ≡ true) }
-    requires summed { Summed pack.now parts outputs × (out_words (standing pack.now parts) ≤ length out.old) }
-    requires encodable { every output_encodable (standing pack.now parts).outputs ≡ true }
-    ensures answer { answer_of result ≡ behind_pairs request (interface_of (decode pack.now)) (standing pack.now parts) (decode_stage inputs.now) }
-    ensures out_after { out.new ≡ handed_out (answer_of result) request.stage (standing pack.now parts)
-        (input_walk request (standing pack.now parts) (decode_stage inputs.now)).walk out.old }
+    requires well_formed { out_well_formed inputs.now ≡ true }
+    requires room { out_words (meant entry.now.point) ≤ length out.old }
+    ensures answer { answer_of result ≡ behind_pairs request (interface_of (decode entry.now.point.pack.now)) (meant entry.now.point) (decode_stage inputs.now) }
+    ensures out_after { out.new ≡ handed_out (answer_of result) request.stage (meant entry.now.point)
+        (input_walk request (meant entry.now.point) (decode_stage inputs.now)).walk out.old }
 {
-    let walk = judge(pack, parts, outputs, inputs, request)?;
-    list_out(pack, parts, request.stage, walk, outputs, out);
+    let walk = judge(entry, inputs, request)?;
+    list_out(&entry.point, request.stage, walk, out);
     Ok(())
 }
 
@@ -122,34 +105,29 @@ fn request_of(codes: Codes) -> Request
     }
 }
 
-// All steps of an entry point, over a table of the resources.
+// All steps of an entry point.
 fn run_body(
-    pack: &[u32],
-    parts: EntryParts,
-    outputs: Summary,
-    offsets: &[u16],
+    entry: &StageEntry<'_, '_>,
     layout: &mut [u32],
     sizes: &mut [u32],
     inputs: &[u32],
     out: &mut [u32],
     codes: Codes,
 ) -> Result<(), Refusal>
-    requires in_pack { (decoded_number (decode pack.now) ≡ 0) × Placed pack.now parts }
     requires well_formed { (layout_well_formed layout.old ≡ true) × (sizes_well_formed sizes.old ≡ true) × (out_well_formed inputs.now ≡ true) }
-    requires given { Given pack.now offsets.now (interface_of (decode pack.now)) (standing pack.now parts) }
-    requires summed { Summed pack.now parts outputs × (out_words (standing pack.now parts) ≤ length out.old) }
+    requires room { out_words (meant entry.now.point) ≤ length out.old }
     ensures { outcome (answer_of result) layout.new sizes.new out.new ≡ run_body (derived_of codes) (request_of codes)
         (lent layout.old sizes.old inputs.now out.old)
-        (interface_of (decode pack.now)) (standing pack.now parts) }
+        (interface_of (decode entry.now.point.pack.now)) (meant entry.now.point) }
 {
-    check_bindings(pack, parts, offsets, layout, sizes, codes)?;
-    judge_out(pack, parts, outputs, inputs, out, request_of(codes))
+    let request = request_of(codes);
+    check_bindings(entry, layout, sizes, request.stage, codes.mode == 1)?;
+    judge_out(entry, inputs, out, request)
 }
 
 // The room of the list out, then all steps of the entry point at a place among those of the pack.
 fn on_entry_point(
-    shader: &Module<'_>,
-    offsets: &[u16],
+    shader: &Shader<'_, '_>,
     position: usize,
     layout: &mut [u32],
     sizes: &mut [u32],
@@ -157,29 +135,31 @@ fn on_entry_point(
     out: &mut [u32],
     codes: Codes,
 ) -> Result<(), Refusal>
-    requires in_pack { Offsets shader.now.pack.now offsets.now }
-    requires position_in_bounds { position < length (interface_of (decode shader.now.pack.now)).entries }
+    requires position_in_bounds { position < length (interface_of (decode shader.now.module.pack.now)).entries }
     requires well_formed { (layout_well_formed layout.old ≡ true) × (sizes_well_formed sizes.old ≡ true) × (out_well_formed inputs.now ≡ true) }
     ensures { outcome (answer_of result) layout.new sizes.new out.new ≡ on_entry_point (derived_of codes) (request_of codes)
         (lent layout.old sizes.old inputs.now out.old)
-        (interface_of (decode shader.now.pack.now)) (entry_point_nth (interface_of (decode shader.now.pack.now)).entries position) }
+        (interface_of (decode shader.now.module.pack.now)) (entry_point_nth (interface_of (decode shader.now.module.pack.now)).entries position) }
 {
-    let pack = shader.pack;
-    let parts = shader.entry_parts(position);
-    let outputs = output_summary(pack, parts);
-    if out.len() < 2 + 2 * outputs.locals as usize {
+    let pack = shader.module.pack;
+    let point = EntryPoint::new(pack, shader.module.entry_parts(position));
+    if out.len() < 2 + 2 * point.outputs.locals as usize {
         return Err(Refusal::plain(Number::ShortOut));
     }
-    run_body(
-        pack, parts, outputs, offsets, layout, sizes, inputs, out, codes,
-    )
+    let resources = Resources {
+        table: ResourceTable::new(pack, shader.offsets),
+    };
+    let entry = StageEntry {
+        point,
+        resources: &resources,
+    };
+    run_body(&entry, layout, sizes, inputs, out, codes)
 }
 
 // The entry point of a stage and a name, if there is one.
 #[tactic(auto, using(crate::proofs::CheckLaws::chosen_below, crate::proofs::CheckLaws::chosen_at, crate::proofs::CheckLaws::chosen_absent))]
 fn on_named(
-    shader: &Module<'_>,
-    offsets: &[u16],
+    shader: &Shader<'_, '_>,
     layout: &mut [u32],
     sizes: &mut [u32],
     inputs: &[u32],
@@ -187,15 +167,14 @@ fn on_named(
     name: &[u8],
     codes: Codes,
 ) -> Result<(), Refusal>
-    requires in_pack { Offsets shader.now.pack.now offsets.now }
-    requires well_formed { (layout_well_formed layout.old ≡ true) × (sizes_well_formed sizes.old ≡ true) × (out_well_formed inputs.now ≡ true) }
-    ensures { outcome (answer_of result) layout.new sizes.new out.new ≡ on_named (call shader.now.pack.now name.now codes
-        (lent layout.old sizes.old inputs.now out.old)) (interface_of (decode shader.now.pack.now)) }
+    requires { (layout_well_formed layout.old ≡ true) × (sizes_well_formed sizes.old ≡ true) × (out_well_formed inputs.now ≡ true) }
+    ensures { outcome (answer_of result) layout.new sizes.new out.new ≡ on_named (call shader.now.module.pack.now name.now codes
+        (lent layout.old sizes.old inputs.now out.old)) (interface_of (decode shader.now.module.pack.now)) }
 {
-    let Some(position) = shader.find_entry_point(stage_at(codes.stage), name) else {
+    let Some(position) = shader.module.find_entry_point(stage_at(codes.stage), name) else {
         return Err(Refusal::plain(Number::EntryAbsent));
     };
-    on_entry_point(shader, offsets, position, layout, sizes, inputs, out, codes)
+    on_entry_point(shader, position, layout, sizes, inputs, out, codes)
 }
 
 // Whether the codes of a call are in their ranges.
@@ -226,8 +205,7 @@ fn call_good(layout: &[u32], sizes: &[u32], inputs: &[u32], codes: Codes) -> boo
 
 // The lists and codes of a call, and the entry point of its stage and name in a pack that was accepted.
 fn check_call(
-    shader: &Module<'_>,
-    offsets: &[u16],
+    shader: &Shader<'_, '_>,
     layout: &mut [u32],
     sizes: &mut [u32],
     inputs: &[u32],
@@ -235,12 +213,11 @@ fn check_call(
     name: &[u8],
     codes: Codes,
 ) -> Result<(), Refusal>
-    requires { Offsets shader.now.pack.now offsets.now }
-    ensures { outcome (answer_of result) layout.new sizes.new out.new ≡ check_stage (call shader.now.pack.now name.now codes
+    ensures { outcome (answer_of result) layout.new sizes.new out.new ≡ check_stage (call shader.now.module.pack.now name.now codes
         (lent layout.old sizes.old inputs.now out.old)) }
 {
     if call_good(layout, sizes, inputs, codes) {
-        return on_named(shader, offsets, layout, sizes, inputs, out, name, codes);
+        return on_named(shader, layout, sizes, inputs, out, name, codes);
     }
     Err(Refusal::plain(Number::BadCall))
 }
@@ -261,9 +238,13 @@ pub fn check_stage(
     let mut offsets: [u16; 128] = [0; 128];
     let mut heads: [u16; 16] = [0; 16];
     index_pack(pack, &mut offsets, &mut heads)?;
-    let shader = Module {
+    let module = Module {
         pack,
         heads: &heads,
     };
-    check_call(&shader, &offsets, layout, sizes, inputs, out, name, codes)
+    let shader = Shader {
+        module,
+        offsets: &offsets,
+    };
+    check_call(&shader, layout, sizes, inputs, out, name, codes)
 }

@@ -3,38 +3,34 @@ ghost use Rattle.std.specs.Prelude.{◌≡◌, true, length, IfOk};
 ghost use Rattle.word.specs.Refusals.{answer_of};
 ghost use Rattle.layouts.specs.Format.{layout_well_formed, decode_layout};
 ghost use Rattle.stage_lists.specs.Format.{out_well_formed, decode_stage};
-ghost use Rattle.interface.specs.Format.{decode, decoded_number, interface_of};
-ghost use Rattle.interface.specs.Inner.Reads.{standing};
-ghost use Rattle.interface.specs.Inner.Parts.{Placed};
-ghost use Rattle.output_steps.specs.Inner.Given.{Summed};
+ghost use Rattle.interface.specs.Format.{decode, interface_of};
+ghost use Rattle.output_steps.specs.Inner.Stands.{meant};
 ghost use Rattle.input_steps.specs.Workgroup.{workgroup_step};
-ghost use Rattle.resource_steps.specs.Inner.Given.{pairs_below};
 ghost use Rattle.stage.specs.Stage.{pair_step, input_walk, behind_inputs, behind_pairs};
 
+use crate::types::StageEntry;
 use input_steps::inputs::input_steps;
 use input_steps::types::InputWalk;
 use input_steps::workgroup::workgroup_step;
 use interface::parts::Counts;
 use interface::reads::{limits, topology_at};
-use interface::types::{EntryParts, EntryPointMeshInfo, ShaderStage, WorkgroupSize};
+use interface::types::{EntryPointMeshInfo, ShaderStage, WorkgroupSize};
 use last_steps::last::last_step;
 use output_steps::outputs::slots_step;
-use output_steps::types::{Request, Summary};
+use output_steps::types::{EntryPoint, Request};
 use resource_steps::pairs::pair_uses;
-use resource_steps::table::ResourceTable;
 use word::refusal::Refusal;
 use word::{content, word};
 
 // The mesh record of an entry point.
-fn mesh_of(pack: &[u32], parts: EntryParts) -> Option<EntryPointMeshInfo>
-    requires { Placed pack.now parts }
-    ensures { result ≡ (standing pack.now parts).mesh }
+fn mesh_of(point: &EntryPoint<'_>) -> Option<EntryPointMeshInfo>
+    ensures { result ≡ (meant point.now).mesh }
 {
-    let head = parts.head;
-    if pack[head] / 2 % 2 != 1 {
+    let pack = point.pack;
+    if pack[point.parts.head] / 2 % 2 != 1 {
         return None;
     }
-    let at = parts.workgroup + 4;
+    let at = point.parts.workgroup + 4;
     let info = EntryPointMeshInfo {
         max_vertices: content(word(pack, at)),
         max_primitives: content(word(pack, at + 1)),
@@ -44,11 +40,11 @@ fn mesh_of(pack: &[u32], parts: EntryParts) -> Option<EntryPointMeshInfo>
 }
 
 // The workgroup size of an entry point.
-fn workgroup_of(pack: &[u32], parts: EntryParts) -> WorkgroupSize
-    requires { Placed pack.now parts }
-    ensures { result ≡ (standing pack.now parts).workgroup }
+fn workgroup_of(point: &EntryPoint<'_>) -> WorkgroupSize
+    ensures { result ≡ (meant point.now).workgroup }
 {
-    let at = parts.workgroup;
+    let pack = point.pack;
+    let at = point.parts.workgroup;
     WorkgroupSize {
         x: content(pack[at]),
         y: content(pack[at + 1]),
@@ -57,34 +53,31 @@ fn workgroup_of(pack: &[u32], parts: EntryParts) -> WorkgroupSize
 }
 
 // The task payload of an entry point.
-fn payload_of(pack: &[u32], parts: EntryParts) -> Option<u32>
-    requires { Placed pack.now parts }
-    ensures { result ≡ (standing pack.now parts).payload }
+fn payload_of(point: &EntryPoint<'_>) -> Option<u32>
+    ensures { result ≡ (meant point.now).payload }
 {
-    varying::payload_of(pack[parts.workgroup + 3])
+    varying::payload_of(point.pack[point.parts.workgroup + 3])
 }
 
 // Places, outputs and what is judged last, once the inputs passed.
 #[tactic(auto, unfolding(crate::specs::Stage::behind_inputs, last_steps::specs::Last::last_step))]
 fn after_inputs(
-    pack: &[u32],
-    parts: EntryParts,
-    outputs: Summary,
+    entry: &StageEntry<'_, '_>,
     inputs: &[u32],
     request: Request,
     walk: InputWalk,
 ) -> Result<(), Refusal>
-    requires { (decoded_number (decode pack.now) ≡ 0) × Placed pack.now parts × Summed pack.now parts outputs }
-    ensures { answer_of result ≡ behind_inputs request (interface_of (decode pack.now)).limits
-        (standing pack.now parts) (decode_stage inputs.now) walk }
+    ensures { answer_of result ≡ behind_inputs request (interface_of (decode entry.now.point.pack.now)).limits
+        (meant entry.now.point) (decode_stage inputs.now) walk }
 {
-    let limits = limits(pack);
-    slots_step(pack, parts, limits, outputs, request, walk.locals)?;
+    let point = &entry.point;
+    let limits = limits(point.pack);
+    slots_step(point, limits, request, walk.locals)?;
     last_step(
         request,
         limits,
-        mesh_of(pack, parts),
-        payload_of(pack, parts),
+        mesh_of(point),
+        payload_of(point),
         stage_lists::stage_io::payload(inputs),
         stage_lists::stage_io::primitive_index(inputs),
         walk,
@@ -93,49 +86,45 @@ fn after_inputs(
 
 // Pairs, where the layout is provided.
 pub(crate) fn pair_step(
-    pack: &[u32],
-    parts: EntryParts,
-    resources: &ResourceTable,
+    entry: &StageEntry<'_, '_>,
     entries: &[u8; 128],
     layout: &[u32],
     derived: bool,
 ) -> Result<(), Refusal>
-    requires placed { Placed pack.now parts × (layout_well_formed layout.now ≡ true) }
-    requires pairs_below { pairs_below (length resources.now) (standing pack.now parts).pairs ≡ true }
-    ensures { answer_of result ≡ pair_step derived resources.now (standing pack.now parts) (decode_layout layout.now) }
+    requires { layout_well_formed layout.now ≡ true }
+    ensures { answer_of result ≡ pair_step derived entry.now.resources.now.table (meant entry.now.point) (decode_layout layout.now) }
 {
     if derived {
         return Ok(());
     }
-    let pairs = &pack[parts.pairs..parts.inputs];
-    pair_uses(layout, resources, entries, pairs)
+    let parts = entry.point.parts;
+    let pairs = &entry.point.pack[parts.pairs..parts.inputs];
+    pair_uses(layout, &entry.resources.table, entries, pairs)
 }
 
 // The workgroup size of an entry point against the limits of its stage.
-fn size_step(pack: &[u32], parts: EntryParts, stage: ShaderStage) -> Result<(), Refusal>
-    requires { (decoded_number (decode pack.now) ≡ 0) × Placed pack.now parts }
-    ensures { answer_of result ≡ workgroup_step stage (standing pack.now parts).workgroup (interface_of (decode pack.now)).limits }
+fn size_step(entry: &StageEntry<'_, '_>, stage: ShaderStage) -> Result<(), Refusal>
+    ensures { answer_of result ≡ workgroup_step stage (meant entry.now.point).workgroup (interface_of (decode entry.now.point.pack.now)).limits }
 {
-    workgroup_step(stage, workgroup_of(pack, parts), limits(pack))
+    workgroup_step(stage, workgroup_of(&entry.point), limits(entry.point.pack))
 }
 
 // All steps behind the pairs: the walk over the inputs, where each of them passed.
 pub(crate) fn judge(
-    pack: &[u32],
-    parts: EntryParts,
-    outputs: Summary,
+    entry: &StageEntry<'_, '_>,
     inputs: &[u32],
     request: Request,
 ) -> Result<InputWalk, Refusal>
-    requires in_pack { (decoded_number (decode pack.now) ≡ 0) × Placed pack.now parts × Summed pack.now parts outputs }
-    requires well_formed { out_well_formed inputs.now ≡ true }
-    ensures answer { answer_of result ≡ behind_pairs request (interface_of (decode pack.now)) (standing pack.now parts) (decode_stage inputs.now) }
-    ensures walk { IfOk result (λ w. w ≡ (input_walk request (standing pack.now parts) (decode_stage inputs.now)).walk) }
+    requires { out_well_formed inputs.now ≡ true }
+    ensures answer { answer_of result ≡ behind_pairs request (interface_of (decode entry.now.point.pack.now)) (meant entry.now.point) (decode_stage inputs.now) }
+    ensures walk { IfOk result (λ w. w ≡ (input_walk request (meant entry.now.point) (decode_stage inputs.now)).walk) }
 {
-    size_step(pack, parts, request.stage)?;
-    let mut walk = InputWalk::START;
+    size_step(entry, request.stage)?;
+    let parts = entry.point.parts;
+    let pack = entry.point.pack;
     let n = Counts::of(pack[parts.counts]).inputs;
-    input_steps(pack, parts.inputs, n, inputs, request.stage, &mut walk)?;
-    after_inputs(pack, parts, outputs, inputs, request, walk)?;
+    let (met, walk) = input_steps(pack, parts.inputs, n, inputs, request.stage);
+    met?;
+    after_inputs(entry, inputs, request, walk)?;
     Ok(walk)
 }

@@ -3,6 +3,7 @@ use Rattle.std.proofs.Common.{Option}
 use Prim.Native.Nat.{ℕ, zero, suc, ◌+◌, ◌-◌, ◌*◌, ◌%◌, ◌^◌, ◌<◌, ◌≤◌}
 use native.Mathlib.Omega.{arith}
 use mathlib.Core.Path.{◌≡◌, refl, sym, ap, ◌∙◌}
+use mir.Val.{bool_byte}
 use mathlib.Core.Bool.{Bool, true, false}
 use mathlib.Core.List.{List, [], ◌∷◌, ◌++◌}
 use lib.ListN.{length, take, drop, set, length-append, length-drop, length-set}
@@ -25,6 +26,14 @@ use Rattle.places.proofs.Records.{read_length, room_left, left_none, each_cons, 
 use Rattle.stage_lists.proofs.StageLists.{located_form, WellFormed, well_formed, is_good, code_back, decode_encode, well_formed_encode, good_decode}
 use Rattle.stage_lists.proofs.StageWays.{varyings_from}
 use Rattle.stage_lists.proofs.InsertLaws.{last_from, insert_last, insert_before, insert_over, insert_behind, insert_length, longer, good_inserted}
+
+-- a truth value counted
+pub counted_once : (b : Bool) (r : ℕ) → r ≡ bool_byte b → r ≤ 1
+counted_once true r e = omega arith
+counted_once false r e = omega arith
+
+pub counted_as : (n m : ℕ) (b : Bool) (r : ℕ) → r ≡ bool_byte b → m ≡ n + bool_byte b → m ≡ n + r
+counted_as n m b r e h = rw e h
 
 -- ---- records moved up
 

@@ -1,5 +1,6 @@
 -- A stage list and its words: what is well formed is exactly what the writer makes.
 use Rattle.std.proofs.Common.{Option, Some, None, Bool, false}
+use Rattle.std.proofs.lemmas.Bool.{and_from}
 use Prim.Native.Nat.{ℕ, ◌+◌, ◌*◌, ◌^◌, ◌<◌, ◌≤◌}
 use native.Mathlib.Omega.{arith}
 use mathlib.Core.Path.{◌≡◌, refl, ap, sym}
@@ -10,7 +11,7 @@ use lib.ListN.{length, drop}
 use borrow.Author.Tests.{eqb-true, leb-true, ltb-true, le-leb, lt-ltb}
 use Rattle.word.specs.Words.{word_at, kind_of, bits, of_kind, content_of}
 use Rattle.varying.specs.Format.{located_words, located_encodable, payload_well_formed, payload_word, payload_encodable, var_well_formed, var_of, var_word, var_encodable, location_well_formed}
-use Rattle.word.proofs.Truth.{first, second, both, below_all}
+use Rattle.word.proofs.Truth.{first, second, below_all}
 use Rattle.varying.proofs.Joined.{payload_written, payload_encodable_lem, payload_well_formed_lem, payload_read}
 use Rattle.stage_lists.specs.Meaning.{StageIo, rising}
 use Rattle.word.specs.Lists.{every}
@@ -28,10 +29,10 @@ located_form =
     record {
       wide = λ v. refl;
       written = λ ws h t. rw (location_written (word_at ws 0) (search first), var_written (word_at ws 1) (search second)) (sym (two ws h));
-      kept = λ ws t. both (ltb (content_of (word_at ws 0)) (2 ^ 27)) (var_encodable (var_of (word_at ws 1)))
+      kept = λ ws t. and_from (ltb (content_of (word_at ws 0)) (2 ^ 27)) (var_encodable (var_of (word_at ws 1)))
           (lt-ltb (content_of (word_at ws 0)) (2 ^ 27) (omega arith)) (var_encodable_lem (word_at ws 1) (search second));
       again = λ v ws t. rw (location_read v.location (search (ltb-true, first)), var_read v.var (search second));
-      passed = λ v ws t. both (location_well_formed (of_kind 12 v.location)) (var_well_formed (var_word v.var))
+      passed = λ v ws t. and_from (location_well_formed (of_kind 12 v.location)) (var_well_formed (var_word v.var))
           (location_well_formed_lem v.location (search (ltb-true, first))) (var_well_formed_lem v.var (search second));
     }
 
@@ -181,11 +182,11 @@ stage_good_decode ws h =
     let s : length ws ≤ 1024 = search (leb-true, first) in
     let g = good_decode ws o in
     let n = 2 + 2 * length (decode_stage ws).varyings + length (decode_stage ws).room in
-    both (leb n 1024) (out_good (decode_stage ws)) (le-leb n 1024 (omega (arith, words_length (decode_stage ws) g, ap length (encode_decode ws o)))) g
+    and_from (leb n 1024) (out_good (decode_stage ws)) (le-leb n 1024 (omega (arith, words_length (decode_stage ws) g, ap length (encode_decode ws o)))) g
 
 pub stage_well_formed_encode : (S : StageIo) → stage_good S ≡ true → stage_well_formed (encode_stage S) ≡ true
 stage_well_formed_encode S h =
     let g : out_good S ≡ true = search second in
     let s : 2 + 2 * length S.varyings + length S.room ≤ 1024 = search (leb-true, first) in
-    both (leb (length (encode_stage S)) 1024) (out_well_formed (encode_stage S))
+    and_from (leb (length (encode_stage S)) 1024) (out_well_formed (encode_stage S))
     (le-leb (length (encode_stage S)) 1024 (omega (arith, words_length S g))) (well_formed_encode S g)

@@ -1,5 +1,6 @@
 // What a stage hands on, written into the list out: its variables by rising location.
 ghost use Rattle.std.specs.Prelude.{◌≡◌, true, [], ◌∷◌, ◌+◌, ◌*◌, ◌<◌, ◌≤◌, ◌^◌, length, take, drop, set};
+ghost use Rattle.std.specs.Int.{from_bool};
 ghost use Rattle.word.specs.Words.{word_at, kind_of, content_of};
 ghost use Rattle.word.specs.Lists.{flat};
 ghost use Rattle.varying.specs.Format.{var_well_formed, var_of, located_encodable, located_words, payload_encodable};
@@ -45,41 +46,39 @@ fn shift(out: &mut [u32], from: usize, n: usize, first: u32, second: u32)
     store_two(out, from + 2 * n, a, b);
 }
 
-// A variable put into its place among as many: 1 where its location is new.
-fn place(out: &mut [u32], n: usize, location: u32, var: u32) -> u32
+// A variable put into its place among as many: whether its location is new.
+fn place(out: &mut [u32], n: usize, location: u32, var: u32) -> bool
     requires n_in_bounds { (2 + 2 * n + 2 ≤ length out.old) × (n < 0x1_0000) × (each 2 located_good n (drop 2 out.old) ≡ true) }
     requires variable { (location < 2 ^ 27) × (var_well_formed var ≡ true) }
     ensures words { out.new ≡ put out.old 2 (flat located_words (insert (record { location = location; var = var_of var }) (read_varyings n (drop 2 out.old)))) }
-    ensures count { length (insert (record { location = location; var = var_of var }) (read_varyings n (drop 2 out.old))) ≡ n + result }
-    ensures upper_bound { result ≤ 1 }
+    ensures count { length (insert (record { location = location; var = var_of var }) (read_varyings n (drop 2 out.old))) ≡ n + from_bool result }
 {
     for i in 0..n {
         let at = 2 + 2 * i;
         let here = location_at(out, at);
         if location < here {
             shift(out, at, n - i, 0x6000_0000 + location, var);
-            return 1;
+            return true;
         }
         if location == here {
             store_two(out, at, 0x6000_0000 + location, var);
-            return 0;
+            return false;
         }
     }
     store_two(out, 2 + 2 * n, 0x6000_0000 + location, var);
-    1
+    true
 }
 
 // The same by its first word, where the locations rise: one above the last, or above the head where there is none, needs no search.
-fn place_last(out: &mut [u32], n: usize, first: u32, var: u32) -> u32
+fn place_last(out: &mut [u32], n: usize, first: u32, var: u32) -> bool
     requires n_in_bounds { (2 + 2 * n + 2 ≤ length out.old) × (n < 0x1_0000) × (each 2 located_good n (drop 2 out.old) ≡ true) }
     requires variable { (kind_of first ≡ 12) × (var_well_formed var ≡ true) × (rising (read_varyings n (drop 2 out.old)) ≡ true) }
     ensures words { out.new ≡ put out.old 2 (flat located_words (insert (record { location = content_of first; var = var_of var }) (read_varyings n (drop 2 out.old)))) }
-    ensures count { length (insert (record { location = content_of first; var = var_of var }) (read_varyings n (drop 2 out.old))) ≡ n + result }
-    ensures upper_bound { result ≤ 1 }
+    ensures count { length (insert (record { location = content_of first; var = var_of var }) (read_varyings n (drop 2 out.old))) ≡ n + from_bool result }
 {
     if out[2 * n] < first {
         store_two(out, 2 + 2 * n, first, var);
-        return 1;
+        return true;
     }
     place(out, n, first % 0x800_0000, var)
 }
@@ -97,5 +96,5 @@ pub fn insert_words(out: &mut [u32], head: u32, first: u32, var: u32) -> u32
 {
     let n = (head % 0x1_0000) as usize;
     let second = var_word(var);
-    head + place_last(out, n, first, second)
+    head + u32::from(place_last(out, n, first, second))
 }

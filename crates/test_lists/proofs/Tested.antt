@@ -1,5 +1,6 @@
 -- What the program's tests say of the lists, entries and variables that it hands on.
 use Rattle.std.proofs.Common.{Option, None}
+use Rattle.std.proofs.lemmas.Bool.{and_from}
 use Prim.Native.Nat.{ℕ, ◌+◌, ◌*◌, ◌%◌, ◌^◌, ◌<◌, ◌≤◌}
 use native.Mathlib.Omega.{arith}
 use mathlib.Core.Path.{◌≡◌, refl, sym, ◌∙◌}
@@ -8,13 +9,13 @@ use mathlib.Core.List.{List, [], ◌∷◌}
 use lib.Dec.{leb, ltb}
 use lib.ListN.{length, take, drop, set, length-drop}
 use lib.Seq.{length-take-le}
-use borrow.Author.Tests.{eqb-true, not-true, not-false, eq-eqb, lt-ltb, le-ltb, ltb-true, leb-true}
+use borrow.Author.Tests.{eqb-true, not-false, eq-eqb, lt-ltb, le-ltb, ltb-true, leb-true}
 use Rattle.word.specs.Words.{word_at, kind_of, content_of, bits}
 use Rattle.bindings.specs.Format.{place_well_formed, place_of, size_limit, size_word, entry_encodable, entry_well_formed, entry_of, parts_well_formed, entry_of_parts}
 use Rattle.bindings.specs.declared.types.ResourceBinding.{ResourceBinding}
 use Rattle.bindings.proofs.EntryFormat.{entry_encodable_lem}
 use Rattle.varying.specs.Format.{var_well_formed, var_of, located_encodable, payload_of, payload_encodable}
-use Rattle.word.proofs.Truth.{first, second, both, told_true}
+use Rattle.word.proofs.Truth.{first, second}
 use Rattle.varying.proofs.Joined.{var_encodable_lem, payload_encodable_lem}
 use Rattle.layouts.specs.Meaning.{Layout, entry_places, entry_has, find_entry}
 use Rattle.places.specs.Records.{count_of}
@@ -26,9 +27,8 @@ use Rattle.layouts.proofs.LayoutWays.{entries_counted}
 use Rattle.stage_lists.proofs.StageWays.{first_there}
 use Rattle.test_lists.specs.Room.{has_room}
 
--- the parts of a length of two lists of one length
-pub parts_alike : (n m : ℕ) (a b : List ℕ) → n ≤ m → length a ≡ m → length b ≡ m → length (take n a) ≡ length (take n b)
-parts_alike n m a b h p q = length-take-le n a (omega arith) ∙ sym (length-take-le n b (omega arith))
+told_true : (b t : Bool) → b ≡ t → not b ≡ false → t ≡ true
+told_true b t e n = sym e ∙ not-false b n
 
 -- ---- layouts
 
@@ -58,16 +58,11 @@ module _ (p t s v least : ℕ) (q : least ≡ content_of s) where
     unfolding entry_of
     entry_fits_lem L n =
         rw size_again
-        (both (entry_encodable (entry_of p t s v)) (ltb (bits 26 23 p) L.groups) (entry_encodable_lem p t s v h) (lt-ltb (bits 26 23 p) L.groups n))
+        (and_from (entry_encodable (entry_of p t s v)) (ltb (bits 26 23 p) L.groups) (entry_encodable_lem p t s v h) (lt-ltb (bits 26 23 p) L.groups n))
 
 pub place_new : (p t least v : ℕ) (L : Layout) → find_entry (place_of p) L ≡ None → entry_has (entry_of_parts p t least v).bind L.entries ≡ false
 unfolding entry_of
 place_new p t least v L h = sym (place_lacks (place_of p) (entry_places L.entries) (find_entry (place_of p) L) refl h)
-
--- ---- sizes
-
-pub place_passed : (place : ℕ) → place_well_formed (0x20000000 + place % 0x800_0000) ≡ true
-place_passed place = eq-eqb (kind_of (0x20000000 + place % 0x800_0000)) 4 (omega arith)
 
 -- ---- the list out
 

@@ -6,4 +6,3 @@ pub mod Parse
 pub mod ParseReads
 pub mod Rests
 pub mod Both
-pub mod Loops

@@ -3,17 +3,9 @@ use Prim.{Unit, tt}
 use Rattle.std.proofs.Common.{◌≡◌, ℕ, zero, suc, ◌+◌, ◌-◌, ◌<◌, ◌≤◌, Bool, true, false, List, [], ◌∷◌, ◌++◌, length, get_or, drop, sym, refl, ◌∙◌, add-zero, suc-add, zero-add, arith, length-drop, get_or-drop, drop-drop}
 use Rattle.word.specs.Choice.{pick}
 use Rattle.word.specs.Words.{word_at}
-use Rattle.word.specs.Parse.{Parsed, fault, got, next, one, several, nowhere, from, behind, rest_at}
+use Rattle.word.specs.Parse.{Parsed, fault, got, next, one, several}
 
 -- ---- positions
-
-pub rest_from : (ws : List ℕ) (at : ℕ) → 1 ≤ at → rest_at ws at ≡ from (drop at ws)
-rest_from ws zero h = absurd (omega arith)
-rest_from ws (suc at) h = refl
-
-pub rest_past : (ws : List ℕ) (r : ℕ) → (r ≡ 0 → ⊥) → rest_at ws r ≡ from (drop r ws)
-rest_past ws zero h = absurd (h refl)
-rest_past ws (suc r) h = refl
 
 -- the words from a position on: the first, and those behind it
 pub first_of : (ws : List ℕ) (at : ℕ) → get_or (drop at ws) 0 0 ≡ word_at ws at
@@ -63,52 +55,6 @@ pub several_add : {A : Type 0} (i m : ℕ) (read : List ℕ → Parsed A) (ws : 
 unfolding several
 several_add zero m read ws = rw zero-add (sym (next_got (several m read ws)))
 several_add (suc i) m read ws = rw suc-add (simp (next_next, several_add i m read))
-
--- ---- a reader that stopped at a position: it faulted where that is 0, and else what it got stands before the words from there on
-
-fault_by : {A : Type 0} (p : Parsed A) → nowhere ≡ behind p → p ≡ fault
-fault_by fault e = refl
-fault_by (got a rest) e = let x : ◌≡◌ {A = ℕ} 0 1 = cc in absurd (omega arith)
-
-got_by : {A : Type 0} (P : Parsed A → Type 0) (p : Parsed A) (l : List ℕ) → from l ≡ behind p → ((a : A) → P (got a l)) → P p
-got_by P fault l e h = let x : ◌≡◌ {A = ℕ} 0 1 = cc in absurd (omega arith)
-got_by P (got a rest) l e h = let x : rest ≡ l = cc in rw x (h a)
-
-module _ {A : Type 0} (p : Parsed A) (ws : List ℕ) (r : ℕ) (e : rest_at ws r ≡ behind p) where
-  pub stopped : r ≡ 0 → p ≡ fault
-  stopped z = fault_by p (rw z at e)
-
-  pub went : (P : Parsed A → Type 0) → (r ≡ 0 → ⊥) → ((a : A) → P (got a (drop r ws))) → P p
-  went P n h = got_by P p (drop r ws) (sym (rest_past ws r n) ∙ e) h
-
--- ---- a walk over several records: its start, one more, its ways out
-
-pub several_begins : {A : Type 0} (read : List ℕ → Parsed A) (ws : List ℕ) (at : ℕ) → 1 ≤ at → rest_at ws at ≡ behind (several 0 read (drop at ws))
-unfolding several
-several_begins read ws at h = rest_from ws at h
-
-pub several_ended : {A : Type 0} (read : List ℕ → Parsed A) (ws l : List ℕ) (i n at : ℕ) → rest_at ws at ≡ behind (several i read l) → i ≤ n → n ≤ i
-    → rest_at ws at ≡ behind (several n read l)
-several_ended read ws l i n at e h k = let x : n ≡ i = omega arith in rw x e
-
-module _ {A : Type 0} (read : List ℕ → Parsed A) (ws l : List ℕ) (i at r : ℕ) (e : rest_at ws at ≡ behind (several i read l)) (h : 1 ≤ at)
-    (f : rest_at ws r ≡ behind (read (drop at ws))) where
-  pub several_more : (r ≡ 0 → ⊥) → rest_at ws r ≡ behind (several (i + 1) read l)
-  unfolding several
-  several_more n =
-      rw (several_add i 1 read l)
-      (went (several i read l) ws at e (λ p. rest_at ws r ≡ behind (next p λ xs rest. next (several 1 read rest) λ ys rest. got (xs ++ ys) rest)) (λ z. omega arith)
-      (λ xs. went (read (drop at ws)) ws r f
-      (λ p. rest_at ws r ≡ behind (next (next p λ a rest. next (several 0 read rest) λ others rest. got (a ∷ others) rest) λ ys rest. got (xs ++ ys) rest)) n
-      (λ a. rest_past ws r n)))
-
-  pub several_stops : (n : ℕ) → r ≡ 0 → i < n → rest_at ws 0 ≡ behind (several n read l)
-  unfolding several
-  several_stops n z k =
-      let x : n ≡ i + suc (n - i - 1) = omega arith in
-      rw (x, several_add i (suc (n - i - 1)) read l)
-      (went (several i read l) ws at e (λ p. nowhere ≡ behind (next p λ xs rest. next (several (suc (n - i - 1)) read rest) λ ys rest. got (xs ++ ys) rest)) (λ z. omega arith)
-      (λ xs. rw (stopped (read (drop at ws)) ws r f z)))
 
 -- ---- what holds of whatever a reader gets
 

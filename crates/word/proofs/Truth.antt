@@ -1,7 +1,7 @@
 -- Truth values of tests, and a test computed at every number below a bound.
 use Rattle.std.proofs.Common.{◌≡◌, ℕ, zero, suc, ◌<◌, Bool, true, false, not, ◌&&◌, ◌||◌, eqb, sym, refl, ◌∙◌, arith, eqb-true}
 use mathlib.Core.Bool.{false≢true}
-use borrow.Author.Tests.{eqb-false, not-true, not-false}
+use borrow.Author.Tests.{eqb-false}
 
 pub first : (a b : Bool) → a && b ≡ true → a ≡ true
 first true b h = refl
@@ -11,27 +11,9 @@ pub second : (a b : Bool) → a && b ≡ true → b ≡ true
 second true b h = h
 second false b h = absurd (false≢true h)
 
-pub both : (a b : Bool) → a ≡ true → b ≡ true → a && b ≡ true
-both a b p q = rw (p, q)
-
 pub either : (a b : Bool) (P : Type 0) → (a ≡ true → P) → (b ≡ true → P) → a || b ≡ true → P
 either true b P f g h = f refl
 either false b P f g h = g h
-
-pub or_right : (a b : Bool) → b ≡ true → a || b ≡ true
-or_right true b h = refl
-or_right false b h = h
-
-pub neither : (a b : Bool) → a || b ≡ false → (a ≡ false) × (b ≡ false)
-neither true b e = absurd (false≢true (sym e))
-neither false b e = (refl, e)
-
--- a test that is asked for by a call
-pub told_false : (b t : Bool) → b ≡ t → not b ≡ true → t ≡ false
-told_false b t e n = sym e ∙ not-true b n
-
-pub told_true : (b t : Bool) → b ≡ t → not b ≡ false → t ≡ true
-told_true b t e n = sym e ∙ not-false b n
 
 pub by_test : {P : Type 0} (b : Bool) → (b ≡ true → P) → (b ≡ false → P) → P
 by_test true t f = t refl

@@ -30,11 +30,6 @@ abbrev pub behind : {A : Type 0} → Parsed A → Rest
 behind fault = nowhere
 behind (got a rest) = from rest
 
--- a position, which is never the start, as the words from there on; 0 is nowhere
-abbrev pub rest_at : List ℕ → ℕ → Rest
-rest_at ws zero = nowhere
-rest_at ws (suc n) = from (drop (suc n) ws)
-
 -- a position as the words from there on, if there is one
 abbrev pub rest_of : List ℕ → Option ℕ → Rest
 rest_of ws None = nowhere

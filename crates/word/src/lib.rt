@@ -21,7 +21,8 @@ pub fn index(s: &[u32], at: usize) -> usize
     word(s, at) as usize
 }
 
-// A word's kind, its bits 31 to 27.
+// A word's kind, its bits 31 to 27. Kinds stay numbers: each is compared where a word of it is due, and an enum would be made of every word
+// only to be compared.
 pub fn kind(w: u32) -> u32
     ensures value { result ≡ kind_of w }
     ensures upper_bound { result < 32 }

@@ -21,11 +21,6 @@ pub record Inside (ws offsets : List ℕ) : Type 0 where
 abbrev pub each_encodable : List Resource → Bool
 each_encodable rs = every resource_encodable rs
 
--- a table of the resources of a pack: their words stand in the pack, and each is one that a pack can hold
-pub record Tabled (ws offsets : List ℕ) : Type 0 where
-  pub inside : Inside ws offsets
-  pub encodable : each_encodable (resource_table ws offsets) ≡ true
-
 -- each index is below the number of resources
 abbrev pub each_below : ℕ → List ℕ → Bool
 each_below count is = every (λ i. ltb i count) is

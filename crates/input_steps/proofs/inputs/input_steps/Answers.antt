@@ -20,16 +20,16 @@ offset_bounds-pack-at-in-loop-i c = search (rules, here c.args.pack.now c.args.n
 pub bounds-pack-at-in-loop-i : goal.bounds-pack-at-in-loop-i
 bounds-pack-at-in-loop-i c = beside c.args.pack.now c.args.n c.loop-i._i c.loop-i.at c.loop-i.invariant.0 c.loop-i-test.true
 
-pub returns-in_err-input_step-clause-answer : goal.returns-in_err-input_step-clause-answer
-returns-in_err-input_step-clause-answer c =
+pub returns-in-Err-clause-answer : goal.returns-in-Err-clause-answer
+returns-in-Err-clause-answer c =
     let e = c.input_step.ensures in
-    let stopped = inputs_refused c.args.stage (decode_stage c.args.inputs.now).varyings c.args.pack.now c.args.n c.loop-i._i c.loop-i.at c.loop-i.walk _ c.loop-i.invariant.2 c.loop-i-test.true _ (varying_words_lem c.args.pack.now c.loop-i.at _ _ refl refl) _ _ e.answer e.walk _ c.in_err-input_step.was in
+    let stopped = inputs_refused c.args.stage (decode_stage c.args.inputs.now).varyings c.args.pack.now c.args.n c.loop-i._i c.loop-i.at c.loop-i.walk _ c.loop-i.invariant.2 c.loop-i-test.true _ (varying_words_lem c.args.pack.now c.loop-i.at _ _ refl refl) _ _ e.answer e.walk _ c.in-Err.is in
     rw stopped (search rules)
 
-pub returns-in_err-input_step-clause-walk : goal.returns-in_err-input_step-clause-walk
-returns-in_err-input_step-clause-walk c =
+pub returns-in-Err-clause-walk : goal.returns-in-Err-clause-walk
+returns-in-Err-clause-walk c =
     let e = c.input_step.ensures in
-    let stopped = inputs_refused c.args.stage (decode_stage c.args.inputs.now).varyings c.args.pack.now c.args.n c.loop-i._i c.loop-i.at c.loop-i.walk _ c.loop-i.invariant.2 c.loop-i-test.true _ (varying_words_lem c.args.pack.now c.loop-i.at _ _ refl refl) _ _ e.answer e.walk _ c.in_err-input_step.was in
+    let stopped = inputs_refused c.args.stage (decode_stage c.args.inputs.now).varyings c.args.pack.now c.args.n c.loop-i._i c.loop-i.at c.loop-i.walk _ c.loop-i.invariant.2 c.loop-i-test.true _ (varying_words_lem c.args.pack.now c.loop-i.at _ _ refl refl) _ _ e.answer e.walk _ c.in-Err.is in
     rw stopped
 
 pub overflow_add-at-in-loop-i : goal.overflow_add-at-in-loop-i
@@ -41,7 +41,7 @@ loop-i-preserved c =
     let next = ap (λ w. c.loop-i.at + w) (c.varying_width-at.ensures.value ∙ width_there c.args.pack.now c.loop-i.at _ refl) in (
       end_onward c.args.pack.now c.args.n c.loop-i._i c.loop-i.at c.loop-i.invariant.0 c.loop-i-test.true _ next,
       locals_left c.args.stage (decode_stage c.args.inputs.now).varyings _ c.loop-i.walk _ c.args.n c.loop-i._i e.walk c.loop-i-test.true c.loop-i.invariant.1,
-      inputs_onward c.args.stage (decode_stage c.args.inputs.now).varyings c.args.pack.now c.args.n c.loop-i._i c.loop-i.at c.loop-i.walk _ c.loop-i.invariant.2 c.loop-i-test.true _ (varying_words_lem c.args.pack.now c.loop-i.at _ _ refl refl) _ _ e.answer e.walk _ _ c.in_ok-input_step.was next,
+      inputs_onward c.args.stage (decode_stage c.args.inputs.now).varyings c.args.pack.now c.args.n c.loop-i._i c.loop-i.at c.loop-i.walk _ c.loop-i.invariant.2 c.loop-i-test.true _ (varying_words_lem c.args.pack.now c.loop-i.at _ _ refl refl) _ _ e.answer e.walk _ _ c.in_default.is next,
     )
 
 pub returns-clause-answer : goal.returns-clause-answer

@@ -1,7 +1,9 @@
 use Rattle.output_steps.proofs.OutputLaws.{outputs_end_lem}
 use Rattle.output_steps.proofs.ListOutLaws.{outputs_encodable, outputs_room, payload_read_encodable, list_out}
+use Rattle.std.proofs.Common.{refl}
 use borrow.Author.Rules.{rules}
 use Rattle.output_steps.proofs.list_out.list_out.Goals as goal
+use Rattle.output_steps.proofs.list_out.list_out.Goals.{then-walk, else-walk}
 
 pub write_out-requires-clause-from_in_bounds : goal.write_out-requires-clause-from_in_bounds
 write_out-requires-clause-from_in_bounds c = (search outputs_end_lem, search rules, search rules)
@@ -16,4 +18,10 @@ pub write_out-requires-clause-pack_in_bounds : goal.write_out-requires-clause-pa
 write_out-requires-clause-pack_in_bounds c = search outputs_room
 
 pub returns : goal.returns
-returns c = search list_out
+returns c =
+    list_out c.args.entry.now.pack.now c.args.entry.now.parts _ _ refl c.of-n.ensures.outputs c.args.stage c.args.walk c.args.entry.now.outputs c.if-walk.primitive_out _ _ _ _ _ (search rules)
+    (elim c.if-walk.branch [
+      then-walk w ↦ rw (w.primitive_out-is, w.if-walk.true) refl
+      | else-walk w ↦ rw (w.primitive_out-is, w.if-walk.false) refl
+    ])
+    c.primitive_out-primitive.ensures refl c.payload_of-payload.ensures c.write_out.ensures

@@ -14,9 +14,9 @@ returns-in_err-fragment_slots c = search (rules, refused_ends, inputs_stand)
 pub location_uses-requires : goal.location_uses-requires
 location_uses-requires c = (search outputs_end_lem, search rules, search rules)
 
-pub returns-then-most-outputs : goal.returns-then-most-outputs
+pub returns-then-most-entry : goal.returns-then-most-entry
 unfolding fragment_outputs
-returns-then-most-outputs c = search (rules, passed_on, inputs_stand, colours_past)
+returns-then-most-entry c = search (rules, passed_on, inputs_stand, colours_past)
 
 pub returns : goal.returns
 unfolding fragment_outputs

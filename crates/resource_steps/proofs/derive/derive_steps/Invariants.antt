@@ -10,6 +10,6 @@ use Rattle.resource_steps.proofs.derive.derive_steps.Given as goal
 
 abbrev pub invariant-loop-passed : goal.invariant-loop-passed
 invariant-loop-passed l =
-    (layout_well_formed l.layout ≡ true) × (each_below (length l.resources) (contents (drop l.passed l.listed)) ≡ true)
-    × (derive_steps l.stage l.resources (pairs_of l.pairs) (contents l.listed) (decode_layout l.initial.layout)
-    ≡ derive_behind l.passed (derive_steps l.stage l.resources (pairs_of l.pairs) (contents (drop l.passed l.listed)) (decode_layout l.layout)))
+    (layout_well_formed l.layout ≡ true) × (each_below (length l.resources.table) (contents (drop l.passed l.listed)) ≡ true)
+    × (derive_steps l.stage l.resources.table (pairs_of l.pairs) (contents l.listed) (decode_layout l.initial.layout)
+    ≡ derive_behind l.passed (derive_steps l.stage l.resources.table (pairs_of l.pairs) (contents (drop l.passed l.listed)) (decode_layout l.layout)))

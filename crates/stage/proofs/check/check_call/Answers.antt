@@ -3,8 +3,8 @@ use Rattle.stage.proofs.CheckLaws.{good_layout, good_sizes, good_inputs}
 use Rattle.stage.proofs.RunLaws.{stage_call_lem, stage_went}
 use Rattle.stage.proofs.check.check_call.Goals as goal
 
-pub on_named-requires-clause-well_formed : goal.on_named-requires-clause-well_formed
-on_named-requires-clause-well_formed c =
+pub on_named-requires : goal.on_named-requires
+on_named-requires c =
     let good = c.call_good.ensures in
     (good_layout _ _ _ _ _ good (search rules), good_sizes _ _ _ _ _ good (search rules), good_inputs _ _ _ _ _ good (search rules))
 

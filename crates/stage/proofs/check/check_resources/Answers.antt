@@ -10,8 +10,8 @@ returns-in_err-derive_steps-clause-state_after c =
     let p = err_from_is_err_and c.from_residual.result c.from_residual.ensures.1 in
     rw p.1 (search (resources_derived, stopped_at, c.in_err-derive_steps.was, p.2))
 
-pub returns-then-codes-eq1-clause-state_after : goal.returns-then-codes-eq1-clause-state_after
-returns-then-codes-eq1-clause-state_after c = search (resources_derived, stopped_nowhere, c.in_ok-derive_steps.was)
+pub returns-then-derived-clause-state_after : goal.returns-then-derived-clause-state_after
+returns-then-derived-clause-state_after c = search (resources_derived, stopped_nowhere, c.in_ok-derive_steps.was)
 
 pub provide_steps-requires-clause-listed_below : goal.provide_steps-requires-clause-listed_below
 provide_steps-requires-clause-listed_below c = search resources_below
