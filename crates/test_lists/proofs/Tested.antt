@@ -9,7 +9,7 @@ use mathlib.Core.List.{List, [], ◌∷◌}
 use lib.Dec.{leb, ltb}
 use lib.ListN.{length, take, drop, set, length-drop}
 use lib.Seq.{length-take-le}
-use borrow.Author.Tests.{eqb-true, not-false, eq-eqb, lt-ltb, le-ltb, ltb-true, leb-true}
+use borrow.Author.Tests.{eqb-true, not-true, not-false, eq-eqb, lt-ltb, le-ltb, ltb-true, leb-true}
 use Rattle.word.specs.Words.{word_at, kind_of, content_of, bits}
 use Rattle.bindings.specs.Format.{place_well_formed, place_of, size_limit, size_word, entry_encodable, entry_well_formed, entry_of, parts_well_formed, entry_of_parts}
 use Rattle.bindings.specs.declared.types.ResourceBinding.{ResourceBinding}
