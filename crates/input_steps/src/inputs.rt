@@ -1,11 +1,11 @@
 // The inputs of an entry point against what the stage before provides.
-ghost use Rattle.std.specs.Prelude.{◌≡◌, true, ◌||◌, [], ◌∷◌, ◌+◌, ◌<◌, ◌≤◌, ◌^◌, length, drop, Some};
+ghost use Rattle.std.specs.Prelude.{◌≡◌, [], ◌∷◌, ◌+◌, ◌<◌, ◌≤◌, ◌^◌, length, drop, Some};
 ghost use Rattle.word.specs.Choice.{pick};
 ghost use Rattle.word.specs.Refusals.{answer_of, number_or_none};
 ghost use Rattle.word.specs.Words.{word_at, content_of};
 ghost use Rattle.varying.specs.Format.{var_of};
 ghost use Rattle.stage_lists.specs.Meaning.{varying_at};
-ghost use Rattle.stage_lists.specs.Format.{out_well_formed, decode_stage};
+ghost use Rattle.stage_lists.specs.Format.{decode_stage};
 ghost use Rattle.interface.specs.Inner.Reads.{varying, varyings};
 ghost use Rattle.interface.specs.Inner.Parts.{varyings_end};
 ghost use Rattle.input_steps.specs.Inputs.{vertex_input, fragment_input, input_number, met_local, met_built_in, start_walk, input_step, input_steps};
@@ -13,7 +13,7 @@ ghost use Rattle.input_steps.specs.Inputs.{vertex_input, fragment_input, input_n
 use crate::types::InputWalk;
 use interface::reads::{built_in_of, varying_width};
 use interface::types::{BuiltIn, ShaderStage};
-use stage_lists::stage_io::find_location;
+use stage_lists::stage_io::StageList;
 use varying::{InterfaceVar, location_well_formed, var_of};
 use word::content;
 use word::refusal::{Number, Refusal};
@@ -77,16 +77,15 @@ fn provided_input(stage: ShaderStage, w: u32, provided: u32) -> Result<(), Numbe
 #[tactic(auto, unfolding(crate::specs::Inputs::input_number))]
 fn local_input(
     stage: ShaderStage,
-    inputs: &[u32],
+    inputs: &StageList<'_>,
     location: u32,
     w: u32,
     near: usize,
 ) -> Result<(), Number>
-    requires { out_well_formed inputs.now ≡ true }
-    ensures { number_or_none result ≡ input_number stage (var_of w) (varying_at location (decode_stage inputs.now).varyings) }
+    ensures { number_or_none result ≡ input_number stage (var_of w) (varying_at location (decode_stage inputs.now.words.now).varyings) }
 {
-    match find_location(inputs, location, near) {
-        Some(index) => provided_input(stage, w, inputs[index]),
+    match inputs.find_location(location, near) {
+        Some(index) => provided_input(stage, w, inputs.words[index]),
         None => Err(Number::InputMissing),
     }
 }
@@ -115,14 +114,14 @@ fn met_built_in(built_in: BuiltIn, walk: &mut InputWalk)
 // One input by its words: a local one is judged, a built-in one is noted. The walk is altered in place.
 pub(crate) fn input_step(
     stage: ShaderStage,
-    inputs: &[u32],
+    inputs: &StageList<'_>,
     first: u32,
     second: u32,
     walk: &mut InputWalk,
 ) -> Result<(), Refusal>
-    requires { (walk.old.locals < 2 ^ 31) × (out_well_formed inputs.now ≡ true) }
-    ensures answer { answer_of result ≡ (input_step stage (decode_stage inputs.now).varyings (varying (first ∷ second ∷ [])) walk.old).answer }
-    ensures walk { walk.new ≡ (input_step stage (decode_stage inputs.now).varyings (varying (first ∷ second ∷ [])) walk.old).walk }
+    requires { walk.old.locals < 2 ^ 31 }
+    ensures answer { answer_of result ≡ (input_step stage (decode_stage inputs.now.words.now).varyings (varying (first ∷ second ∷ [])) walk.old).answer }
+    ensures walk { walk.new ≡ (input_step stage (decode_stage inputs.now.words.now).varyings (varying (first ∷ second ∷ [])) walk.old).walk }
 {
     if !location_well_formed(first) {
         met_built_in(built_in_of(first), walk);
@@ -141,13 +140,12 @@ pub fn input_steps(
     pack: &[u32],
     from: usize,
     n: usize,
-    inputs: &[u32],
+    inputs: &StageList<'_>,
     stage: ShaderStage,
 ) -> (Result<(), Refusal>, InputWalk)
-    requires in_bounds { (varyings_end pack.now n from < length pack.now) × (length pack.now ≤ 4096) × (n ≤ 63) }
-    requires well_formed { out_well_formed inputs.now ≡ true }
-    ensures answer { answer_of result.0 ≡ (input_steps stage (decode_stage inputs.now).varyings (varyings n (drop from pack.now)) start_walk).answer }
-    ensures walk { result.1 ≡ (input_steps stage (decode_stage inputs.now).varyings (varyings n (drop from pack.now)) start_walk).walk }
+    requires { (varyings_end pack.now n from < length pack.now) × (length pack.now ≤ 4096) × (n ≤ 63) }
+    ensures answer { answer_of result.0 ≡ (input_steps stage (decode_stage inputs.now.words.now).varyings (varyings n (drop from pack.now)) start_walk).answer }
+    ensures walk { result.1 ≡ (input_steps stage (decode_stage inputs.now.words.now).varyings (varyings n (drop from pack.now)) start_walk).walk }
 {
     let mut walk = InputWalk::START;
     let mut at = from;

@@ -3,7 +3,7 @@ ghost use Rattle.std.specs.Prelude.{◌≡◌, true, ◌&&◌, ◌<◌, ◌≤�
 ghost use Rattle.word.specs.Refusals.{answer_of};
 ghost use Rattle.layouts.specs.Format.{layout_well_formed, decode_layout};
 ghost use Rattle.sizes.specs.Format.{sizes_well_formed, decode_sizes};
-ghost use Rattle.stage_lists.specs.Format.{out_well_formed, decode_stage};
+ghost use Rattle.stage_lists.specs.Format.{decode_stage};
 ghost use Rattle.interface.specs.Format.{decode, interface_of};
 ghost use Rattle.interface.specs.Meaning.{entry_point_nth};
 ghost use Rattle.output_steps.specs.Inner.Stands.{meant};
@@ -26,7 +26,7 @@ use resource_steps::derive::derive_steps;
 use resource_steps::provide::provide_steps;
 use resource_steps::table::{ResourceTable, Resources};
 use sizes::sizes::sizes_well_formed;
-use stage_lists::stage_io::stage_well_formed;
+use stage_lists::stage_io::{StageList, stage_well_formed};
 use word::refusal::{Number, Refusal};
 
 // The resources of an entry point against the layout and the sizes.
@@ -78,15 +78,14 @@ fn check_bindings(
 // The steps behind the pairs, and the list out where all of them passed.
 fn judge_out(
     entry: &StageEntry<'_, '_>,
-    inputs: &[u32],
+    inputs: &StageList<'_>,
     out: &mut [u32],
     request: Request,
 ) -> Result<(), Refusal>
-    requires well_formed { out_well_formed inputs.now ≡ true }
-    requires room { out_words (meant entry.now.point) ≤ length out.old }
-    ensures answer { answer_of result ≡ behind_pairs request (interface_of (decode entry.now.point.pack.now)) (meant entry.now.point) (decode_stage inputs.now) }
+    requires { out_words (meant entry.now.point) ≤ length out.old }
+    ensures answer { answer_of result ≡ behind_pairs request (interface_of (decode entry.now.point.pack.now)) (meant entry.now.point) (decode_stage inputs.now.words.now) }
     ensures out_after { out.new ≡ handed_out (answer_of result) request.stage (meant entry.now.point)
-        (input_walk request (meant entry.now.point) (decode_stage inputs.now)).walk out.old }
+        (input_walk request (meant entry.now.point) (decode_stage inputs.now.words.now)).walk out.old }
 {
     let walk = judge(entry, inputs, request)?;
     list_out(&entry.point, request.stage, walk, out);
@@ -110,14 +109,14 @@ fn run_body(
     entry: &StageEntry<'_, '_>,
     layout: &mut [u32],
     sizes: &mut [u32],
-    inputs: &[u32],
+    inputs: &StageList<'_>,
     out: &mut [u32],
     codes: Codes,
 ) -> Result<(), Refusal>
-    requires well_formed { (layout_well_formed layout.old ≡ true) × (sizes_well_formed sizes.old ≡ true) × (out_well_formed inputs.now ≡ true) }
+    requires well_formed { (layout_well_formed layout.old ≡ true) × (sizes_well_formed sizes.old ≡ true) }
     requires room { out_words (meant entry.now.point) ≤ length out.old }
     ensures { outcome (answer_of result) layout.new sizes.new out.new ≡ run_body (derived_of codes) (request_of codes)
-        (lent layout.old sizes.old inputs.now out.old)
+        (lent layout.old sizes.old inputs.now.words.now out.old)
         (interface_of (decode entry.now.point.pack.now)) (meant entry.now.point) }
 {
     let request = request_of(codes);
@@ -131,14 +130,14 @@ fn on_entry_point(
     position: usize,
     layout: &mut [u32],
     sizes: &mut [u32],
-    inputs: &[u32],
+    inputs: &StageList<'_>,
     out: &mut [u32],
     codes: Codes,
 ) -> Result<(), Refusal>
     requires position_in_bounds { position < length (interface_of (decode shader.now.module.pack.now)).entries }
-    requires well_formed { (layout_well_formed layout.old ≡ true) × (sizes_well_formed sizes.old ≡ true) × (out_well_formed inputs.now ≡ true) }
+    requires well_formed { (layout_well_formed layout.old ≡ true) × (sizes_well_formed sizes.old ≡ true) }
     ensures { outcome (answer_of result) layout.new sizes.new out.new ≡ on_entry_point (derived_of codes) (request_of codes)
-        (lent layout.old sizes.old inputs.now out.old)
+        (lent layout.old sizes.old inputs.now.words.now out.old)
         (interface_of (decode shader.now.module.pack.now)) (entry_point_nth (interface_of (decode shader.now.module.pack.now)).entries position) }
 {
     let pack = shader.module.pack;
@@ -162,14 +161,14 @@ fn on_named(
     shader: &Shader<'_, '_>,
     layout: &mut [u32],
     sizes: &mut [u32],
-    inputs: &[u32],
+    inputs: &StageList<'_>,
     out: &mut [u32],
     name: &[u8],
     codes: Codes,
 ) -> Result<(), Refusal>
-    requires { (layout_well_formed layout.old ≡ true) × (sizes_well_formed sizes.old ≡ true) × (out_well_formed inputs.now ≡ true) }
+    requires { (layout_well_formed layout.old ≡ true) × (sizes_well_formed sizes.old ≡ true) }
     ensures { outcome (answer_of result) layout.new sizes.new out.new ≡ on_named (call shader.now.module.pack.now name.now codes
-        (lent layout.old sizes.old inputs.now out.old)) (interface_of (decode shader.now.module.pack.now)) }
+        (lent layout.old sizes.old inputs.now.words.now out.old)) (interface_of (decode shader.now.module.pack.now)) }
 {
     let Some(position) = shader.module.find_entry_point(stage_at(codes.stage), name) else {
         return Err(Refusal::plain(Number::EntryAbsent));
@@ -217,7 +216,8 @@ fn check_call(
         (lent layout.old sizes.old inputs.now out.old)) }
 {
     if call_good(layout, sizes, inputs, codes) {
-        return on_named(shader, layout, sizes, inputs, out, name, codes);
+        let inputs = StageList { words: inputs };
+        return on_named(shader, layout, sizes, &inputs, out, name, codes);
     }
     Err(Refusal::plain(Number::BadCall))
 }

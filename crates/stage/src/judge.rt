@@ -2,7 +2,7 @@
 ghost use Rattle.std.specs.Prelude.{◌≡◌, true, length, IfOk};
 ghost use Rattle.word.specs.Refusals.{answer_of};
 ghost use Rattle.layouts.specs.Format.{layout_well_formed, decode_layout};
-ghost use Rattle.stage_lists.specs.Format.{out_well_formed, decode_stage};
+ghost use Rattle.stage_lists.specs.Format.{decode_stage};
 ghost use Rattle.interface.specs.Format.{decode, interface_of};
 ghost use Rattle.output_steps.specs.Inner.Stands.{meant};
 ghost use Rattle.input_steps.specs.Workgroup.{workgroup_step};
@@ -19,6 +19,7 @@ use last_steps::last::last_step;
 use output_steps::outputs::slots_step;
 use output_steps::types::{EntryPoint, Request};
 use resource_steps::pairs::pair_uses;
+use stage_lists::stage_io::StageList;
 use word::refusal::Refusal;
 use word::{content, word};
 
@@ -63,12 +64,12 @@ fn payload_of(point: &EntryPoint<'_>) -> Option<u32>
 #[tactic(auto, unfolding(crate::specs::Stage::behind_inputs, last_steps::specs::Last::last_step))]
 fn after_inputs(
     entry: &StageEntry<'_, '_>,
-    inputs: &[u32],
+    inputs: &StageList<'_>,
     request: Request,
     walk: InputWalk,
 ) -> Result<(), Refusal>
     ensures { answer_of result ≡ behind_inputs request (interface_of (decode entry.now.point.pack.now)).limits
-        (meant entry.now.point) (decode_stage inputs.now) walk }
+        (meant entry.now.point) (decode_stage inputs.now.words.now) walk }
 {
     let point = &entry.point;
     let limits = limits(point.pack);
@@ -78,8 +79,8 @@ fn after_inputs(
         limits,
         mesh_of(point),
         payload_of(point),
-        stage_lists::stage_io::payload(inputs),
-        stage_lists::stage_io::primitive_index(inputs),
+        stage_lists::stage_io::payload(inputs.words),
+        stage_lists::stage_io::primitive_index(inputs.words),
         walk,
     )
 }
@@ -112,12 +113,11 @@ fn size_step(entry: &StageEntry<'_, '_>, stage: ShaderStage) -> Result<(), Refus
 // All steps behind the pairs: the walk over the inputs, where each of them passed.
 pub(crate) fn judge(
     entry: &StageEntry<'_, '_>,
-    inputs: &[u32],
+    inputs: &StageList<'_>,
     request: Request,
 ) -> Result<InputWalk, Refusal>
-    requires { out_well_formed inputs.now ≡ true }
-    ensures answer { answer_of result ≡ behind_pairs request (interface_of (decode entry.now.point.pack.now)) (meant entry.now.point) (decode_stage inputs.now) }
-    ensures walk { IfOk result (λ w. w ≡ (input_walk request (meant entry.now.point) (decode_stage inputs.now)).walk) }
+    ensures answer { answer_of result ≡ behind_pairs request (interface_of (decode entry.now.point.pack.now)) (meant entry.now.point) (decode_stage inputs.now.words.now) }
+    ensures walk { IfOk result (λ w. w ≡ (input_walk request (meant entry.now.point) (decode_stage inputs.now.words.now)).walk) }
 {
     size_step(entry, request.stage)?;
     let parts = entry.point.parts;

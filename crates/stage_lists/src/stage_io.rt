@@ -117,20 +117,29 @@ fn find_within(l: &[u32], n: usize, location: u32) -> Option<usize>
     None
 }
 
-// Where the word of the variable at a location stands in a stage list. The variable at a likely position is tried first.
-pub fn find_location(l: &[u32], location: u32, near: usize) -> Option<usize>
-    requires { out_well_formed l.now ≡ true }
-    ensures variable { variable_found l.now result ≡ varying_at location (decode_stage l.now).varyings }
-    ensures within { found_below (length l.now) result ≡ true }
-    ensures value { result ≡ location_from location (decode_stage l.now).varyings 3 }
-{
-    let n = counted(l);
-    if near < n {
-        if l[2 + 2 * near] % 0x800_0000 == location {
-            return Some(3 + 2 * near);
+// A stage list that is lent for reading, of whatever length.
+#[derive(Clone, Copy)]
+pub struct StageList<'a> {
+    pub words: &'a [u32],
+    pub ghost well_formed: { out_well_formed words.now ≡ true },
+}
+
+impl StageList<'_> {
+    // Where the word of the variable at a location stands. The variable at a likely position is tried first.
+    pub fn find_location(&self, location: u32, near: usize) -> Option<usize>
+        ensures variable { variable_found self.now.words.now result ≡ varying_at location (decode_stage self.now.words.now).varyings }
+        ensures within { found_below (length self.now.words.now) result ≡ true }
+        ensures value { result ≡ location_from location (decode_stage self.now.words.now).varyings 3 }
+    {
+        let l = self.words;
+        let n = counted(l);
+        if near < n {
+            if l[2 + 2 * near] % 0x800_0000 == location {
+                return Some(3 + 2 * near);
+            }
         }
+        find_within(l, n, location)
     }
-    find_within(l, n, location)
 }
 
 pub fn primitive_index(l: &[u32]) -> Option<bool>

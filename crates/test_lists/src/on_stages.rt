@@ -7,7 +7,7 @@ use numeric::type_words::type_word;
 use places::heads::counted;
 use stage_lists::list_out::{begin_out, insert_words};
 use stage_lists::stage_io::{
-    find_location, out_well_formed, payload, primitive_index, stage_well_formed,
+    StageList, out_well_formed, payload, primitive_index, stage_well_formed,
 };
 use std::io;
 use varying::{InterfaceVar, payload_of, payload_well_formed, var_of, var_well_formed};
@@ -50,7 +50,7 @@ pub(crate) fn look(rt: &impl Print, l: &[u32], location: u32, near: u32) -> io::
     }
     show_primitive(rt, primitive_index(l))?;
     show_payload(rt, payload(l))?;
-    show_found(rt, l, find_location(l, location, near as usize))
+    show_found(rt, l, StageList { words: l }.find_location(location, near as usize))
 }
 
 fn primitive_of(code: u32) -> Option<bool> {

@@ -1,5 +1,5 @@
 use Rattle.stage_lists.proofs.StageWays.{location_decoded, location_provided, first_there, varyings_within, near_inside, near_below, near_found}
-use Rattle.stage_lists.proofs.stage_io.find_location.Goals as goal
+use Rattle.stage_lists.proofs.stage_io.StageList.find_location.Goals as goal
 
 pub counted-n-requires : goal.counted-n-requires
 counted-n-requires c = search first_there
