@@ -9,7 +9,7 @@ ghost use Rattle.entry_points.specs.Rules.{entries_in, of_stage, find_entry_poin
 
 use crate::module::Module;
 use crate::names::same_name;
-use interface::reads::{entry_count, entry_parts, position_at, stage_at};
+use interface::reads::{AcceptedPack, position_at, stage_at};
 use interface::types::{EntryParts, ShaderStage};
 use pack_check::check_pack::index_pack;
 use word::refusal::{Number, Refusal};
@@ -40,7 +40,7 @@ impl Module<'_> {
         ensures value { result ≡ length (entries_in self.now.pack.now) }
         ensures upper_bound { result ≤ 16 }
     {
-        entry_count(self.pack)
+        AcceptedPack { words: self.pack }.entry_count()
     }
 
     // Where the parts of an entry point stand.
@@ -50,7 +50,7 @@ impl Module<'_> {
         ensures placed { Placed self.now.pack.now result }
         ensures parts { result ≡ parts_at self.now.pack.now (head_at self.now.pack.now position) }
     {
-        entry_parts(self.pack, self.heads, position)
+        AcceptedPack { words: self.pack }.entry_parts(self.heads, position)
     }
 
     // Where an entry point begins.

@@ -2,10 +2,10 @@
 ghost use Rattle.std.specs.Prelude.{◌≡◌, ◌+◌, ◌<◌, ◌≤◌, ◌^◌, eqb, length};
 ghost use Rattle.word.specs.Choice.{pick};
 ghost use Rattle.word.specs.Words.{bits, bit};
-ghost use Rattle.interface.specs.Format.{name_words, decode, decoded_number};
+ghost use Rattle.interface.specs.Format.{name_words};
 ghost use Rattle.interface.specs.Inner.Parts.{varyings_end, resource_end, parts_at, entry_end, entries_at};
 
-use crate::reads::{resource_count, varying_width};
+use crate::reads::{AcceptedPack, varying_width};
 use crate::types::EntryParts;
 use word::word;
 
@@ -113,16 +113,17 @@ fn resource_end(pack: &[u32], at: usize) -> usize
     }
 }
 
-// Where the first entry point of an accepted pack begins.
-#[tactic(auto, using(crate::proofs::ReadsParts::end_more), unfolding(crate::specs::Inner::Parts::end_from))]
-pub fn entries_at(pack: &[u32]) -> usize
-    requires { decoded_number (decode pack.now) ≡ 0 }
-    ensures value { result ≡ entries_at pack.now }
-    ensures upper_bound { result ≤ 400 }
-{
-    let mut at = 15;
-    for _ in 0..resource_count(pack) {
-        at = resource_end(pack, at);
+impl AcceptedPack<'_> {
+    // Where the first entry point begins.
+    #[tactic(auto, using(crate::proofs::ReadsParts::end_more), unfolding(crate::specs::Inner::Parts::end_from))]
+    pub fn entries_at(&self) -> usize
+        ensures value { result ≡ entries_at self.now.words.now }
+        ensures upper_bound { result ≤ 400 }
+    {
+        let mut at = 15;
+        for _ in 0..self.resource_count() {
+            at = resource_end(self.words, at);
+        }
+        at
     }
-    at
 }

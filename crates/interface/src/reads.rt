@@ -84,51 +84,6 @@ fn limit(pack: &[u32], at: usize) -> u32
     content(pack[at])
 }
 
-// The limits of an accepted pack.
-#[tactic(auto, using(crate::proofs::ReadsWays::read_limits))]
-pub fn limits(pack: &[u32]) -> Limits
-    requires { decoded_number (decode pack.now) ≡ 0 }
-    ensures { result ≡ (interface_of (decode pack.now)).limits }
-{
-    Limits {
-        max_inter_stage_shader_variables: limit(pack, 2),
-        max_color_attachments: limit(pack, 3),
-        max_compute_workgroup_size_x: limit(pack, 4),
-        max_compute_workgroup_size_y: limit(pack, 5),
-        max_compute_workgroup_size_z: limit(pack, 6),
-        max_compute_invocations_per_workgroup: limit(pack, 7),
-        max_task_invocations_per_dimension: limit(pack, 8),
-        max_task_invocations_per_workgroup: limit(pack, 9),
-        max_mesh_invocations_per_dimension: limit(pack, 10),
-        max_mesh_invocations_per_workgroup: limit(pack, 11),
-        max_mesh_output_vertices: limit(pack, 12),
-        max_mesh_output_primitives: limit(pack, 13),
-        max_task_payload_size: limit(pack, 14),
-    }
-}
-
-// How many entry points an accepted pack has.
-#[tactic(auto, using(crate::proofs::ReadsWays::counted_entries))]
-pub fn entry_count(pack: &[u32]) -> usize
-    requires { decoded_number (decode pack.now) ≡ 0 }
-    ensures value { result ≡ length (interface_of (decode pack.now)).entries }
-    ensures counted { result ≡ entry_count pack.now }
-    ensures upper_bound { result ≤ 16 }
-{
-    (pack[1] % 0x1_0000) as usize
-}
-
-// How many resources an accepted pack has.
-#[tactic(auto, using(crate::proofs::ReadsWays::counted_resources))]
-pub(crate) fn resource_count(pack: &[u32]) -> usize
-    requires { decoded_number (decode pack.now) ≡ 0 }
-    ensures value { result ≡ length (interface_of (decode pack.now)).resources }
-    ensures counted { result ≡ resource_count pack.now }
-    ensures upper_bound { result ≤ 128 }
-{
-    (pack[1] / 0x1_0000 % 0x800) as usize
-}
-
 // The position that a table has at an index.
 pub fn position_at(table: &[u16], index: usize) -> u16
     requires { index < length table.now }
@@ -137,14 +92,66 @@ pub fn position_at(table: &[u16], index: usize) -> u16
     table[index]
 }
 
-// The parts of the entry point at a place among those of an accepted pack.
-#[tactic(auto, using(crate::proofs::ReadsParts::found_entry))]
-pub fn entry_parts(pack: &[u32], heads: &[u16], position: usize) -> EntryParts
-    requires accepted { (decoded_number (decode pack.now) ≡ 0) × Heads pack.now heads.now }
-    requires position_in_bounds { position < length (interface_of (decode pack.now)).entries }
-    ensures stands { standing pack.now result ≡ entry_point_nth (interface_of (decode pack.now)).entries position }
-    ensures placed { Placed pack.now result }
-    ensures parts { result ≡ parts_at pack.now (head_at pack.now position) }
-{
-    parts_at(pack, position_at(heads, position) as usize)
+// The words of a pack that was accepted.
+#[derive(Clone, Copy)]
+pub struct AcceptedPack<'a> {
+    pub words: &'a [u32],
+    pub ghost accepted: { decoded_number (decode words.now) ≡ 0 },
+}
+
+impl AcceptedPack<'_> {
+    // The limits that the pack is checked against.
+    #[tactic(auto, using(crate::proofs::ReadsWays::read_limits))]
+    pub fn limits(&self) -> Limits
+        ensures { result ≡ (interface_of (decode self.now.words.now)).limits }
+    {
+        let pack = self.words;
+        Limits {
+            max_inter_stage_shader_variables: limit(pack, 2),
+            max_color_attachments: limit(pack, 3),
+            max_compute_workgroup_size_x: limit(pack, 4),
+            max_compute_workgroup_size_y: limit(pack, 5),
+            max_compute_workgroup_size_z: limit(pack, 6),
+            max_compute_invocations_per_workgroup: limit(pack, 7),
+            max_task_invocations_per_dimension: limit(pack, 8),
+            max_task_invocations_per_workgroup: limit(pack, 9),
+            max_mesh_invocations_per_dimension: limit(pack, 10),
+            max_mesh_invocations_per_workgroup: limit(pack, 11),
+            max_mesh_output_vertices: limit(pack, 12),
+            max_mesh_output_primitives: limit(pack, 13),
+            max_task_payload_size: limit(pack, 14),
+        }
+    }
+
+    // How many entry points the pack has.
+    #[tactic(auto, using(crate::proofs::ReadsWays::counted_entries))]
+    pub fn entry_count(&self) -> usize
+        ensures value { result ≡ length (interface_of (decode self.now.words.now)).entries }
+        ensures counted { result ≡ entry_count self.now.words.now }
+        ensures upper_bound { result ≤ 16 }
+    {
+        (self.words[1] % 0x1_0000) as usize
+    }
+
+    // How many resources the pack has.
+    #[tactic(auto, using(crate::proofs::ReadsWays::counted_resources))]
+    pub(crate) fn resource_count(&self) -> usize
+        ensures value { result ≡ length (interface_of (decode self.now.words.now)).resources }
+        ensures counted { result ≡ resource_count self.now.words.now }
+        ensures upper_bound { result ≤ 128 }
+    {
+        (self.words[1] / 0x1_0000 % 0x800) as usize
+    }
+
+    // The parts of the entry point at a place among those of the pack, by a table of their positions.
+    #[tactic(auto, using(crate::proofs::ReadsParts::found_entry))]
+    pub fn entry_parts(&self, heads: &[u16], position: usize) -> EntryParts
+        requires heads_known { Heads self.now.words.now heads.now }
+        requires position_in_bounds { position < length (interface_of (decode self.now.words.now)).entries }
+        ensures stands { standing self.now.words.now result ≡ entry_point_nth (interface_of (decode self.now.words.now)).entries position }
+        ensures placed { Placed self.now.words.now result }
+        ensures parts { result ≡ parts_at self.now.words.now (head_at self.now.words.now position) }
+    {
+        parts_at(self.words, position_at(heads, position) as usize)
+    }
 }

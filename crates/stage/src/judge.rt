@@ -13,7 +13,7 @@ use input_steps::inputs::input_steps;
 use input_steps::types::InputWalk;
 use input_steps::workgroup::workgroup_step;
 use interface::parts::Counts;
-use interface::reads::{limits, topology_at};
+use interface::reads::{AcceptedPack, topology_at};
 use interface::types::{EntryPointMeshInfo, ShaderStage, WorkgroupSize};
 use last_steps::last::last_step;
 use output_steps::outputs::slots_step;
@@ -72,7 +72,7 @@ fn after_inputs(
         (meant entry.now.point) (decode_stage inputs.now.words.now) walk }
 {
     let point = &entry.point;
-    let limits = limits(point.pack);
+    let limits = AcceptedPack { words: point.pack }.limits();
     slots_step(point, limits, request, walk.locals)?;
     last_step(
         request,
@@ -107,7 +107,10 @@ pub(crate) fn pair_step(
 fn size_step(entry: &StageEntry<'_, '_>, stage: ShaderStage) -> Result<(), Refusal>
     ensures { answer_of result ≡ workgroup_step stage (meant entry.now.point).workgroup (interface_of (decode entry.now.point.pack.now)).limits }
 {
-    workgroup_step(stage, workgroup_of(&entry.point), limits(entry.point.pack))
+    let pack = AcceptedPack {
+        words: entry.point.pack,
+    };
+    workgroup_step(stage, workgroup_of(&entry.point), pack.limits())
 }
 
 // All steps behind the pairs: the walk over the inputs, where each of them passed.
