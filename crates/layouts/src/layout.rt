@@ -88,73 +88,79 @@ pub fn used_words(l: &[u32]) -> usize
     n.min(l.len())
 }
 
-// The position of the entry at the place that a word tells.
-pub fn find_entry_word(l: &[u32], place: u32) -> Option<usize>
-    requires { layout_well_formed l.now ≡ true }
-    ensures value { result ≡ find_entry (place_of place) (decode_layout l.now) }
-    ensures below { found_below (length (decode_layout l.now).entries) result ≡ true }
-{
-    find_word::<ENTRY_WIDTH>(&l[1..], counted(l), 0x2000_0000 + content(place))
+// A layout list that is lent for reading.
+#[derive(Clone, Copy)]
+pub struct LayoutList<'a> {
+    pub words: &'a [u32],
+    pub ghost well_formed: { layout_well_formed words.now ≡ true },
 }
 
-// The same where a position is likely to have the entry: that one is tried first.
-pub fn find_entry_near(l: &[u32], place: u32, near: usize) -> Option<usize>
-    requires { layout_well_formed l.now ≡ true }
-    ensures value { result ≡ find_entry (place_of place) (decode_layout l.now) }
-    ensures below { found_below (length (decode_layout l.now).entries) result ≡ true }
-{
-    find_near::<ENTRY_WIDTH>(&l[1..], counted(l), content(place), near)
-}
+impl LayoutList<'_> {
+    // The position of the entry at the place that a word tells.
+    pub fn find_entry_word(&self, place: u32) -> Option<usize>
+        ensures value { result ≡ find_entry (place_of place) (decode_layout self.now.words.now) }
+        ensures below { found_below (length (decode_layout self.now.words.now).entries) result ≡ true }
+    {
+        find_word::<ENTRY_WIDTH>(
+            &self.words[1..],
+            counted(self.words),
+            0x2000_0000 + content(place),
+        )
+    }
 
-// A word of the entry at a position.
-// What these readers ask of the list stands at each: the list is lent for writing between look-ups, and a view would be made anew at each.
-fn entry_word(l: &[u32], index: usize, k: usize) -> u32
-    requires well_formed { layout_well_formed l.now ≡ true }
-    requires index_in_bounds { (index < length (decode_layout l.now).entries) × (k < entry_width) }
-    ensures { result ≡ word_at l.now (1 + entry_width * index + k) }
-{
-    l[1 + ENTRY_WIDTH * index + k]
-}
+    // The same where a position is likely to have the entry: that one is tried first.
+    pub fn find_entry_near(&self, place: u32, near: usize) -> Option<usize>
+        ensures value { result ≡ find_entry (place_of place) (decode_layout self.now.words.now) }
+        ensures below { found_below (length (decode_layout self.now.words.now).entries) result ≡ true }
+    {
+        find_near::<ENTRY_WIDTH>(&self.words[1..], counted(self.words), content(place), near)
+    }
 
-// The word of the place of the entry at a position.
-pub fn entry_place(l: &[u32], index: usize) -> u32
-    requires well_formed { layout_well_formed l.now ≡ true }
-    requires index_in_bounds { index < length (decode_layout l.now).entries }
-    ensures { result ≡ place_word (entry_nth (decode_layout l.now).entries index).bind }
-{
-    entry_word(l, index, 0)
-}
+    // A word of the entry at a position.
+    fn entry_word(&self, index: usize, k: usize) -> u32
+        requires { (index < length (decode_layout self.now.words.now).entries) × (k < entry_width) }
+        ensures { result ≡ word_at self.now.words.now (1 + entry_width * index + k) }
+    {
+        self.words[1 + ENTRY_WIDTH * index + k]
+    }
 
-// The type word of the entry at a position: with the entry's least size it means the entry's type.
-pub fn entry_type(l: &[u32], index: usize) -> u32
-    requires well_formed { layout_well_formed l.now ≡ true }
-    requires index_in_bounds { index < length (decode_layout l.now).entries }
-    ensures value { result ≡ of_kind 18 (binding_code (entry_nth (decode_layout l.now).entries index).ty) }
-    ensures meaning { binding_type_of result (least_size_of (entry_nth (decode_layout l.now).entries index).ty)
-        ≡ (entry_nth (decode_layout l.now).entries index).ty }
-{
-    entry_word(l, index, 1)
-}
+    // The word of the place of the entry at a position.
+    pub fn entry_place(&self, index: usize) -> u32
+        requires { index < length (decode_layout self.now.words.now).entries }
+        ensures { result ≡ place_word (entry_nth (decode_layout self.now.words.now).entries index).bind }
+    {
+        self.entry_word(index, 0)
+    }
 
-// The least size of the entry at a position.
-pub fn entry_least(l: &[u32], index: usize) -> u64
-    requires well_formed { layout_well_formed l.now ≡ true }
-    requires index_in_bounds { index < length (decode_layout l.now).entries }
-    ensures { result ≡ least_size_of (entry_nth (decode_layout l.now).entries index).ty }
-{
-    size_at(l, 1 + ENTRY_WIDTH * index + 2)
-}
+    // The type word of the entry at a position: with the entry's least size it means the entry's type.
+    pub fn entry_type(&self, index: usize) -> u32
+        requires { index < length (decode_layout self.now.words.now).entries }
+        ensures value { result ≡ of_kind 18 (binding_code (entry_nth (decode_layout self.now.words.now).entries index).ty) }
+        ensures meaning { binding_type_of result (least_size_of (entry_nth (decode_layout self.now.words.now).entries index).ty)
+            ≡ (entry_nth (decode_layout self.now.words.now).entries index).ty }
+    {
+        self.entry_word(index, 1)
+    }
 
-// The visibility of the entry at a position.
-pub fn entry_visibility(l: &[u32], index: usize) -> u32
-    requires well_formed { layout_well_formed l.now ≡ true }
-    requires index_in_bounds { index < length (decode_layout l.now).entries }
-    ensures { result ≡ (entry_nth (decode_layout l.now).entries index).visibility }
-{
-    content(entry_word(l, index, 3))
+    // The least size of the entry at a position.
+    pub fn entry_least(&self, index: usize) -> u64
+        requires { index < length (decode_layout self.now.words.now).entries }
+        ensures { result ≡ least_size_of (entry_nth (decode_layout self.now.words.now).entries index).ty }
+    {
+        size_at(self.words, 1 + ENTRY_WIDTH * index + 2)
+    }
+
+    // The visibility of the entry at a position.
+    pub fn entry_visibility(&self, index: usize) -> u32
+        requires { index < length (decode_layout self.now.words.now).entries }
+        ensures { result ≡ (entry_nth (decode_layout self.now.words.now).entries index).visibility }
+    {
+        content(self.entry_word(index, 3))
+    }
 }
 
 // A new entry at the end, by the words of its place, type and visibility and its least size, or nothing where the free room is too small.
+// The clause stays: a struct with a ghost field over a list lent for writing has no proof of the toolchain's.
 pub fn push_entry(l: &mut [u32], place: u32, ty: u32, least: u64, visibility: u32) -> bool
     requires well_formed { layout_well_formed l.old ≡ true }
     requires parts { (least < size_limit) × (parts_well_formed place ty least visibility ≡ true) }

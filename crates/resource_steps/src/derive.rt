@@ -15,21 +15,18 @@ use crate::table::Resources;
 use crate::types::{EntryType, ResourceWords, Stopped};
 use interface::reads::stage_code;
 use interface::types::ShaderStage;
-use layouts::layout::{
-    entry_least, entry_type, find_entry_word, group_count, join_visibility, push_entry,
-};
+use layouts::layout::{LayoutList, group_count, join_visibility, push_entry};
 use layouts::visibility::stage_bit;
 use word::content;
 use word::refusal::{Number, Refusal};
 use word_rules::derives::{derived_least, derived_word};
 
 // Whether the entry at a position is of a type.
-fn same_type(layout: &[u32], index: usize, ty: EntryType) -> bool
-    requires well_formed { layout_well_formed layout.now ≡ true }
-    requires index_in_bounds { index < length (decode_layout layout.now).entries }
-    ensures { result ≡ same_binding (binding_type_of ty.word ty.least) (entry_nth (decode_layout layout.now).entries index).ty }
+fn same_type(layout: &LayoutList<'_>, index: usize, ty: EntryType) -> bool
+    requires { index < length (decode_layout layout.now.words.now).entries }
+    ensures { result ≡ same_binding (binding_type_of ty.word ty.least) (entry_nth (decode_layout layout.now.words.now).entries index).ty }
 {
-    entry_type(layout, index) == ty.word && entry_least(layout, index) == ty.least
+    layout.entry_type(index) == ty.word && layout.entry_least(index) == ty.least
 }
 
 // A place that has an entry: of the same type it gains the stage's bit, else 29.
@@ -47,7 +44,7 @@ fn occupied(
         ≡ occupied stage (place_of place) (binding_type_of ty.word ty.least) index (decode_layout layout.old) }
     ensures well_formed_after { layout_well_formed layout.new ≡ true }
 {
-    if !same_type(layout, index, ty) {
+    if !same_type(&LayoutList { words: &*layout }, index, ty) {
         return Err(place_refusal(Number::InconsistentlyDerivedType, place));
     }
     join_visibility(layout, index, stage_code(stage));
@@ -92,7 +89,8 @@ fn place_step(
         (find_entry (place_of place) (decode_layout layout.old)) (decode_layout layout.old) }
     ensures well_formed_after { layout_well_formed layout.new ≡ true }
 {
-    match find_entry_word(layout, place) {
+    let found = LayoutList { words: &*layout }.find_entry_word(place);
+    match found {
         Some(index) => occupied(stage, place, ty, index, layout),
         None => vacant(stage, place, ty, layout),
     }

@@ -4,7 +4,7 @@ ghost use Rattle.word.specs.Words.{bits};
 ghost use Rattle.word.specs.Numbers.{number_of};
 ghost use Rattle.word.specs.Refusals.{answer_of, refusal_answer, number_or_none};
 ghost use Rattle.bindings.specs.Format.{place_of, sample_at, binding_type_of};
-ghost use Rattle.layouts.specs.Format.{layout_well_formed, decode_layout};
+ghost use Rattle.layouts.specs.Format.{decode_layout};
 ghost use Rattle.interface.specs.Format.{pair_of, pairs_of};
 ghost use Rattle.resource_steps.specs.Inner.Given.{pair_below, pairs_below, WordMeans};
 ghost use Rattle.resource_steps.specs.Resources.{filtering, sample_number, pair_number, type_at, pair_answer, pair_use, pair_uses};
@@ -12,7 +12,7 @@ ghost use Rattle.resource_steps.specs.Resources.{filtering, sample_number, pair_
 use crate::resources::noted;
 use crate::table::ResourceTable;
 use interface::reads::pair_of;
-use layouts::layout::{entry_type, find_entry_near};
+use layouts::layout::LayoutList;
 use word::content;
 use word::refusal::{Number, Refusal};
 
@@ -55,12 +55,11 @@ fn types_use(texture: u32, sampler: u32) -> Result<(), Number>
 
 // The type word of the entry at a word's place, tried at a position first; where there is none, one that is no texture and no sampler.
 #[tactic(auto, unfolding(bindings::specs::Format::binding_type_of))]
-fn type_word_at(layout: &[u32], place: u32, near: usize) -> u32
-    requires { layout_well_formed layout.now ≡ true }
-    ensures { WordMeans result (type_at (decode_layout layout.now) (place_of place)) }
+fn type_word_at(layout: &LayoutList<'_>, place: u32, near: usize) -> u32
+    ensures { WordMeans result (type_at (decode_layout layout.now.words.now) (place_of place)) }
 {
-    match find_entry_near(layout, place, near) {
-        Some(index) => entry_type(layout, index),
+    match layout.find_entry_near(place, near) {
+        Some(index) => layout.entry_type(index),
         None => 0x9300_0000,
     }
 }
@@ -79,15 +78,14 @@ fn pair_refusal(number: Number, texture: u32, sampler: u32) -> Refusal
 
 // The entries at a texture's and a sampler's place, each tried at a position first.
 fn places_use(
-    layout: &[u32],
+    layout: &LayoutList<'_>,
     texture: u32,
     sampler: u32,
     texture_near: usize,
     sampler_near: usize,
 ) -> Result<(), Refusal>
-    requires { layout_well_formed layout.now ≡ true }
     ensures { answer_of result ≡ pair_answer
-        (pair_number (type_at (decode_layout layout.now) (place_of texture)) (type_at (decode_layout layout.now) (place_of sampler)))
+        (pair_number (type_at (decode_layout layout.now.words.now) (place_of texture)) (type_at (decode_layout layout.now.words.now) (place_of sampler)))
         (place_of texture) (place_of sampler) }
 {
     let texture_type = type_word_at(layout, texture, texture_near);
@@ -98,14 +96,13 @@ fn places_use(
 // A texture with the sampler it is sampled with, by the word of the pair.
 #[tactic(auto, unfolding(crate::specs::Resources::pair_use))]
 fn pair_use(
-    layout: &[u32],
+    layout: &LayoutList<'_>,
     resources: &ResourceTable,
     entries: &[u8; 128],
     w: u32,
 ) -> Result<(), Refusal>
-    requires well_formed { layout_well_formed layout.now ≡ true }
-    requires pair_below { pair_below (length resources.now) (pair_of w) ≡ true }
-    ensures { answer_of result ≡ pair_use (decode_layout layout.now) resources.now (pair_of w) }
+    requires { pair_below (length resources.now) (pair_of w) ≡ true }
+    ensures { answer_of result ≡ pair_use (decode_layout layout.now.words.now) resources.now (pair_of w) }
 {
     let pair = pair_of(w);
     places_use(
@@ -119,14 +116,13 @@ fn pair_use(
 
 // Each pair of the entry point in pack order, up to the first that is refused.
 pub fn pair_uses(
-    layout: &[u32],
+    layout: &LayoutList<'_>,
     resources: &ResourceTable,
     entries: &[u8; 128],
     pairs: &[u32],
 ) -> Result<(), Refusal>
-    requires well_formed { layout_well_formed layout.now ≡ true }
-    requires pairs_below { pairs_below (length resources.now) (pairs_of pairs.now) ≡ true }
-    ensures { answer_of result ≡ pair_uses (decode_layout layout.now) resources.now (pairs_of pairs.now) }
+    requires { pairs_below (length resources.now) (pairs_of pairs.now) ≡ true }
+    ensures { answer_of result ≡ pair_uses (decode_layout layout.now.words.now) resources.now (pairs_of pairs.now) }
 {
     for w in pairs {
         pair_use(layout, resources, entries, *w)?;

@@ -3,7 +3,7 @@ ghost use Rattle.std.specs.Prelude.{◌≡◌, true, ◌<◌, length};
 ghost use Rattle.word.specs.Refusals.{answer_of, number_or_none};
 ghost use Rattle.bindings.specs.Format.{place_of, resource_type_of, resource};
 ghost use Rattle.layouts.specs.Meaning.{find_entry, entry_nth};
-ghost use Rattle.layouts.specs.Format.{layout_well_formed, decode_layout};
+ghost use Rattle.layouts.specs.Format.{decode_layout};
 ghost use Rattle.sizes.specs.Format.{sizes_well_formed, decode_sizes};
 ghost use Rattle.interface.specs.Format.{contents};
 ghost use Rattle.resource_steps.specs.Inner.Given.{each_below};
@@ -16,7 +16,7 @@ use crate::table::Resources;
 use crate::types::{ResourceWords, Stopped};
 use interface::reads::stage_code;
 use interface::types::ShaderStage;
-use layouts::layout::{entry_least, entry_type, entry_visibility, find_entry_near};
+use layouts::layout::LayoutList;
 use layouts::visibility::sees;
 use sizes::sizes::record_size;
 use word::content;
@@ -45,19 +45,18 @@ fn record_buffer(words: ResourceWords, next: &mut usize, sizes: &mut [u32]) -> R
 fn entry_use(
     stage: ShaderStage,
     words: ResourceWords,
-    layout: &[u32],
+    layout: &LayoutList<'_>,
     index: usize,
 ) -> Result<(), Number>
-    requires well_formed { layout_well_formed layout.now ≡ true }
-    requires index_in_bounds { index < length (decode_layout layout.now).entries }
+    requires { index < length (decode_layout layout.now.words.now).entries }
     ensures { number_or_none result
-        ≡ entry_use stage (resource_type_of words.ty words.size) (entry_nth (decode_layout layout.now).entries index) }
+        ≡ entry_use stage (resource_type_of words.ty words.size) (entry_nth (decode_layout layout.now.words.now).entries index) }
 {
-    if !sees(entry_visibility(layout, index), stage_code(stage)) {
+    if !sees(layout.entry_visibility(index), stage_code(stage)) {
         return Err(Number::Invisible);
     }
-    let ty = entry_type(layout, index);
-    let least = entry_least(layout, index);
+    let ty = layout.entry_type(index);
+    let least = layout.entry_least(index);
     words_use(words.ty, words.size, ty, least)?;
     Ok(())
 }
@@ -66,19 +65,18 @@ fn entry_use(
 #[tactic(auto, unfolding(crate::specs::Resources::provided_use))]
 fn provided_use(
     stage: ShaderStage,
-    layout: &[u32],
+    layout: &LayoutList<'_>,
     i: u32,
     near: usize,
     entries: &mut [u8; 128],
     words: ResourceWords,
 ) -> Result<(), Refusal>
-    requires { layout_well_formed layout.now ≡ true }
     ensures meaning { answer_of result
-        ≡ provided_use stage (decode_layout layout.now) (resource words.place words.ty words.size) }
-    ensures entries_after { entries.new ≡ note_at i (find_entry (place_of words.place) (decode_layout layout.now)) entries.old }
+        ≡ provided_use stage (decode_layout layout.now.words.now) (resource words.place words.ty words.size) }
+    ensures entries_after { entries.new ≡ note_at i (find_entry (place_of words.place) (decode_layout layout.now.words.now)) entries.old }
 {
     let place = words.place;
-    let found = find_entry_near(layout, place, near);
+    let found = layout.find_entry_near(place, near);
     note(entries, i, found);
     let Some(index) = found else {
         return Err(place_refusal(Number::Missing, place));
@@ -95,16 +93,16 @@ fn provide_step(
     stage: ShaderStage,
     entries: &mut [u8; 128],
     next: &mut usize,
-    layout: &[u32],
+    layout: &LayoutList<'_>,
     sizes: &mut [u32],
 ) -> Result<(), Refusal>
-    requires well_formed { (layout_well_formed layout.now ≡ true) × (sizes_well_formed sizes.old ≡ true) }
+    requires well_formed { sizes_well_formed sizes.old ≡ true }
     requires i_in_bounds { i < length resources.now.table }
     ensures sizes_after { sizes_after (answer_of result) (decode_sizes sizes.new)
-        ≡ provide_step stage (decode_layout layout.now) (resource_nth resources.now.table i) (decode_sizes sizes.old) }
+        ≡ provide_step stage (decode_layout layout.now.words.now) (resource_nth resources.now.table i) (decode_sizes sizes.old) }
     ensures well_formed_after { sizes_well_formed sizes.new ≡ true }
     ensures entries_after { entries.new
-        ≡ step_notes (decode_layout layout.now) (resource_nth resources.now.table i) i (decode_sizes sizes.old) entries.old }
+        ≡ step_notes (decode_layout layout.now.words.now) (resource_nth resources.now.table i) i (decode_sizes sizes.old) entries.old }
 {
     let words = resources.words(i);
     record_buffer(words, next, sizes)?;
@@ -117,16 +115,16 @@ pub fn provide_steps(
     listed: &[u32],
     stage: ShaderStage,
     entries: &mut [u8; 128],
-    layout: &[u32],
+    layout: &LayoutList<'_>,
     sizes: &mut [u32],
 ) -> Result<(), Stopped>
-    requires well_formed { (layout_well_formed layout.now ≡ true) × (sizes_well_formed sizes.old ≡ true) }
+    requires well_formed { sizes_well_formed sizes.old ≡ true }
     requires listed_below { each_below (length resources.now.table) (contents listed.now) ≡ true }
     ensures sizes_after { provide_result (stopped_answer result) (stopped_passed (length listed.now) result) (decode_sizes sizes.new)
-        ≡ provide_steps stage (decode_layout layout.now) resources.now.table (contents listed.now) (decode_sizes sizes.old) }
+        ≡ provide_steps stage (decode_layout layout.now.words.now) resources.now.table (contents listed.now) (decode_sizes sizes.old) }
     ensures well_formed_after { sizes_well_formed sizes.new ≡ true }
     ensures entries_after { entries.new
-        ≡ provide_notes stage (decode_layout layout.now) resources.now.table (contents listed.now) (decode_sizes sizes.old) entries.old }
+        ≡ provide_notes stage (decode_layout layout.now.words.now) resources.now.table (contents listed.now) (decode_sizes sizes.old) entries.old }
 {
     let mut near: usize = 0;
     let mut next = 0;

@@ -1,17 +1,16 @@
 -- What the program's tests say of the lists, entries and variables that it hands on.
 use Rattle.std.proofs.Common.{Option, None}
 use Rattle.std.proofs.lemmas.Bool.{and_from}
-use Prim.Native.Nat.{ℕ, ◌+◌, ◌*◌, ◌%◌, ◌^◌, ◌<◌, ◌≤◌}
+use Prim.Native.Nat.{ℕ, ◌+◌, ◌*◌, ◌^◌, ◌<◌, ◌≤◌}
 use native.Mathlib.Omega.{arith}
 use mathlib.Core.Path.{◌≡◌, refl, sym, ◌∙◌}
 use mathlib.Core.Bool.{Bool, true, false, not, ◌&&◌}
 use mathlib.Core.List.{List, [], ◌∷◌}
 use lib.Dec.{leb, ltb}
-use lib.ListN.{length, take, drop, set, length-drop}
-use lib.Seq.{length-take-le}
-use borrow.Author.Tests.{eqb-true, not-true, not-false, eq-eqb, lt-ltb, le-ltb, ltb-true, leb-true}
+use lib.ListN.{length, drop, set, length-drop}
+use borrow.Author.Tests.{eqb-true, not-true, not-false, lt-ltb, le-ltb, ltb-true, leb-true}
 use Rattle.word.specs.Words.{word_at, kind_of, content_of, bits}
-use Rattle.bindings.specs.Format.{place_well_formed, place_of, size_limit, size_word, entry_encodable, entry_well_formed, entry_of, parts_well_formed, entry_of_parts}
+use Rattle.bindings.specs.Format.{place_of, size_limit, size_word, entry_encodable, entry_well_formed, entry_of, parts_well_formed, entry_of_parts}
 use Rattle.bindings.specs.declared.types.ResourceBinding.{ResourceBinding}
 use Rattle.bindings.proofs.EntryFormat.{entry_encodable_lem}
 use Rattle.varying.specs.Format.{var_well_formed, var_of, located_encodable, payload_of, payload_encodable}

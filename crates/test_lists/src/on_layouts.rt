@@ -1,17 +1,11 @@
 // What is asked of layout lists.
-ghost use Rattle.std.specs.Prelude.{◌≡◌, true};
-ghost use Rattle.layouts.specs.Format.{layout_well_formed};
-
 use crate::print;
 use bindings::binding_codes::{binding_code, least_size};
 use bindings::entry_words::{binding_type_of, words_well_formed};
 use bindings::resource_words::place_of;
 use bindings::sizes::word_size;
 use bindings::types::BindGroupLayoutEntry;
-use layouts::layout::{
-    entry_least, entry_place, entry_type, entry_visibility, find_entry_near, find_entry_word,
-    group_count, join_visibility, layout_well_formed, push_entry,
-};
+use layouts::layout::{LayoutList, group_count, join_visibility, layout_well_formed, push_entry};
 use layouts::visibility::sees;
 use places::heads::counted;
 use std::io;
@@ -38,20 +32,18 @@ fn position(rt: &impl Print, found: Option<usize>) -> io::Result<()> {
 }
 
 // The entry at a position, part by part.
-fn show_at(rt: &impl Print, l: &[u32], index: usize) -> io::Result<()>
-    requires { layout_well_formed l.now ≡ true }
-{
-    if counted(l) <= index {
+fn show_at(rt: &impl Print, l: &LayoutList<'_>, index: usize) -> io::Result<()> {
+    if counted(l.words) <= index {
         return print::nothing(rt);
     }
-    let bind = place_of(entry_place(l, index));
-    let ty = binding_type_of(entry_type(l, index), entry_least(l, index));
+    let bind = place_of(l.entry_place(index));
+    let ty = binding_type_of(l.entry_type(index), l.entry_least(index));
     show(
         rt,
         BindGroupLayoutEntry {
             bind,
             ty,
-            visibility: entry_visibility(l, index),
+            visibility: l.entry_visibility(index),
         },
     )
 }
@@ -62,8 +54,9 @@ pub(crate) fn look(rt: &impl Print, l: &[u32], place: u32, index: u32) -> io::Re
         return print::nothing(rt);
     }
     print::number(rt, group_count(l) as u64)?;
-    position(rt, find_entry_near(l, place, index as usize))?;
-    show_at(rt, l, index as usize)
+    let layout = LayoutList { words: l };
+    position(rt, layout.find_entry_near(place, index as usize))?;
+    show_at(rt, &layout, index as usize)
 }
 
 // A stage joined to the entry at a place.
@@ -71,7 +64,8 @@ pub(crate) fn join(rt: &impl Print, l: &mut [u32], place: u32, stage: u32) -> io
     if !layout_well_formed(l) || 4 < stage {
         return print::nothing(rt);
     }
-    match find_entry_word(l, place) {
+    let found = LayoutList { words: &*l }.find_entry_word(place);
+    match found {
         Some(index) => {
             join_visibility(l, index, stage);
             print::number(rt, index as u64)
@@ -89,7 +83,8 @@ pub(crate) fn push(rt: &impl Print, l: &mut [u32], entry: [u32; 4]) -> io::Resul
     if group_count(l) <= place / 0x80_0000 % 16 {
         return print::nothing(rt);
     }
-    match find_entry_word(l, place) {
+    let found = LayoutList { words: &*l }.find_entry_word(place);
+    match found {
         Some(_) => print::nothing(rt),
         None => { print::yes_no(rt, push_entry(l, place, ty, word_size(least), visibility)) }
     }

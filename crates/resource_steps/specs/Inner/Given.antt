@@ -1,5 +1,5 @@
 -- What the steps over resources and pairs are given: the resources by a table of their positions, and indexes that stand in it.
-use Rattle.std.specs.Prelude.{ℕ, ◌+◌, ◌<◌, ◌≤◌, ◌≡◌, Bool, true, ◌&&◌, List, ltb, length, take}
+use Rattle.std.specs.Prelude.{ℕ, ◌+◌, ◌<◌, ◌≤◌, ◌≡◌, Bool, ◌&&◌, List, ltb, length, take}
 use Rattle.word.specs.Words.{word_at}
 use Rattle.word.specs.Lists.{every}
 use Rattle.bindings.specs.Format.{resource_encodable, binding_type_of, resource_width}

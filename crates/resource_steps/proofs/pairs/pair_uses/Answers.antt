@@ -2,8 +2,8 @@ use borrow.Author.Rules.{rules}
 use Rattle.resource_steps.proofs.PairLaws.{pair_below_lem, pairs_rest, pairs_refused, pairs_onward, pairs_ended}
 use Rattle.resource_steps.proofs.pairs.pair_uses.Goals as goal
 
-pub pair_use-requires-clause-pair_below : goal.pair_use-requires-clause-pair_below
-pair_use-requires-clause-pair_below c = search pair_below_lem
+pub pair_use-requires : goal.pair_use-requires
+pair_use-requires c = search pair_below_lem
 
 pub returns-in_err-pair_use : goal.returns-in_err-pair_use
 returns-in_err-pair_use c = search (rules, pairs_refused, c.in_err-pair_use.was)

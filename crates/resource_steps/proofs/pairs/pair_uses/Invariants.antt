@@ -10,4 +10,4 @@ use Rattle.resource_steps.proofs.pairs.pair_uses.Given as goal
 abbrev pub invariant-loop-w : goal.invariant-loop-w
 invariant-loop-w l =
     (pairs_below (length l.resources) (pairs_of (drop l.w-index l.pairs)) ≡ true)
-    × (pair_uses (decode_layout l.layout) l.resources (pairs_of l.pairs) ≡ pair_uses (decode_layout l.layout) l.resources (pairs_of (drop l.w-index l.pairs)))
+    × (pair_uses (decode_layout l.layout.words.now) l.resources (pairs_of l.pairs) ≡ pair_uses (decode_layout l.layout.words.now) l.resources (pairs_of (drop l.w-index l.pairs)))

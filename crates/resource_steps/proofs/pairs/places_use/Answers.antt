@@ -5,5 +5,5 @@ use Rattle.resource_steps.proofs.pairs.places_use.Goals as goal
 
 pub returns : goal.returns
 returns c =
-    let e = judged (decode_layout c.args.layout.now) c.args.texture c.args.sampler _ _ c.types_use.result c.type_word_at-texture_type.ensures c.type_word_at-sampler_type.ensures c.types_use.ensures in
+    let e = judged (decode_layout c.args.layout.now.words.now) c.args.texture c.args.sampler _ _ c.types_use.result c.type_word_at-texture_type.ensures c.type_word_at-sampler_type.ensures c.types_use.ensures in
     rw (← e) (search rules)

@@ -13,7 +13,7 @@ use Rattle.resource_steps.proofs.provide.provide_steps.Given as goal
 abbrev pub invariant-loop-passed : goal.invariant-loop-passed
 invariant-loop-passed l =
     (sizes_well_formed l.sizes ≡ true) × (each_below (length l.resources.table) (contents (drop l.passed l.listed)) ≡ true)
-    × (provide_steps l.stage (decode_layout l.layout) l.resources.table (contents l.listed) (decode_sizes l.initial.sizes)
-    ≡ provide_behind l.passed (provide_steps l.stage (decode_layout l.layout) l.resources.table (contents (drop l.passed l.listed)) (decode_sizes l.sizes)))
-    × (provide_notes l.stage (decode_layout l.layout) l.resources.table (contents l.listed) (decode_sizes l.initial.sizes) l.initial.entries
-    ≡ provide_notes l.stage (decode_layout l.layout) l.resources.table (contents (drop l.passed l.listed)) (decode_sizes l.sizes) l.entries)
+    × (provide_steps l.stage (decode_layout l.layout.words.now) l.resources.table (contents l.listed) (decode_sizes l.initial.sizes)
+    ≡ provide_behind l.passed (provide_steps l.stage (decode_layout l.layout.words.now) l.resources.table (contents (drop l.passed l.listed)) (decode_sizes l.sizes)))
+    × (provide_notes l.stage (decode_layout l.layout.words.now) l.resources.table (contents l.listed) (decode_sizes l.initial.sizes) l.initial.entries
+    ≡ provide_notes l.stage (decode_layout l.layout.words.now) l.resources.table (contents (drop l.passed l.listed)) (decode_sizes l.sizes) l.entries)

@@ -5,14 +5,14 @@ use Rattle.test_lists.proofs.on_layouts.show_at.Goals as goal
 pub counted-requires : goal.counted-requires
 counted-requires g c = search head_there
 
-pub entry_place-requires-clause-index_in_bounds : goal.entry_place-requires-clause-index_in_bounds
-entry_place-requires-clause-index_in_bounds g c = search entry_there_lem
+pub entry_place-requires : goal.entry_place-requires
+entry_place-requires g c = search entry_there_lem
 
-pub entry_type-requires-clause-index_in_bounds : goal.entry_type-requires-clause-index_in_bounds
-entry_type-requires-clause-index_in_bounds g c = search entry_there_lem
+pub entry_type-requires : goal.entry_type-requires
+entry_type-requires g c = search entry_there_lem
 
-pub entry_least-requires-clause-index_in_bounds : goal.entry_least-requires-clause-index_in_bounds
-entry_least-requires-clause-index_in_bounds g c = search entry_there_lem
+pub entry_least-requires : goal.entry_least-requires
+entry_least-requires g c = search entry_there_lem
 
-pub entry_visibility-requires-clause-index_in_bounds : goal.entry_visibility-requires-clause-index_in_bounds
-entry_visibility-requires-clause-index_in_bounds g c = search entry_there_lem
+pub entry_visibility-requires : goal.entry_visibility-requires
+entry_visibility-requires g c = search entry_there_lem

@@ -2,7 +2,7 @@ use borrow.Author.Rules.{rules}
 use Rattle.places.proofs.PlaceWays.{content_tells, content_kind, content_word}
 use Rattle.layouts.proofs.LayoutWays.{entry_found, entries_begin, entries_within, entry_below}
 use Rattle.layouts.proofs.LayoutStores.{head_there}
-use Rattle.layouts.proofs.layout.find_entry_word.Goals as goal
+use Rattle.layouts.proofs.layout.LayoutList.find_entry_word.Goals as goal
 
 pub slice_bounds-find_word-count : goal.slice_bounds-find_word-count
 slice_bounds-find_word-count c = search head_there

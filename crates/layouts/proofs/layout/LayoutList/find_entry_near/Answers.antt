@@ -2,7 +2,7 @@ use borrow.Author.Rules.{rules}
 use Rattle.places.proofs.PlaceWays.{content_tells}
 use Rattle.layouts.proofs.LayoutWays.{entry_found, entries_begin, entries_differ, entries_within, entry_below}
 use Rattle.layouts.proofs.LayoutStores.{head_there}
-use Rattle.layouts.proofs.layout.find_entry_near.Goals as goal
+use Rattle.layouts.proofs.layout.LayoutList.find_entry_near.Goals as goal
 
 pub slice_bounds-find_near-count : goal.slice_bounds-find_near-count
 slice_bounds-find_near-count c = search head_there

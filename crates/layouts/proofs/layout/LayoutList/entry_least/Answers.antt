@@ -1,6 +1,6 @@
 use Rattle.layouts.proofs.LayoutStores.{entry_scaled, entry_placed, word_placed, size_inside, least_there}
 use borrow.Author.Rules.{rules}
-use Rattle.layouts.proofs.layout.entry_least.Goals as goal
+use Rattle.layouts.proofs.layout.LayoutList.entry_least.Goals as goal
 
 pub overflow_mul-index : goal.overflow_mul-index
 overflow_mul-index c = search entry_scaled

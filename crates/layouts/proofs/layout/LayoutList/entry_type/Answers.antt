@@ -1,5 +1,5 @@
 use Rattle.layouts.proofs.LayoutStores.{type_there, type_means}
-use Rattle.layouts.proofs.layout.entry_type.Goals as goal
+use Rattle.layouts.proofs.layout.LayoutList.entry_type.Goals as goal
 
 pub returns-clause-value : goal.returns-clause-value
 returns-clause-value c = search type_there
