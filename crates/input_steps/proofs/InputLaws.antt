@@ -2,21 +2,18 @@
 use Rattle.std.proofs.Common.{Option, Some, None, Result, Ok, Err}
 use Prim.Native.Nat.{ℕ, ◌+◌, ◌-◌, ◌/◌, ◌%◌, ◌^◌, ◌<◌, ◌≤◌}
 use native.Mathlib.Omega.{arith}
-use mathlib.Core.Path.{◌≡◌, refl, sym, ◌∙◌}
-use mathlib.Core.Bool.{Bool, true, false, ◌||◌}
+use mathlib.Core.Path.{◌≡◌, refl, ◌∙◌}
+use mathlib.Core.Bool.{Bool, true, false}
 use mathlib.Core.List.{List, [], ◌∷◌}
 use lib.Dec.{eqb}
 use lib.ListN.{drop}
 use borrow.Author.Tests.{eq-eqb, ne_eqb}
 use Rattle.word.specs.Choice.{pick, yes}
 use Rattle.word.specs.Words.{word_at, content_of, bits, bit}
-use Rattle.word.specs.Answers.{answer, accepted}
-use Rattle.word.proofs.Truth.{by_test}
+use Rattle.word.specs.Answers.{accepted}
 use Rattle.word.specs.declared.answer.Answer.{Answer}
-use Rattle.numeric.specs.Types.{fits}
 use Rattle.numeric.specs.TypeWords.{type_of}
 use Rattle.numeric.proofs.Subtype.{fits_itself}
-use Rattle.bindings.specs.Rules.{same_bool}
 use Rattle.bindings.proofs.DerivedTypes.{same_bool_lem}
 use Rattle.varying.specs.Format.{location_well_formed, var_of}
 use Rattle.varying.specs.declared.InterfaceVar.{InterfaceVar}

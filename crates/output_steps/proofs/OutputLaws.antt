@@ -1,5 +1,5 @@
 -- The ways through outputs and slots.
-use Prim.Native.Nat.{ℕ, zero, suc, ◌+◌, ◌-◌, ◌*◌, ◌/◌, ◌%◌, ◌<◌, ◌≤◌, ◌^◌, max}
+use Prim.Native.Nat.{ℕ, ◌+◌, ◌-◌, ◌*◌, ◌%◌, ◌<◌, ◌≤◌, ◌^◌, max}
 use native.Mathlib.Nat.{add-zero, zero-add, max-zero, zero-max}
 use native.Mathlib.Omega.{arith}
 use mathlib.Core.Path.{◌≡◌, refl, sym, ◌∙◌}
@@ -16,24 +16,20 @@ use Rattle.word.proofs.Both.{number_nonzero}
 use Rattle.word.specs.Refusals.{answer_of, refusal_answer}
 use Rattle.word.specs.declared.refusal.Refusal.{Refusal}
 use Rattle.std.proofs.Common.{Result, Ok, Err}
-use Rattle.word.specs.Answers.{answer, accepted, refused, both}
+use Rattle.word.specs.Answers.{accepted, refused, both}
 use Rattle.word.specs.declared.answer.Answer.{Answer}
 use Rattle.varying.specs.Format.{location_well_formed}
 use Rattle.word.proofs.Parse.{first_of}
-use Rattle.interface.specs.Meaning.{EntryPoint}
 use Rattle.interface.specs.Format.{local, built_in_of}
 use Rattle.interface.specs.Inner.Reads.{varying, varying_width, varyings, standing}
 use Rattle.interface.specs.Inner.Parts.{varyings_end, Placed}
-use Rattle.interface.specs.declared.types.ShaderStage.{ShaderStage}
-use Rattle.interface.specs.declared.types.Limits.{Limits}
 use Rattle.interface.specs.declared.types.EntryParts.{EntryParts}
 use Rattle.interface.specs.declared.types.BuiltIn.{BuiltIn}
 use Rattle.interface.specs.declared.types.BuiltIn.TheVariants as In
 use Rattle.interface.specs.declared.types.Varying.{Varying}
 use Rattle.interface.specs.declared.types.Varying.TheVariants as Var
-use Rattle.output_steps.specs.declared.types.Request.{Request}
 use Rattle.output_steps.specs.Inner.Given.{Summed}
-use Rattle.output_steps.specs.Outputs.{is_local, clip_part, built_in_part, is_depth, is_primitive, local_count, clip_slot_count, built_in_slot_count, any_of, location_use, location_uses, count_use, point_part, vertex_outputs, fragment_slots, attachment_use, slots_step}
+use Rattle.output_steps.specs.Outputs.{is_local, clip_part, built_in_part, is_depth, is_primitive, local_count, clip_slot_count, built_in_slot_count, any_of, location_use, location_uses, count_use, point_part, vertex_outputs, fragment_slots, attachment_use}
 use Rattle.output_steps.specs.Inner.Summary.{reach_part, reach_of, nothing, summary_of, plus}
 use Rattle.output_steps.specs.declared.types.Summary.{Summary}
 use Rattle.interface.proofs.ReadsWays.{width_there}

@@ -6,7 +6,7 @@ use mathlib.Core.Bool.{Bool, true, false, ◌&&◌}
 use mathlib.Core.List.{List}
 use lib.Dec.{eqb}
 use lib.ListN.{length, take, drop}
-use borrow.Author.Tests.{eq-eqb, ne_eqb, lt-ltb, le-ltb, ltb-true}
+use borrow.Author.Tests.{lt-ltb, le-ltb}
 use Rattle.std.specs.Prelude.{Option, Some, None, IfSome}
 use Rattle.word.specs.Words.{word_at, bits}
 use Rattle.word.specs.Answers.{accepted, refused}
@@ -15,7 +15,6 @@ use Rattle.word.proofs.Tests.{yes_true, yes_false}
 use Rattle.word.proofs.Truth.{first, second}
 use Rattle.layouts.specs.Meaning.{Layout}
 use Rattle.sizes.specs.Meaning.{Sizes}
-use Rattle.word.specs.Lists.{every}
 use Rattle.layouts.specs.Format.{layout_well_formed}
 use Rattle.sizes.specs.Format.{sizes_well_formed}
 use Rattle.stage_lists.specs.Format.{out_well_formed}
@@ -28,7 +27,6 @@ use Rattle.interface.specs.declared.types.EntryParts.{EntryParts}
 use Rattle.interface.specs.declared.types.ShaderStage.{ShaderStage}
 use Rattle.output_steps.specs.Inner.Summary.{summary_of}
 use Rattle.output_steps.specs.Inner.Given.{Summed}
-use Rattle.output_steps.specs.Inner.ListOut.{output_encodable}
 use Rattle.output_steps.specs.declared.types.Request.{Request}
 use Rattle.output_steps.specs.declared.types.Summary.{Summary}
 use Rattle.stage.specs.declared.types.Codes.{Codes}

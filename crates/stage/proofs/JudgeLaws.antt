@@ -1,48 +1,39 @@
 -- The ways on through the steps behind the resources.
 use Rattle.std.proofs.Common.{Option, Some, None}
 use native.Mathlib.Omega.{arith}
-use Prim.Native.Nat.{ℕ, ◌+◌, ◌-◌, ◌/◌, ◌%◌, ◌<◌}
+use Prim.Native.Nat.{ℕ, ◌+◌, ◌-◌, ◌/◌, ◌%◌}
 use mathlib.Core.Path.{◌≡◌, refl, ap, ◌∙◌}
 use mathlib.Core.Bool.{Bool, true, false}
 use mathlib.Core.List.{List}
-use lib.Dec.{eqb}
-use borrow.Author.Tests.{eq-eqb, ne_eqb, eqb-false}
+use borrow.Author.Tests.{eq-eqb, ne_eqb}
 use lib.ListN.{drop, take, length}
-use Rattle.word.specs.Choice.{pick}
 use Rattle.word.proofs.Tests.{yes_true, yes_false}
 use Rattle.word.specs.Words.{word_at, content_of, bits}
 use Rattle.word.specs.Answers.{accepted}
 use Rattle.word.specs.Refusals.{answer_of, refusal_answer}
 use Rattle.word.specs.declared.refusal.Refusal.{Refusal}
-use Rattle.word.proofs.Both.{number_nonzero, refused_ends, passed_on}
+use Rattle.word.proofs.Both.{refused_ends, passed_on}
 use Rattle.std.proofs.Common.{Result, Ok, Err}
 use Rattle.word.specs.declared.answer.Answer.{Answer}
 use Rattle.bindings.specs.declared.types.Resource.{Resource}
 use Rattle.varying.specs.Format.{payload_of}
 use Rattle.layouts.specs.Meaning.{Layout}
 use Rattle.stage_lists.specs.Meaning.{StageIo}
-use Rattle.stage_lists.specs.Format.{encode_stage}
 use Rattle.interface.specs.Meaning.{EntryPoint, Interface}
 use Rattle.interface.specs.Format.{topology_at, pairs_of}
 use Rattle.interface.specs.Inner.Reads.{standing, varyings}
-use Rattle.interface.specs.Inner.Parts.{Placed, varyings_end}
-use Rattle.interface.specs.declared.types.ShaderStage.{ShaderStage}
+use Rattle.interface.specs.Inner.Parts.{Placed}
 use Rattle.interface.specs.declared.types.PrimitiveTopology.{PrimitiveTopology}
 use Rattle.interface.specs.declared.types.WorkgroupSize.{WorkgroupSize}
 use Rattle.interface.specs.declared.types.EntryParts.{EntryParts}
-use Rattle.interface.specs.declared.types.Limits.{Limits}
 use Rattle.output_steps.specs.declared.types.Request.{Request}
 use Rattle.input_steps.specs.Workgroup.{workgroup_step}
-use Rattle.output_steps.specs.Outputs.{slots_step}
-use Rattle.last_steps.specs.Last.{last_uses, last_step}
-use Rattle.input_steps.specs.Inputs.{input_steps, start_walk, walked}
-use Rattle.output_steps.specs.ListOut.{stage_out}
+use Rattle.input_steps.specs.Inputs.{input_steps, start_walk}
 use Rattle.input_steps.specs.declared.types.InputWalk.{InputWalk}
 use Rattle.resource_steps.specs.Resources.{pair_uses}
 use Rattle.resource_steps.specs.Inner.Given.{pairs_below}
 use Rattle.stage.specs.Inner.Given.{Named}
-use Rattle.stage.specs.Stage.{pair_step, input_walk, behind_inputs, behind_pairs, handed_out}
-use Rattle.interface.specs.declared.types.EntryPointMeshInfo.{EntryPointMeshInfo}
+use Rattle.stage.specs.Stage.{pair_step, input_walk, behind_inputs, behind_pairs}
 
 -- the inputs of an entry point that stands at positions
 pub inputs_standing : (ws : List ℕ) (p : EntryParts) → (standing ws p).inputs ≡ varyings (bits 11 6 (word_at ws p.counts)) (drop p.inputs ws)

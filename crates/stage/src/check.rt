@@ -18,7 +18,7 @@ use crate::types::{Codes, Shader, StageEntry};
 use entry_points::module::Module;
 use interface::reads::stage_at;
 use interface::types::ShaderStage;
-use layouts::layout::layout_well_formed;
+use layouts::layout::{LayoutList, layout_well_formed};
 use output_steps::list_out::list_out;
 use output_steps::types::{EntryPoint, Request};
 use pack_check::check_pack::index_pack;
@@ -52,7 +52,8 @@ fn check_resources(
         derive_steps(entry.resources, listed, pairs, stage, layout)?;
         return Ok(());
     }
-    provide_steps(entry.resources, listed, stage, entries, layout, sizes)?;
+    let layout = LayoutList { words: &*layout };
+    provide_steps(entry.resources, listed, stage, entries, &layout, sizes)?;
     Ok(())
 }
 
@@ -72,7 +73,7 @@ fn check_bindings(
 {
     let mut entries: [u8; 128] = [0; 128];
     check_resources(entry, &mut entries, layout, sizes, stage, derived)?;
-    pair_step(entry, &entries, layout, derived)
+    pair_step(entry, &entries, &LayoutList { words: &*layout }, derived)
 }
 
 // The steps behind the pairs, and the list out where all of them passed.

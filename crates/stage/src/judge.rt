@@ -1,7 +1,7 @@
 // The steps behind the resources: they alter no list.
 ghost use Rattle.std.specs.Prelude.{◌≡◌, true, length, IfOk};
 ghost use Rattle.word.specs.Refusals.{answer_of};
-ghost use Rattle.layouts.specs.Format.{layout_well_formed, decode_layout};
+ghost use Rattle.layouts.specs.Format.{decode_layout};
 ghost use Rattle.stage_lists.specs.Format.{decode_stage};
 ghost use Rattle.interface.specs.Format.{decode, interface_of};
 ghost use Rattle.output_steps.specs.Inner.Stands.{meant};
@@ -16,6 +16,7 @@ use interface::parts::Counts;
 use interface::reads::{AcceptedPack, topology_at};
 use interface::types::{EntryPointMeshInfo, ShaderStage, WorkgroupSize};
 use last_steps::last::last_step;
+use layouts::layout::LayoutList;
 use output_steps::outputs::slots_step;
 use output_steps::types::{EntryPoint, Request};
 use resource_steps::pairs::pair_uses;
@@ -89,11 +90,10 @@ fn after_inputs(
 pub(crate) fn pair_step(
     entry: &StageEntry<'_, '_>,
     entries: &[u8; 128],
-    layout: &[u32],
+    layout: &LayoutList<'_>,
     derived: bool,
 ) -> Result<(), Refusal>
-    requires { layout_well_formed layout.now ≡ true }
-    ensures { answer_of result ≡ pair_step derived entry.now.resources.now.table (meant entry.now.point) (decode_layout layout.now) }
+    ensures { answer_of result ≡ pair_step derived entry.now.resources.now.table (meant entry.now.point) (decode_layout layout.now.words.now) }
 {
     if derived {
         return Ok(());

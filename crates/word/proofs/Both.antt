@@ -1,11 +1,10 @@
 -- A judgement, and a second one where it accepted.
-use Rattle.std.proofs.Common.{◌≡◌, ℕ, false, refl, eqb, eq-eqb, ne_eqb, Result, Ok, Err}
+use Rattle.std.proofs.Common.{◌≡◌, false, refl, eqb, eq-eqb, ne_eqb, Result, Ok, Err}
 use Rattle.word.specs.declared.answer.Answer.{Answer}
 use Rattle.word.specs.Answers.{both}
 use Rattle.word.specs.Numbers.{number_of}
 use Rattle.word.specs.Refusals.{answer_of, refusal_answer}
 use Rattle.word.specs.declared.refusal.Number.{Number}
-use Rattle.word.specs.declared.refusal.Number.TheVariants as Number
 use Rattle.word.specs.declared.refusal.Refusal.{Refusal}
 
 module _ (a b r : Answer) (e : r ≡ a) where

@@ -1,6 +1,6 @@
 -- Laws of readers: where one stopped, told by a position.
 use Prim.{Unit, tt}
-use Rattle.std.proofs.Common.{◌≡◌, ℕ, zero, suc, ◌+◌, ◌-◌, ◌<◌, ◌≤◌, Bool, true, false, List, [], ◌∷◌, ◌++◌, length, get_or, drop, sym, refl, ◌∙◌, add-zero, suc-add, zero-add, arith, length-drop, get_or-drop, drop-drop}
+use Rattle.std.proofs.Common.{◌≡◌, ℕ, zero, suc, ◌+◌, ◌<◌, ◌≤◌, Bool, true, false, List, [], ◌∷◌, ◌++◌, length, get_or, drop, sym, refl, ◌∙◌, add-zero, suc-add, zero-add, arith, length-drop, get_or-drop, drop-drop}
 use Rattle.word.specs.Choice.{pick}
 use Rattle.word.specs.Words.{word_at}
 use Rattle.word.specs.Parse.{Parsed, fault, got, next, one, several}

@@ -2,7 +2,7 @@
 use Rattle.std.proofs.Common.{◌≡◌, ℕ, zero, suc, ◌+◌, ◌-◌, ◌<◌, ◌≤◌, Bool, true, false, ◌&&◌, List, [], ◌∷◌, ◌++◌, length, take, drop, refl, ◌∙◌, arith}
 use Rattle.std.specs.List.{list_all}
 use Rattle.word.specs.Choice.{pick}
-use Rattle.word.specs.Parse.{Parsed, fault, got, next, one, several, Rest, nowhere, from, behind}
+use Rattle.word.specs.Parse.{Parsed, fault, got, next, one, several, nowhere, from, behind}
 use Rattle.word.proofs.Parse.{several_add}
 
 -- ---- a reader that stopped: it faulted, or what it got stands before the words from there on

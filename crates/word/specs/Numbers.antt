@@ -1,7 +1,6 @@
 -- The numbers that answers carry (document 01, 'Numbers'), each written here and in no other definition; src/refusal.rt and include/bokwingi.h have the same names.
 use Rattle.std.specs.Prelude.{ℕ}
 use Rattle.word.specs.declared.refusal.Number.{Number}
-use Rattle.word.specs.declared.refusal.Number.TheVariants as Number
 
 -- ---- the pack and the call
 

@@ -1,4 +1,3 @@
-use Rattle.std.proofs.Common.{sym, ◌∙◌, ap}
 use Rattle.word.proofs.Both.{number_nonzero}
 use Rattle.bindings.proofs.answers.binding_refusal.Goals as goal
 

@@ -4,8 +4,8 @@ use Rattle.stage.proofs.judge.pair_step.Goals as goal
 pub returns-then-derived : goal.returns-then-derived
 returns-then-derived c = search pairs_derived
 
-pub pair_uses-requires-clause-pairs_below : goal.pair_uses-requires-clause-pairs_below
-pair_uses-requires-clause-pairs_below c = search pairs_given
+pub pair_uses-requires : goal.pair_uses-requires
+pair_uses-requires c = search pairs_given
 
 pub returns : goal.returns
 returns c = search pairs_provided
