@@ -35,14 +35,16 @@ pub(crate) fn populate(
     if let Some(first) = written[n] {
         return put_again(out, usize::from(first), to, usize::from(note.words));
     }
+    // as a local, since through `types` they are loaded again behind each call
+    let words = types.table.words;
     let start = types.table.start(n);
     let mut i = start + 1;
     let mut next = to;
-    for _k in 0..member_count(types.table.words, start) {
-        let m = member_type(types.table.words, i);
-        let member = Binding::at(types.table.words, i + 1);
+    for _k in 0..member_count(words, start) {
+        let m = member_type(words, i);
+        let member = Binding::at(words, i + 1);
         next = populate(types, m, member, out, next, written);
-        i += member_width(types.table.words, i);
+        i += member_width(words, i);
     }
     written[n] = Some(to as u8);
     next
