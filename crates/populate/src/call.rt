@@ -15,14 +15,14 @@ use type_check::clips::binding_good;
 use type_check::given::given_note;
 use type_check::index::index_types;
 use type_check::notes::TypeNote;
-use type_check::types::Types;
+use type_check::types::{TypeTable, Types};
 use word::refusal::{Number, Refusal};
 
 // Writes the varyings of the asked type.
 fn put_varyings(types: &Types<'_>, asked: usize, binding: Binding, out: &mut [u32])
     requires inside { asked < types.now.count }
-    requires room { 0 + length (words_of (populate (earlier_of types.now.words.now types.now.count) asked (binding_of binding.first binding.second))) ≤ room out.old }
-    ensures { out.new ≡ (put out.old 0 (words_of (populate (earlier_of types.now.words.now types.now.count) asked (binding_of binding.first binding.second)))).1 }
+    requires room { 0 + length (words_of (populate (earlier_of types.now.table.words.now types.now.count) asked (binding_of binding.first binding.second))) ≤ room out.old }
+    ensures { out.new ≡ (put out.old 0 (words_of (populate (earlier_of types.now.table.words.now types.now.count) asked (binding_of binding.first binding.second)))).1 }
 {
     let mut written: [Option<u8>; 256] = [None; 256];
     populate(types, asked, binding, out, 0, &mut written);
@@ -36,9 +36,9 @@ fn populate_asked(
     out: &mut [u32],
 ) -> Result<u32, Refusal>
     requires { asked < types.now.count }
-    ensures { (answer_with result, out.new) ≡ populated (earlier_of types.now.words.now types.now.count) asked (binding_of binding.first binding.second) out.old }
+    ensures { (answer_with result, out.new) ≡ populated (earlier_of types.now.table.words.now types.now.count) asked (binding_of binding.first binding.second) out.old }
 {
-    let note = given_note(types, asked, binding.first);
+    let note = given_note(&types.table, asked, binding.first);
     if 8 < note.depth {
         return Err(Refusal::plain(Number::NestedTooDeep));
     }
@@ -60,13 +60,13 @@ fn populate_bound(
     out: &mut [u32],
 ) -> Result<u32, Refusal>
     requires { asked < types.now.count }
-    ensures { (answer_with result, out.new) ≡ bound_on (earlier_of types.now.words.now types.now.count) asked (read_binding words.now) out.old }
+    ensures { (answer_with result, out.new) ≡ bound_on (earlier_of types.now.table.words.now types.now.count) asked (read_binding words.now) out.old }
 {
     if binding_next(words, 0) != Some(words.len()) {
         return Err(Refusal::plain(Number::BadTypes));
     }
     let binding = Binding::at(words, 0);
-    if !binding_good(types, asked, binding.first) {
+    if !binding_good(&types.table, asked, binding.first) {
         return Err(Refusal::plain(Number::BadTypes));
     }
     populate_asked(types, asked, binding, out)
@@ -89,9 +89,12 @@ pub fn populate_types(
     if count <= asked {
         return Err(Refusal::plain(Number::BadTypes));
     }
-    let declared = Types {
+    let table = TypeTable {
         words: types,
         notes: &notes,
+    };
+    let declared = Types {
+        table,
         count: count as usize,
     };
     populate_bound(&declared, asked as usize, binding, out)

@@ -88,18 +88,18 @@ pub(crate) fn put_lone(
     out: &mut [u32],
     to: usize,
 ) -> usize
-    requires no_struct { (n < types.now.count) × (struct_at types.now.words.now (start_at types.now.notes.now n) ≡ false) }
-    requires room { to + length (words_of (type_gives nothing (type_at (drop (start_at types.now.notes.now n) types.now.words.now)) (binding_of binding.first binding.second))) ≤ length out.old }
+    requires no_struct { (n < types.now.count) × (struct_at types.now.table.words.now (start_at types.now.table.notes.now n) ≡ false) }
+    requires room { to + length (words_of (type_gives nothing (type_at (drop (start_at types.now.table.notes.now n) types.now.table.words.now)) (binding_of binding.first binding.second))) ≤ length out.old }
     ensures { (result, out.new)
-        ≡ put out.old to (words_of (type_gives nothing (type_at (drop (start_at types.now.notes.now n) types.now.words.now)) (binding_of binding.first binding.second))) }
+        ≡ put out.old to (words_of (type_gives nothing (type_at (drop (start_at types.now.table.notes.now n) types.now.table.words.now)) (binding_of binding.first binding.second))) }
 {
-    let start = types.start(n);
-    let head = word::word(types.words, start);
+    let start = types.table.start(n);
+    let head = word::word(types.table.words, start);
     if word::kind(head) == 22 {
         return put_bound(head, binding, out, to);
     }
     put_clip(
-        word::content(word::word(types.words, start + 1)),
+        word::content(word::word(types.table.words, start + 1)),
         binding,
         out,
         to,

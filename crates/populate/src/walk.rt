@@ -19,30 +19,32 @@ pub(crate) fn populate(
     written: &mut [Option<u8>; 256],
 ) -> usize
     requires inside { (n < types.now.count) × (length written.old ≡ 256) }
-    requires before { Written (earlier_of types.now.words.now types.now.count) written.old out.old to }
-    requires room { to + length (words_of (populate (earlier_of types.now.words.now types.now.count) n (binding_of binding.first binding.second))) ≤ room out.old }
-    ensures given { (result, out.new) ≡ put out.old to (words_of (populate (earlier_of types.now.words.now types.now.count) n (binding_of binding.first binding.second))) }
-    ensures after { Written (earlier_of types.now.words.now types.now.count) written.new out.new result }
+    requires before { Written (earlier_of types.now.table.words.now types.now.count) written.old out.old to }
+    requires room { to + length (words_of (populate (earlier_of types.now.table.words.now types.now.count) n (binding_of binding.first binding.second))) ≤ room out.old }
+    ensures given { (result, out.new) ≡ put out.old to (words_of (populate (earlier_of types.now.table.words.now types.now.count) n (binding_of binding.first binding.second))) }
+    ensures after { Written (earlier_of types.now.table.words.now types.now.count) written.new out.new result }
     ensures whole { length written.new ≡ 256 }
 {
-    let note = types.note(n);
+    let note = types.table.note(n);
     if note.words == 0 {
         return to;
     }
-    if !types.is_struct(n) {
+    if !types.table.is_struct(n) {
         return put_lone(types, n, binding, out, to);
     }
     if let Some(first) = written[n] {
         return put_again(out, usize::from(first), to, usize::from(note.words));
     }
-    let start = types.start(n);
+    // as a local, since through `types` they are loaded again behind each call
+    let words = types.table.words;
+    let start = types.table.start(n);
     let mut i = start + 1;
     let mut next = to;
-    for _k in 0..member_count(types.words, start) {
-        let m = member_type(types.words, i);
-        let member = Binding::at(types.words, i + 1);
+    for _k in 0..member_count(words, start) {
+        let m = member_type(words, i);
+        let member = Binding::at(words, i + 1);
         next = populate(types, m, member, out, next, written);
-        i += member_width(types.words, i);
+        i += member_width(words, i);
     }
     written[n] = Some(to as u8);
     next

@@ -1,86 +1,68 @@
 -- The code's ways through a binding, by positions.
 use Prim.Native.Nat.{ℕ, ◌+◌, ◌≤◌}
 use native.Mathlib.Omega.{arith}
-use mathlib.Core.Path.{◌≡◌, refl, sym, ◌∙◌}
-use mathlib.Core.Bool.{Bool, true, false, not, false≢true}
+use mathlib.Core.Path.{◌≡◌, refl, ◌∙◌}
+use mathlib.Core.Bool.{Bool, true, false}
 use mathlib.Core.List.{List, [], ◌∷◌}
-use borrow.Author.Tests.{eq-eqb, ne_eqb, not-true, not-false}
-use lib.ListN.{get_or, length, drop, length-drop}
-use Rattle.word.specs.Words.{word_at, of_kind}
-use Rattle.word.specs.Parse.{fault, got, next, one, nowhere, from, behind}
+use borrow.Author.Tests.{ne_eqb}
+use lib.ListN.{get_or, length, drop}
+use Rattle.word.specs.Words.{word_at, kind_of, of_kind}
+use Rattle.word.specs.Parse.{nowhere, from, behind}
 use Rattle.word.proofs.Parse.{first_of, others_of, one_fault, one_got, one_in}
 use Rattle.varying.specs.Format.{location_well_formed}
-use Rattle.type_lists.specs.Format.{bound_well_formed, built_in_bound, located, read_binding}
+use Rattle.type_lists.specs.Format.{bound_well_formed, built_in_bound, binding_behind, read_binding}
 
 bound_zero : bound_well_formed 0 ≡ false
 unfolding bound_well_formed
 bound_zero = refl
 
--- by the first word: a location, a built-in, none, neither
-is_local_lem : (l : List ℕ) → location_well_formed (get_or l 0 0) ≡ true → read_binding l ≡ next (one bound_well_formed (drop 1 l)) λ var rest. got (located (get_or l 0 0) var) rest
+-- by the first word, which is 0 behind the end
+by_head : (l : List ℕ) → read_binding l ≡ binding_behind (get_or l 0 0) (drop 1 l)
 unfolding read_binding
-is_local_lem [] h = absurd (false≢true h)
-is_local_lem (w ∷ l) h = rw h
+by_head [] = refl
+by_head (w ∷ l) = refl
 
-is_built_in : (l : List ℕ) → location_well_formed (get_or l 0 0) ≡ false → built_in_bound (get_or l 0 0) ≡ true → behind (read_binding l) ≡ from (drop 1 l)
-unfolding read_binding
-is_built_in [] f h = absurd (false≢true h)
-is_built_in (w ∷ l) f h = rw (f, h)
+module _ (ws : List ℕ) (at w x : ℕ) (e : w ≡ word_at ws at) (k : x ≡ kind_of w) where
+  binding_reads : read_binding (drop at ws) ≡ binding_behind w (drop (at + 1) ws)
+  binding_reads = by_head (drop at ws) ∙ rw (first_of ws at, ← e, others_of ws at)
 
-is_none : (l : List ℕ) → location_well_formed (get_or l 0 0) ≡ false → built_in_bound (get_or l 0 0) ≡ false → get_or l 0 0 ≡ of_kind 6 0 → behind (read_binding l) ≡ from (drop 1 l)
-unfolding read_binding
-is_none [] f g h = absurd (omega arith)
-is_none (w ∷ l) f g h = rw (f, g, eq-eqb w (of_kind 6 0) h)
+  -- ---- none
 
-is_neither : (l : List ℕ) → location_well_formed (get_or l 0 0) ≡ false → built_in_bound (get_or l 0 0) ≡ false → (get_or l 0 0 ≡ of_kind 6 0 → ⊥) → read_binding l ≡ fault
-unfolding read_binding
-is_neither [] f g h = refl
-is_neither (w ∷ l) f g h = rw (f, g, ne_eqb w (of_kind 6 0) h)
+  pub none_good : w ≡ of_kind 6 0 → from (drop (at + 1) ws) ≡ behind (read_binding (drop at ws))
+  none_good q = rw (binding_reads, q)
 
-held : (l : List ℕ) → (get_or l 0 0 ≡ 0 → ⊥) → 1 ≤ length l
-held [] h = absurd (h refl)
-held (w ∷ l) h = omega arith
+  pub none_bad : x ≡ 6 → (w ≡ of_kind 6 0 → ⊥) → nowhere ≡ behind (read_binding (drop at ws))
+  none_bad z q = rw (binding_reads, ne_eqb w (of_kind 6 0) q, ← k, z)
 
-module _ (ws : List ℕ) (at w : ℕ) (e : w ≡ word_at ws at) where
-  head_is : get_or (drop at ws) 0 0 ≡ w
-  head_is = first_of ws at ∙ sym e
+  -- ---- a location
 
-  word_in : (w ≡ 0 → ⊥) → at + 1 ≤ length ws
-  word_in h = omega (arith, held (drop at ws) (λ z. h (sym head_is ∙ z)), length-drop at ws)
+  module _ (z : x ≡ 12) (v : ℕ) (b : Bool) (f : v ≡ word_at ws (at + 1)) (g : b ≡ bound_well_formed v) where
+    pub local_good : b ≡ true → from (drop (at + 2) ws) ≡ behind (read_binding (drop at ws))
+    local_good t = let m : at + 1 + 1 ≡ at + 2 = omega arith in rw (binding_reads, ← k, z, one_got bound_well_formed ws (at + 1) v b f g t bound_zero, m)
 
-  module _ (x : Bool) (k : x ≡ location_well_formed w) where
-    local_now : x ≡ true → location_well_formed (get_or (drop at ws) 0 0) ≡ true
-    local_now t = rw (head_is, ← k) t
+    pub local_in : b ≡ true → at + 2 ≤ length ws
+    local_in t = omega (arith, one_in bound_well_formed ws (at + 1) v b f g t bound_zero)
 
-    module _ (v : ℕ) (b : Bool) (f : v ≡ word_at ws (at + 1)) (g : b ≡ bound_well_formed v) where
-      pub local_bad : x ≡ true → not b ≡ true → nowhere ≡ behind (read_binding (drop at ws))
-      local_bad t n = rw (is_local_lem (drop at ws) (local_now t), others_of ws at, one_fault bound_well_formed ws (at + 1) v b f g (not-true b n))
+    pub local_bad : b ≡ false → nowhere ≡ behind (read_binding (drop at ws))
+    local_bad t = rw (binding_reads, ← k, z, one_fault bound_well_formed ws (at + 1) v b f g t)
 
-      pub local_good : x ≡ true → not b ≡ false → from (drop (at + 2) ws) ≡ behind (read_binding (drop at ws))
-      local_good t n =
-          let m : at + 1 + 1 ≡ at + 2 = omega arith in
-          rw (is_local_lem (drop at ws) (local_now t), others_of ws at, one_got bound_well_formed ws (at + 1) v b f g (not-false b n) bound_zero, m)
+  -- ---- a built-in
 
-      pub local_in : not b ≡ false → at + 2 ≤ length ws
-      local_in n = omega (arith, one_in bound_well_formed ws (at + 1) v b f g (not-false b n) bound_zero)
+  module _ (z : x ≡ 14) (b : Bool) (g : b ≡ built_in_bound w) where
+    no_location : location_well_formed w ≡ false
+    no_location = rw (← k, z)
 
-    other_now : x ≡ false → location_well_formed (get_or (drop at ws) 0 0) ≡ false
-    other_now t = rw (head_is, ← k) t
+    pub built_in_good : b ≡ true → from (drop (at + 1) ws) ≡ behind (read_binding (drop at ws))
+    built_in_good t = rw (binding_reads, no_location, ← g, t)
 
-    module _ (y : Bool) (g : y ≡ built_in_bound w) where
-      pub built_in_good : x ≡ false → y ≡ true → from (drop (at + 1) ws) ≡ behind (read_binding (drop at ws))
-      built_in_good t z =
-          sym (is_built_in (drop at ws) (other_now t) (rw (head_is, ← g) z) ∙ rw (others_of ws at))
+    pub built_in_bad : b ≡ false → nowhere ≡ behind (read_binding (drop at ws))
+    built_in_bad t =
+        let d : w ≡ of_kind 6 0 → ⊥ = λ q. omega arith in
+        rw (binding_reads, no_location, ← g, t, ne_eqb w (of_kind 6 0) d)
 
-      pub built_in_in : y ≡ true → at + 1 ≤ length ws
-      built_in_in z = word_in (λ q. false≢true (rw q at (sym g ∙ z)))
+  -- ---- no binding
 
-      pub none_good : x ≡ false → y ≡ false → w ≡ of_kind 6 0 → from (drop (at + 1) ws) ≡ behind (read_binding (drop at ws))
-      none_good t z q =
-          sym (is_none (drop at ws) (other_now t) (rw (head_is, ← g) z) (head_is ∙ q) ∙ rw (others_of ws at))
-
-      pub neither_good : x ≡ false → y ≡ false → (w ≡ of_kind 6 0 → ⊥) → nowhere ≡ behind (read_binding (drop at ws))
-      neither_good t z q = rw (is_neither (drop at ws) (other_now t) (rw (head_is, ← g) z) (λ p. q (sym head_is ∙ p)))
-
-  pub none_in : w ≡ of_kind 6 0 → at + 1 ≤ length ws
-  none_in q = word_in (λ z. omega arith)
+  pub other_bad : (x ≡ 6 → ⊥) → (x ≡ 12 → ⊥) → (x ≡ 14 → ⊥) → nowhere ≡ behind (read_binding (drop at ws))
+  other_bad p q r =
+      let d : w ≡ of_kind 6 0 → ⊥ = λ s. p (omega arith) in
+      rw (binding_reads, ne_eqb w (of_kind 6 0) d, ← k, ne_eqb x 12 q, ne_eqb x 14 r)

@@ -106,12 +106,9 @@ module _ (types : List TypeInner) (ws : List ℕ) (notes : List TypeNote) (s : N
   element_earlier n h k =
       ltb-true (bits 15 0 (word_at ws (start_at notes n))) n (rw ((s.each n h).is, type_23 ws (start_at notes n) k) at (s.each n h).below)
 
-  pub element_counted : (n count at w x : ℕ) → length types ≡ count → n < count → at ≡ start_at notes n → w ≡ word_at ws at → x ≡ kind_of w → x ≡ 23 → w % 2 ^ 16 < count
-  element_counted n count at w x l h a e k z =
-      let q : kind_of (word_at ws (start_at notes n)) ≡ 23 = rw (← a, ← e, ← k) z in
-      let r : bits 15 0 (word_at ws (start_at notes n)) < n = element_earlier n (omega arith) q in
-      let o : w ≡ word_at ws (start_at notes n) = rw (← a) e in
-      rw o (omega arith)
+  -- so it has an entry in the table
+  pub element_noted : (n count : ℕ) → length types ≡ count → n < count → kind_of (word_at ws (start_at notes n)) ≡ 23 → bits 15 0 (word_at ws (start_at notes n)) < 256
+  element_noted n count l h k = omega (arith, element_earlier n (omega arith) k, s.few)
 
   clip_is : (n : ℕ) → n < length types → clip_good types (type_numbered types n) ≡ clip_good_at ws notes (start_at notes n)
   unfolding clip_good_at
@@ -134,3 +131,7 @@ module _ (types : List TypeInner) (ws : List ℕ) (notes : List TypeNote) (s : N
   pub good_is : (n : ℕ) (l : List ℕ) → n < length types → binding_good types n (binding_at l) ≡ binding_good_at ws notes n (word_at l 0)
   unfolding binding_good binding_good_at
   good_is n l h = rw (clip_is n h, clip_bound l)
+
+-- the element of an array whose words were read
+pub element_read : (ws : List ℕ) (at start w x : ℕ) → (kind_of (word_at ws at) ≡ 23 → bits 15 0 (word_at ws at) < 256) → start ≡ at → w ≡ word_at ws start → x ≡ kind_of w → x ≡ 23 → w % 2 ^ 16 < 256
+element_read ws at start w x h a e k z = let o : w ≡ word_at ws at = rw (← a) e in rw o (h (rw (← o, ← k) z))

@@ -1,6 +1,5 @@
 -- What a type gives with a binding, by words and notes, is what the definition gives.
 use Prim.Native.Nat.{ℕ, ◌+◌, ◌<◌, min}
-use native.Mathlib.Omega.{arith}
 use mathlib.Core.Path.{◌≡◌, refl, ap, ◌∙◌}
 use mathlib.Core.Bool.{true, false}
 use mathlib.Core.List.{List, []}
@@ -74,10 +73,6 @@ module _ (types : List TypeInner) (ws : List ℕ) (notes : List TypeNote) (s : N
       (λ t. let k = eqb-true (kind_of (word_at ws (start_at notes n))) 23 t in g k (now_is ∙ type_23 ws (start_at notes n) k))
       (λ b. i (rw (a, b)) (now_is ∙ type_24 ws (start_at notes n) (eqb-false (kind_of (word_at ws (start_at notes n))) 22 a) (eqb-false (kind_of (word_at ws (start_at notes n))) 23 b)))
 
-  -- near the start of the list
-  pub start_near : start_at notes n < 1024
-  start_near = (s.each n h).near
-
   -- how deep structs nest in it
   pub depth_noted : (note_at notes n).depth ≡ min (nesting types n) 9
   unfolding number_note note_of
@@ -103,6 +98,3 @@ module _ (types : List TypeInner) (ws : List ℕ) (notes : List TypeNote) (s : N
       rw (k, p, array_by (nesting types n) (content_of (word_at ws (start_at notes n + 1))) (binding_at l), clip_bound l, depth_noted))
       (λ t e. let o : is_struct (type_numbered types n) ≡ true = rw e in
       rw (t, (s.each n h).noted) (struct_noted (binding_at l) o))
-
-pub start_within : (types : List TypeInner) (ws : List ℕ) (notes : List TypeNote) (n count p : ℕ) → Noted types ws notes → length types ≡ count → n < count → p ≡ start_at notes n → p < 1024
-start_within types ws notes n count p s l h e = rw e (start_near types ws notes s n (omega arith))

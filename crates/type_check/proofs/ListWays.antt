@@ -36,8 +36,8 @@ some_word types l t rest e = one_then (head_well_formed (length types)) l _ t re
 
 -- a type that was read, noted behind the earlier ones
 noted_more : (types : List TypeInner) (ws : List ℕ) (notes : List TypeNote) (h : TypeNote) (t : TypeInner) (rest : List ℕ) → Noted types ws notes → read_type types (drop h.start ws) ≡ got t rest
-    → h.note ≡ number_note (t ∷ types) (length types) → h.start < 1024 → length types < length notes → length types < 256 → Noted (t ∷ types) ws (set notes (length types) h)
-noted_more types ws notes h t rest s e g z k few = record { each = each; few = omega arith }
+    → h.note ≡ number_note (t ∷ types) (length types) → length types < length notes → length types < 256 → Noted (t ∷ types) ws (set notes (length types) h)
+noted_more types ws notes h t rest s e g k few = record { each = each; few = omega arith }
   where
     last : Stands (t ∷ types) ws (length types) h
     last =
@@ -46,7 +46,6 @@ noted_more types ws notes h t rest s e g z k few = record { each = each; few = o
           is = rw (numbered_last t types) a;
           below = rw (numbered_last t types) c;
           noted = g;
-          near = z;
         }
 
     before : (j : ℕ) → j < length types → Stands (t ∷ types) ws j (get_or notes j unnoted)
@@ -55,7 +54,6 @@ noted_more types ws notes h t rest s e g z k few = record { each = each; few = o
           is = rw (numbered_earlier t types j q) (s.each j q).is;
           below = rw (numbered_earlier t types j q) (s.each j q).below;
           noted = rw (number_earlier types t j q) (s.each j q).noted;
-          near = (s.each j q).near;
         }
 
     each : (j : ℕ) → j < length (t ∷ types) → Stands (t ∷ types) ws j (get_or (set notes (length types) h) j unnoted)
@@ -101,12 +99,12 @@ module _ (ws : List ℕ) (i at : ℕ) (e : read_types i [] (drop 1 ws) ≡ got (
     pub types_on : read_types (i + 1) [] (drop 1 ws) ≡ got (earlier_of ws (i + 1)) (drop r ws)
     types_on = more_read λ t q y z p. rw (p, z)
 
-    pub noted_on : (notes : List TypeNote) (count : ℕ) → Noted (earlier_of ws i) ws notes → length ws ≤ 1024 → i < count → count ≤ 256 → length notes ≡ 256
-        → Noted (earlier_of ws (i + 1)) ws (set notes i (record { start = at; note = n }))
-    noted_on notes count s few k m l =
+    pub noted_on : (notes : List TypeNote) (count : ℕ) (near : at < 1024) → Noted (earlier_of ws i) ws notes → i < count → count ≤ 256 → length notes ≡ 256
+        → Noted (earlier_of ws (i + 1)) ws (set notes i (record { start = at; note = n; near = near }))
+    noted_on notes count near s k m l =
         more_read λ v q y z p.
-        let d : Noted (v ∷ earlier_of ws i) ws (set notes (length (earlier_of ws i)) (record { start = at; note = n })) =
-        noted_more (earlier_of ws i) ws notes (record { start = at; note = n }) v (drop r ws) s q y (type_inside few) (omega (arith, earlier_length)) (omega (arith, earlier_length)) in
+        let d : Noted (v ∷ earlier_of ws i) ws (set notes (length (earlier_of ws i)) (record { start = at; note = n; near = near })) =
+        noted_more (earlier_of ws i) ws notes (record { start = at; note = n; near = near }) v (drop r ws) s q y (omega (arith, earlier_length)) (omega (arith, earlier_length)) in
         rw p (rw earlier_length at d)
 
 -- ---- the list

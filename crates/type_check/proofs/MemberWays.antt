@@ -8,7 +8,7 @@ use borrow.Author.Tests.{ltb-true, not-true, not-false}
 use lib.Dec.{eqb, ltb}
 use lib.ListN.{length, drop}
 use Rattle.word.specs.Choice.{pick}
-use Rattle.word.specs.Words.{word_at, kind_of, content_of}
+use Rattle.word.specs.Words.{word_at, kind_of, content_of, bits}
 use Rattle.word.specs.Parse.{Parsed, fault, got, next, several, nowhere, from, behind}
 use Rattle.word.proofs.Parse.{first_of, others_of, one_fault, one_got}
 use Rattle.word.proofs.Truth.{second}
@@ -20,11 +20,11 @@ use Rattle.type_check.specs.declared.notes.Note.{Note}
 use Rattle.type_check.specs.declared.notes.TypeNote.{TypeNote}
 use Rattle.type_check.specs.Inner.Positions.{binding_at, member_at}
 use Rattle.type_check.specs.Inner.Notes as N
-use Rattle.type_check.specs.Inner.Notes.{note, note_of, both, member_note, members_note, given_note, Noted, Reached, upto, reached, member_reached, members_reached, onward}
+use Rattle.type_check.specs.Inner.Notes.{note, note_of, start_at, both, member_note, members_note, given_note, Noted, Reached, upto, reached, member_reached, members_reached, onward}
 use Rattle.type_check.specs.Inner.Clips.{binding_good_at}
 use Rattle.type_check.proofs.Taken.{binding_took, member_took}
 use Rattle.type_check.proofs.Noting.{members_more, members_first, members_end}
-use Rattle.type_check.proofs.ClipWays.{good_is}
+use Rattle.type_check.proofs.ClipWays.{element_noted, good_is}
 use Rattle.type_check.proofs.GivenWays.{given_is}
 
 -- a reader that stopped at words has got something, with them behind it, and one that stopped nowhere has found a fault
@@ -52,6 +52,10 @@ module _ (types : List TypeInner) (ws : List ℕ) (n at w : ℕ) (l : length typ
   module _ (o : not b ≡ false) where
     pub named_below : content_of w < n
     named_below = ltb-true (content_of w) n (second (eqb (kind_of w) 5) (ltb (content_of w) n) (sym f ∙ not-false b o))
+
+    -- the element of an array has an entry in the table
+    pub element_there : (notes : List TypeNote) (m : ℕ) → Noted types ws notes → m ≡ content_of w → kind_of (word_at ws (start_at notes m)) ≡ 23 → bits 15 0 (word_at ws (start_at notes m)) < 256
+    element_there notes m s c k = element_noted types ws notes s m n l (rw c named_below) k
 
     member_reads : read_member types (drop at ws) ≡ (next (read_binding (drop (at + 1) ws)) λ binding rest.
         pick (binding_good types (content_of w) binding) (got (record { ty = content_of w; binding = binding }) rest) fault)
@@ -90,8 +94,8 @@ module _ (types : List TypeInner) (ws : List ℕ) (at r : ℕ) (e : from (drop r
       let o : a.ty ≡ m = ap (λ (x : StructMember). x.ty) y ∙ rw (first_of ws at) (sym c) in
       ltb-true m (length types) (rw o at l)
 
-  pub member_counted : (count : ℕ) → length types ≡ count → m < count
-  member_counted count l = omega (arith, member_below)
+  pub member_there : (notes : List TypeNote) → Noted types ws notes → m < 256
+  member_there notes s = omega (arith, member_below, s.few)
 
   module _ (notes : List TypeNote) (s : Noted types ws notes) (w : ℕ) (f : w ≡ word_at ws (at + 1)) (t : Note) (g : t ≡ given_note ws notes m w) where
     note_is : t ≡ member_note types (member_at (drop at ws))

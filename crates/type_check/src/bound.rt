@@ -30,14 +30,10 @@ pub fn binding_next(words: &[u32], at: usize) -> Option<usize>
     ensures within { IfSome result (λ next. next ≤ length words.now) }
 {
     let w = word::word(words, at);
-    if varying::location_well_formed(w) {
-        if !bound_well_formed(word::word(words, at + 1)) {
-            return None;
-        }
-        return Some(at + 2);
+    match word::kind(w) {
+        6 if w == 0x3000_0000 => Some(at + 1),
+        12 if bound_well_formed(word::word(words, at + 1)) => Some(at + 2),
+        14 if built_in_bound(w) => Some(at + 1),
+        _ => None,
     }
-    if built_in_bound(w) {
-        return Some(at + 1);
-    }
-    if w == 0x3000_0000 { Some(at + 1) } else { None }
 }

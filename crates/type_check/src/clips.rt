@@ -1,9 +1,10 @@
 // Where clip distances may stand.
 ghost use Rattle.std.specs.Prelude.{◌≡◌, ◌<◌};
+ghost use Rattle.word.specs.Words.{word_at, kind_of, bits};
 ghost use Rattle.type_check.specs.Inner.Notes.{start_at, clip_word};
 ghost use Rattle.type_check.specs.Inner.Clips.{f32_at, clip_good_at, binding_good_at};
 
-use crate::types::Types;
+use crate::types::TypeTable;
 
 // Whether a word is clip distances.
 pub fn is_clip(w: u32) -> bool
@@ -22,8 +23,9 @@ fn is_f32(words: &[u32], at: usize) -> bool
 
 // Whether clip distances may stand on the type of a number: on an array of 1 to 255 floats, and on a struct, where they are ignored.
 #[tactic(auto, unfolding(crate::specs::Inner::Clips::clip_good_at))]
-fn clip_good(types: &Types<'_>, n: usize) -> bool
-    requires { n < types.now.count }
+fn clip_good(types: &TypeTable<'_>, n: usize) -> bool
+    requires number { n < 256 }
+    requires element { kind_of (word_at types.now.words.now (start_at types.now.notes.now n)) ≡ 23 → bits 15 0 (word_at types.now.words.now (start_at types.now.notes.now n)) < 256 }
     ensures { result ≡ clip_good_at types.now.words.now types.now.notes.now (start_at types.now.notes.now n) }
 {
     let at = types.start(n);
@@ -40,8 +42,9 @@ fn clip_good(types: &Types<'_>, n: usize) -> bool
 
 // Whether the type of a number may have a binding that begins with a word.
 #[tactic(auto, unfolding(crate::specs::Inner::Clips::binding_good_at))]
-pub fn binding_good(types: &Types<'_>, n: usize, w: u32) -> bool
-    requires { n < types.now.count }
+pub fn binding_good(types: &TypeTable<'_>, n: usize, w: u32) -> bool
+    requires number { n < 256 }
+    requires element { kind_of (word_at types.now.words.now (start_at types.now.notes.now n)) ≡ 23 → bits 15 0 (word_at types.now.words.now (start_at types.now.notes.now n)) < 256 }
     ensures { result ≡ binding_good_at types.now.words.now types.now.notes.now n w }
 {
     !is_clip(w) || clip_good(types, n)

@@ -4,7 +4,7 @@ ghost use Rattle.type_check.specs.Inner.Notes.{bound_note, array_note, given_not
 
 use crate::clips::is_clip;
 use crate::notes::Note;
-use crate::types::Types;
+use crate::types::TypeTable;
 
 // A scalar, vector or matrix with a binding that begins with a word.
 fn bound_note(depth: u8, w: u32) -> Note
@@ -31,8 +31,8 @@ fn array_note(depth: u8, w: u32) -> Note
 
 // The type of a number with such a binding.
 #[tactic(auto, unfolding(crate::specs::Inner::Notes::given_note))]
-pub fn given_note(types: &Types<'_>, n: usize, w: u32) -> Note
-    requires { n < types.now.count }
+pub fn given_note(types: &TypeTable<'_>, n: usize, w: u32) -> Note
+    requires { n < 256 }
     ensures { result ≡ given_note types.now.words.now types.now.notes.now n w }
 {
     let note = types.note(n);

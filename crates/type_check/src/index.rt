@@ -12,7 +12,7 @@ use crate::clips::binding_good;
 use crate::given::given_note;
 use crate::members::member_type;
 use crate::notes::{Note, Reading, TypeNote};
-use crate::types::Types;
+use crate::types::{TypeTable, Types};
 
 // Whether a word names a type below a number.
 fn index_well_formed(w: u32, count: usize) -> bool
@@ -23,19 +23,19 @@ fn index_well_formed(w: u32, count: usize) -> bool
 
 // The position behind a member of the type behind earlier ones.
 fn member_next(earlier: &Types<'_>, at: usize) -> Option<usize>
-    requires { at ≤ length earlier.now.words.now }
-    ensures position { rest_of earlier.now.words.now result
-        ≡ behind (read_member (earlier_of earlier.now.words.now earlier.now.count) (drop at earlier.now.words.now)) }
-    ensures within { IfSome result (λ next. next ≤ length earlier.now.words.now) }
+    requires { at ≤ length earlier.now.table.words.now }
+    ensures position { rest_of earlier.now.table.words.now result
+        ≡ behind (read_member (earlier_of earlier.now.table.words.now earlier.now.count) (drop at earlier.now.table.words.now)) }
+    ensures within { IfSome result (λ next. next ≤ length earlier.now.table.words.now) }
 {
-    let words = earlier.words;
+    let words = earlier.table.words;
     let w = word::word(words, at);
     if !index_well_formed(w, earlier.count) {
         return None;
     }
     let next = binding_next(words, at + 1)?;
     let second = word::word(words, at + 1);
-    if !binding_good(earlier, word::content(w) as usize, second) {
+    if !binding_good(&earlier.table, word::content(w) as usize, second) {
         return None;
     }
     Some(next)
@@ -43,23 +43,23 @@ fn member_next(earlier: &Types<'_>, at: usize) -> Option<usize>
 
 // A member of the type behind earlier ones.
 fn member_read(earlier: &Types<'_>, at: usize) -> Option<Reading>
-    requires { at ≤ length earlier.now.words.now }
-    ensures reached { reached_at earlier.now.words.now result
-        ≡ member_reached (earlier_of earlier.now.words.now earlier.now.count) (read_member (earlier_of earlier.now.words.now earlier.now.count) (drop at earlier.now.words.now)) }
-    ensures within { IfSome result (λ r. r.next ≤ length earlier.now.words.now) }
+    requires { at ≤ length earlier.now.table.words.now }
+    ensures reached { reached_at earlier.now.table.words.now result
+        ≡ member_reached (earlier_of earlier.now.table.words.now earlier.now.count) (read_member (earlier_of earlier.now.table.words.now earlier.now.count) (drop at earlier.now.table.words.now)) }
+    ensures within { IfSome result (λ r. r.next ≤ length earlier.now.table.words.now) }
 {
     let next = member_next(earlier, at)?;
-    let m = member_type(earlier.words, at);
-    let note = given_note(earlier, m, word::word(earlier.words, at + 1));
+    let m = member_type(earlier.table.words, at);
+    let note = given_note(&earlier.table, m, word::word(earlier.table.words, at + 1));
     Some(Reading { next, note })
 }
 
 // So many members of the type behind earlier ones.
 fn members_read(earlier: &Types<'_>, from: usize, count: u32) -> Option<Reading>
-    requires { from ≤ length earlier.now.words.now }
-    ensures reached { reached_at earlier.now.words.now result
-        ≡ members_reached (earlier_of earlier.now.words.now earlier.now.count) (several count (read_member (earlier_of earlier.now.words.now earlier.now.count)) (drop from earlier.now.words.now)) }
-    ensures within { IfSome result (λ r. r.next ≤ length earlier.now.words.now) }
+    requires { from ≤ length earlier.now.table.words.now }
+    ensures reached { reached_at earlier.now.table.words.now result
+        ≡ members_reached (earlier_of earlier.now.table.words.now earlier.now.count) (several count (read_member (earlier_of earlier.now.table.words.now earlier.now.count)) (drop from earlier.now.table.words.now)) }
+    ensures within { IfSome result (λ r. r.next ≤ length earlier.now.table.words.now) }
 {
     let mut at = from;
     let mut total = Note::NONE;
@@ -88,10 +88,10 @@ fn head_well_formed(w: u32, n: usize) -> bool
 
 // A struct of so many members.
 fn struct_read(earlier: &Types<'_>, from: usize, count: u32) -> Option<Reading>
-    requires { from ≤ length earlier.now.words.now }
-    ensures reached { reached_at earlier.now.words.now result
-        ≡ type_reached (earlier_of earlier.now.words.now earlier.now.count) (struct_of (several count (read_member (earlier_of earlier.now.words.now earlier.now.count)) (drop from earlier.now.words.now))) }
-    ensures within { IfSome result (λ r. r.next ≤ length earlier.now.words.now) }
+    requires { from ≤ length earlier.now.table.words.now }
+    ensures reached { reached_at earlier.now.table.words.now result
+        ≡ type_reached (earlier_of earlier.now.table.words.now earlier.now.count) (struct_of (several count (read_member (earlier_of earlier.now.table.words.now earlier.now.count)) (drop from earlier.now.table.words.now))) }
+    ensures within { IfSome result (λ r. r.next ≤ length earlier.now.table.words.now) }
 {
     let r = members_read(earlier, from, count)?;
     Some(Reading {
@@ -102,12 +102,12 @@ fn struct_read(earlier: &Types<'_>, from: usize, count: u32) -> Option<Reading>
 
 // The type behind earlier ones.
 fn type_read(earlier: &Types<'_>, at: usize) -> Option<Reading>
-    requires { at ≤ length earlier.now.words.now }
-    ensures reached { reached_at earlier.now.words.now result
-        ≡ type_reached (earlier_of earlier.now.words.now earlier.now.count) (read_type (earlier_of earlier.now.words.now earlier.now.count) (drop at earlier.now.words.now)) }
-    ensures within { IfSome result (λ r. r.next ≤ length earlier.now.words.now) }
+    requires { at ≤ length earlier.now.table.words.now }
+    ensures reached { reached_at earlier.now.table.words.now result
+        ≡ type_reached (earlier_of earlier.now.table.words.now earlier.now.count) (read_type (earlier_of earlier.now.table.words.now earlier.now.count) (drop at earlier.now.table.words.now)) }
+    ensures within { IfSome result (λ r. r.next ≤ length earlier.now.table.words.now) }
 {
-    let words = earlier.words;
+    let words = earlier.table.words;
     let w = word::word(words, at);
     if !head_well_formed(w, earlier.count) {
         return None;
@@ -121,7 +121,7 @@ fn type_read(earlier: &Types<'_>, at: usize) -> Option<Reading>
             if word::kind(word::word(words, at + 1)) != 6 {
                 return None;
             }
-            let element = earlier.note((w % 0x1_0000) as usize);
+            let element = earlier.table.note((w % 0x1_0000) as usize);
             Some(Reading {
                 next: at + 2,
                 note: Note::new(element.depth, 1, 1),
@@ -139,11 +139,11 @@ fn types_read(words: &[u32], count: usize, notes: &mut [TypeNote; 256]) -> Optio
 {
     let mut at: usize = 1;
     for i in 0..count {
-        let earlier = Types {
+        let table = TypeTable {
             words,
             notes: &*notes,
-            count: i,
         };
+        let earlier = Types { table, count: i };
         let r = type_read(&earlier, at)?;
         notes[i] = TypeNote {
             start: at as u16,

@@ -1,6 +1,5 @@
 // What is noted of each type by its number.
-ghost use Rattle.std.specs.Prelude.{◌≡◌, ◌+◌, min};
-ghost use Rattle.type_check.specs.Inner.Notes.{note, both};
+ghost use Rattle.std.specs.Prelude.{◌≡◌, ◌+◌, ◌<◌, min};
 
 // How deep structs nest in a type, at most 9; how many varyings it gives, at most 64; and how many words they take, at most 128.
 #[derive(Clone, Copy, Debug, PartialEq, Eq)]
@@ -15,6 +14,7 @@ pub struct Note {
 pub struct TypeNote {
     pub start: u16,
     pub note: Note,
+    pub ghost near: { start < 1024 },
 }
 
 // Where a reader stopped, and what is noted of what it read.
@@ -25,6 +25,8 @@ pub struct Reading {
 }
 
 impl Note {
+    ghost use Rattle.type_check.specs.Inner.Notes.{note, both};
+
     // Of nothing.
     pub const NONE: Self = Self {
         depth: 0,

@@ -1,4 +1,4 @@
-// The types of a list that are noted.
+// A list of types with what is noted of each.
 ghost use Rattle.std.specs.Prelude.{◌≡◌, ◌<◌, length};
 ghost use Rattle.type_check.specs.Inner.Positions.{earlier_of, struct_at};
 ghost use Rattle.type_check.specs.Inner.Notes.{start_at, note_at, Noted, Noted-prop};
@@ -6,39 +6,47 @@ ghost use Rattle.type_check.specs.Inner.Notes.{start_at, note_at, Noted, Noted-p
 use crate::members::is_struct;
 use crate::notes::{Note, TypeNote};
 
-// As many as are noted, the first of a list, with where each stands and what it gives.
+// The words of a type list beside a table by type number.
 #[derive(Clone, Copy)]
-pub struct Types<'a> {
+pub struct TypeTable<'a> {
     pub words: &'a [u32],
     pub notes: &'a [TypeNote; 256],
-    pub count: usize,
-    ghost counted: { length (earlier_of words.now count) ≡ count },
-    ghost noted: { Noted (earlier_of words.now count) words.now notes.now } by { Noted-prop (earlier_of words.now count) words.now notes.now },
 }
 
-impl Types<'_> {
+impl TypeTable<'_> {
     // Where the type of a number stands.
     pub fn start(&self, n: usize) -> usize
-        requires { n < self.now.count }
+        requires { n < 256 }
         ensures value { result ≡ start_at self.now.notes.now n }
         ensures near { result < 1024 }
     {
-        usize::from(self.notes[n].start)
+        let notes = self.notes;
+        usize::from(notes[n].start)
     }
 
     // What is noted of it.
     pub fn note(&self, n: usize) -> Note
-        requires { n < self.now.count }
+        requires { n < 256 }
         ensures { result ≡ note_at self.now.notes.now n }
     {
-        self.notes[n].note
+        let notes = self.notes;
+        notes[n].note
     }
 
     // Whether it is a struct.
     pub fn is_struct(&self, n: usize) -> bool
-        requires { n < self.now.count }
+        requires { n < 256 }
         ensures { result ≡ struct_at self.now.words.now (start_at self.now.notes.now n) }
     {
         is_struct(self.words, self.start(n))
     }
+}
+
+// As many types as are noted, the first of a list.
+#[derive(Clone, Copy)]
+pub struct Types<'a> {
+    pub table: TypeTable<'a>,
+    pub count: usize,
+    ghost counted: { length (earlier_of table.words.now count) ≡ count },
+    ghost noted: { Noted (earlier_of table.words.now count) table.words.now table.notes.now } by { Noted-prop (earlier_of table.words.now count) table.words.now table.notes.now },
 }

@@ -1,6 +1,8 @@
 -- What is noted of a type by its number: where it stands, how deep structs nest in it, how many varyings it gives and how many words they take.
 use Rattle.std.specs.Prelude.{ℕ, ◌+◌, ◌<◌, ◌≤◌, min, max, ◌≡◌, Bool, true, false, ◌&&◌, List, ◌∷◌, Option, Some, None, eqb, leb, length, drop, get_or}
+use mathlib.Core.Path.{refl}
 use mathlib.Core.Sum.{⊎_set}
+use borrow.Author.Tests.{ltb-true}
 use Rattle.std.proofs.Props.{props}
 use Rattle.word.specs.Choice.{pick, yes}
 use Rattle.word.specs.Words.{word_at, kind_of, bits}
@@ -9,7 +11,7 @@ use Rattle.word.specs.Parse.{Parsed, fault, got, next}
 use Rattle.interface.specs.Format.{varying_words}
 use Rattle.interface.specs.declared.types.Varying.{Varying}
 use Rattle.type_lists.specs.Meaning.{Unbound, StructMember, TypeInner, Scalar, Vector, Matrix, Array, Struct, type_numbered}
-use Rattle.type_lists.specs.Format.{most_types, most_words}
+use Rattle.type_lists.specs.Format.{most_types}
 use Rattle.type_lists.specs.Rules.{populate, members_give, nesting, deepest}
 use Rattle.type_check.specs.Inner.Positions.{type_at, struct_at, names_below}
 use Rattle.type_check.specs.declared.notes.Note.{Note}
@@ -54,7 +56,7 @@ number_note types n = pick (is_struct (type_numbered types n)) (note_of (nesting
 -- ---- the table of notes
 
 abbrev pub unnoted : TypeNote
-unnoted = record { start = 0; note = note 0 0 0 }
+unnoted = record { start = 0; note = note 0 0 0; near = ltb-true 0 1024 refl }
 
 -- where the type of a number stands
 abbrev pub start_at : List TypeNote → ℕ → ℕ
@@ -69,7 +71,6 @@ pub record Stands (types : List TypeInner) (ws : List ℕ) (n : ℕ) (e : TypeNo
   pub is : type_numbered types n ≡ type_at (drop e.start ws)
   pub below : names_below n (type_numbered types n) ≡ true
   pub noted : e.note ≡ number_note types n
-  pub near : e.start < most_words
 
 pub record Noted (types : List TypeInner) (ws : List ℕ) (notes : List TypeNote) : Type 0 where
   pub each : (n : ℕ) → n < length types → Stands types ws n (get_or notes n unnoted)

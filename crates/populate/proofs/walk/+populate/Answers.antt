@@ -38,7 +38,7 @@ loop-k-init t c = record {
 }
 
 pub populate-next-requires : goal.populate-next-requires
-populate-next-requires t c = (search member_falls, ((search member_in, search rules), (search rules, more_asks _ c.args.types.now.words.now _ _ c.loop-k.i _ _ _ c.loop-k-test.true c.member_type-m.ensures c.at-member.ensures.0 c.at-member.ensures.1 _ _ c.loop-k.invariant.room)))
+populate-next-requires t c = (search member_falls, ((search member_in, search rules), (search rules, more_asks _ c.args.types.now.table.words.now _ _ c.loop-k.i _ _ _ c.loop-k-test.true c.member_type-m.ensures c.at-member.ensures.0 c.at-member.ensures.1 _ _ c.loop-k.invariant.room)))
 
 pub loop-k-preserved : goal.loop-k-preserved
 loop-k-preserved t c =

@@ -11,9 +11,9 @@ invariant-loop-k l = record {
   near : l.i + 3 * (l._k-end - l._k) < 2 ^ 60;
   out_len : length l.out ≡ length l.initial.out;
   written_len : length l.written ≡ 256;
-  below : members_below l.n (members_at (l._k-end - l._k) (drop l.i l.types.words.now)) ≡ true;
-  room : l.next + length (members_words (earlier_of l.types.words.now l.types.count) (l._k-end - l._k) (drop l.i l.types.words.now)) ≤ room l.out;
-  given : put l.initial.out l.to (members_words (earlier_of l.types.words.now l.types.count) l._k-end (drop (l.start + 1) l.types.words.now))
-      ≡ put l.out l.next (members_words (earlier_of l.types.words.now l.types.count) (l._k-end - l._k) (drop l.i l.types.words.now));
-  stands : Written (earlier_of l.types.words.now l.types.count) l.written l.out l.next;
+  below : members_below l.n (members_at (l._k-end - l._k) (drop l.i l.types.table.words.now)) ≡ true;
+  room : l.next + length (members_words (earlier_of l.types.table.words.now l.types.count) (l._k-end - l._k) (drop l.i l.types.table.words.now)) ≤ room l.out;
+  given : put l.initial.out l.to (members_words (earlier_of l.types.table.words.now l.types.count) l._k-end (drop (l.start + 1) l.types.table.words.now))
+      ≡ put l.out l.next (members_words (earlier_of l.types.table.words.now l.types.count) (l._k-end - l._k) (drop l.i l.types.table.words.now));
+  stands : Written (earlier_of l.types.table.words.now l.types.count) l.written l.out l.next;
 }

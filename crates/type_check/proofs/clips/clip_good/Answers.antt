@@ -1,5 +1,5 @@
-use Rattle.type_check.proofs.ClipWays.{element_counted}
+use Rattle.type_check.proofs.ClipWays.{element_read}
 use Rattle.type_check.proofs.clips.clip_good.Goals as goal
 
 pub start-requires : goal.start-requires
-start-requires c = search element_counted
+start-requires c = search (element_read, c.requires.element)
