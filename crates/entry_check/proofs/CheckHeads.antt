@@ -189,10 +189,10 @@ heads_ended ws hs h i goal inv k = sym (inv ∙ rw (drop_of_length-le hs k))
 others_all : (hs : List ℕ) (i : ℕ) → take (length hs - i) (drop i hs) ≡ drop i hs
 others_all hs i = take_all (length hs - i) (drop i hs) (omega (arith, length-drop i hs))
 
-module _ (ws hs : List ℕ) (i : ℕ) (b goal : Bool) (inv : goal ≡ distinct_heads ws (drop i hs)) (k : i < length hs)
-    (e : b ≡ has_head ws (get_or hs i 0) (take (length hs - (i + 1)) (drop (i + 1) hs))) where
+module _ (ws hs : List ℕ) (i next : ℕ) (b goal : Bool) (inv : goal ≡ distinct_heads ws (drop i hs)) (k : i < length hs) (n : next ≡ i + 1)
+    (e : b ≡ has_head ws (get_or hs i 0) (take (length hs - next) (drop next hs))) where
   told : b ≡ has_head ws (get_or hs i 0) (drop (i + 1) hs)
-  told = rw (← others_all hs (i + 1)) e
+  told = rw (← n, ← others_all hs next) e
 
   pub head_twice : b ≡ true → false ≡ goal
   unfolding distinct_heads

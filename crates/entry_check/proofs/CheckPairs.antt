@@ -1,9 +1,10 @@
 -- Laws of the table of listed resources, and of pairs told by it.
-use Rattle.std.proofs.Common.{◌≡◌, ℕ, zero, suc, ◌+◌, ◌-◌, ◌%◌, ◌^◌, ◌<◌, ◌≤◌, Bool, true, false, ◌&&◌, eqb, ltb, List, [], ◌∷◌, ◌++◌, length, get_or, take, drop, set, replicate, sym, refl, ap, ◌∙◌, subst, add-one, arith, length-set, get_or-drop, get_or-set_other, take-suc, take_all, get_or-set_same, get_or-append-add, le-ltb, lt-ltb, eq-eqb}
+use Rattle.std.proofs.Common.{◌≡◌, ℕ, zero, suc, ◌+◌, ◌-◌, ◌<◌, ◌≤◌, Bool, true, false, ◌&&◌, eqb, Some, None, List, [], ◌∷◌, ◌++◌, length, get_or, take, drop, set, replicate, sym, refl, ap, ◌∙◌, subst, add-one, arith, length-set, get_or-drop, get_or-set_other, take-suc, take_all, get_or-set_same, get_or-append-add}
+use Rattle.std.specs.Bool.{then_some}
 use mathlib.Core.Path.{fun_ext}
 use lib.ListN.{get_or-eq_default, get_or-append}
 use Rattle.word.specs.Choice.{pick}
-use Rattle.word.specs.Words.{kind_of, content_of, bits, of_kind}
+use Rattle.word.specs.Words.{content_of, bits}
 use Rattle.word.specs.Parse.{one, several, Rest, nowhere, from, behind}
 use Rattle.word.specs.Lists.{among}
 use Rattle.interface.specs.Format.{of_word, index_well_formed, contents, is_texture, is_sampler, of_type, pair_well_formed}
@@ -31,20 +32,24 @@ pub marks_begin : (roles : List Role) (words : List ℕ) (table : List Role) →
 unfolding roles_of contents
 marks_begin roles words table = refl
 
--- a word less its kind, as an index
-module _ (count w v : ℕ) (e : (v + of_kind 5 0) % 2 ^ 64 ≡ w) (c : count ≤ 128) where
-  pub index_past : v < 2 ^ 64 → count ≤ v → index_well_formed count w ≡ false
-  index_past h k = decided (kind_of w) 5 (λ t. t && ltb (content_of w) count ≡ false) (λ x. le-ltb (content_of w) count (omega arith)) (λ n. refl)
+-- what is there where a test holds, as the index of a word that holds one
+pub not_held : (t : Bool) (i : ℕ) → None ≡ then_some t i → t ≡ false
+not_held true i e = cc
+not_held false i e = refl
 
-  module _ (h : v < count) where
-    pub index_told : index_well_formed count w ≡ true
-    index_told = rw (eq-eqb (kind_of w) 5 (omega arith), lt-ltb (content_of w) count (omega arith))
+pub held : (t : Bool) (i v : ℕ) → Some v ≡ then_some t i → t ≡ true
+held true i v e = refl
+held false i v e = cc
 
-    pub marks_go : (words : List ℕ) (roles table start : List Role) (i : ℕ) → table ≡ roles_of roles (contents (take i words)) start → i < length words
-        → w ≡ get_or words i 0 → set table v (get_or roles v Other) ≡ roles_of roles (contents (take (i + 1) words)) start
-    marks_go words roles table start i m k g =
-        let z : content_of w ≡ v = omega arith in
-        sym (rw (add-one i, take-suc words i 0 k, ← g, contents_append, marked_append, z, ← m))
+held_is : (t : Bool) (i v : ℕ) → Some v ≡ then_some t i → i ≡ v
+held_is true i v e = cc
+held_is false i v e = cc
+
+pub marks_go : (count w v : ℕ) (words : List ℕ) (roles table start : List Role) (i : ℕ) → Some v ≡ then_some (index_well_formed count w) (content_of w)
+    → table ≡ roles_of roles (contents (take i words)) start → i < length words
+    → w ≡ get_or words i 0 → set table v (get_or roles v Other) ≡ roles_of roles (contents (take (i + 1) words)) start
+marks_go count w v words roles table start i e m k g =
+    sym (rw (add-one i, take-suc words i 0 k, ← g, contents_append, marked_append, held_is (index_well_formed count w) (content_of w) v e, ← m))
 
 pub marks_end : (ws words : List ℕ) (roles table start : List Role) (at n i : ℕ) → table ≡ roles_of roles (contents (take i words)) start → length words ≤ i
     → Part ws words at (at + n) → table ≡ roles_of roles (contents (take n (drop at ws))) start

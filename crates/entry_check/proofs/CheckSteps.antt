@@ -23,7 +23,7 @@ words_lack test ws start n l h = words_past test n (drop start ws) (omega (arith
 abbrev pub Part : List ℕ → List ℕ → ℕ → ℕ → Type 0
 Part ws words start end = (start ≤ end) × (end ≤ length ws) × (words ≡ slice_range ws start end) × (length words + start ≡ end)
 
-pub words_all : (test : ℕ → Bool) (ws words : List ℕ) (start n : ℕ) (b : Bool) (r : Option ℕ) → b ≡ list_all test words
+words_all : (test : ℕ → Bool) (ws words : List ℕ) (start n : ℕ) (b : Bool) (r : Option ℕ) → b ≡ list_all test words
     → Part ws words start (start + n) → r ≡ then_some b (start + n) → rest_of ws r ≡ behind (several n (one test) (drop start ws))
 words_all test ws words start n b r e (o, h, f, l) g =
     let m : start + n - start ≡ n = omega arith in
@@ -35,7 +35,7 @@ words_all test ws words start n b r e (o, h, f, l) g =
     either false = refl
 
 -- a walk over them
-pub all_append : (test : ℕ → Bool) (xs : List ℕ) (i : ℕ) → i < length xs → list_all test (take (suc i) xs) ≡ (list_all test (take i xs) && test (get_or xs i 0))
+all_append : (test : ℕ → Bool) (xs : List ℕ) (i : ℕ) → i < length xs → list_all test (take (suc i) xs) ≡ (list_all test (take i xs) && test (get_or xs i 0))
 all_append test [] i h = absurd (omega arith)
 all_append test (x ∷ xs) zero h = last (test x)
   where

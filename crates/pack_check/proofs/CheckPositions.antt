@@ -3,7 +3,7 @@ use Prim.Native.Nat.{ℕ, zero, suc, ◌+◌, ◌-◌, ◌<◌, ◌≤◌}
 use native.Mathlib.Omega.{arith}
 use mathlib.Core.Path.{◌≡◌, refl, sym, ap, ◌∙◌}
 use mathlib.Core.Bool.{Bool, true, false}
-use mathlib.Core.List.{List, [], ◌∷◌, ◌++◌}
+use mathlib.Core.List.{List, [], ◌∷◌, ◌++◌, append-nil}
 use borrow.Author.Tests.{eqb-true, eqb-false}
 use lib.Dec.{eqb}
 use lib.ListN.{length, take, drop, set, length-append, length-drop, take-append-drop}
@@ -14,6 +14,7 @@ use Rattle.word.specs.Parse.{Parsed, several, from, behind}
 use Rattle.word.proofs.Rests.{got_from}
 use Rattle.word.proofs.ParseReads.{Stands}
 use Rattle.bindings.specs.Format.{read_resource, resource_at, is_buffer_word}
+use Rattle.bindings.specs.declared.types.Resource.{Resource}
 use Rattle.interface.specs.Format.{read_entry_point, damaged, decode, decoded_number, body}
 use Rattle.interface.specs.Inner.Reads.{resources_at}
 use Rattle.entry_check.specs.Inner.Walks.{pack_resources}
@@ -31,12 +32,12 @@ pub stops_none : {A : Type 0} (read : List ℕ → Parsed A) (ws table : List �
 stops_none read ws table start = record { each = λ k h. absurd (omega arith) }
 
 module _ {A : Type 0} (read : List ℕ → Parsed A) (ws table : List ℕ) (start i n room at : ℕ) (s : Stops read ws start i table) (h : i < n) (few : n ≤ room)
-    (l : room ≤ length table) (w : at ≤ length ws) (r : from (drop at ws) ≡ behind (several i read (drop start ws))) where
+    (l : room ≤ length table) (p : 1 ≤ at) (w : at ≤ length ws) (r : from (drop at ws) ≡ behind (several i read (drop start ws))) where
   pub stops_more : Stops read ws start (i + 1) (set table i at)
   stops_more = record { each = λ k j. by k j (eqb k i) refl }
     where
       by : (k : ℕ) → k < i + 1 → (t : Bool) → eqb k i ≡ t → Stop (several k read (drop start ws)) ws (word_at (set table i at) k)
-      by k j true e = rw (eqb-true k i e, get_or-set_same table i at 0 (omega arith)) (record { within = w; rest = r })
+      by k j true e = rw (eqb-true k i e, get_or-set_same table i at 0 (omega arith)) (record { some = p; within = w; rest = r })
       by k j false e =
           let d : k ≡ i → ⊥ = eqb-false k i e in
           rw (get_or-set_other table i k at 0 d) (s.each k (omega arith))
@@ -55,16 +56,29 @@ module _ (P t ws : List ℕ) (e : P ≡ ws ++ t) where
         let y : length P ≡ length ws + length t = ap length e ∙ length-append ws t in
         omega (arith, length-drop end P, length-append (drop r ws) t, length-drop r ws, s.within)
 
-    stop_at_lem : (at r : ℕ) → at ≤ length ws → Stop (read (drop at ws)) ws r → r ≡ after at
-    stop_at_lem at r w s =
-        got_from (read (drop at ws)) (drop r ws) (λ p. read (drop at ws) ≡ p → r ≡ after at) s.rest
-        (λ a g. same_end r (after at) s.within (h.reads at (drop at ws) (stands_at at w) a (drop r ws) g).1) refl
+    stop_at_lem : (at r : ℕ) → at ≤ length ws → r ≤ length ws → from (drop r ws) ≡ behind (read (drop at ws)) → r ≡ after at
+    stop_at_lem at r w v s =
+        got_from (read (drop at ws)) (drop r ws) (λ p. read (drop at ws) ≡ p → r ≡ after at) s
+        (λ a g. same_end r (after at) v (h.reads at (drop at ws) (stands_at at w) a (drop r ws) g).1) refl
 
   several_stop : {A : Type 0} (read : List ℕ → Parsed A) (record_at : ℕ → A) (after : ℕ → ℕ) → ReadsAt P t read record_at after
-      → (n at r : ℕ) → at ≤ length ws → Stop (several n read (drop at ws)) ws r → r ≡ end_from after n at
-  several_stop read record_at after h n at r w s =
+      → (n at r : ℕ) → at ≤ length ws → r ≤ length ws → from (drop r ws) ≡ behind (several n read (drop at ws)) → r ≡ end_from after n at
+  several_stop read record_at after h n at r w v s =
       stop_at_lem (several n read) (records_from record_at after n) (end_from after n)
-      (record { reads = λ at ws s all rest. several_records P t read record_at after h n at ws s all rest }) at r w s
+      (record { reads = λ at ws s all rest. several_records P t read record_at after h n at ws s all rest }) at r w v s
+
+-- no reader stops before it began, so that none stops at the first word but where it begins there
+module _ (ws : List ℕ) (n start at : ℕ) (b : 1 ≤ start) (w : start ≤ length ws) (v : at ≤ length ws) where
+  some_stop : {A : Type 0} (read : List ℕ → Parsed A) (record_at : ℕ → A) (after : ℕ → ℕ) → ReadsAt ws [] read record_at after → ((at : ℕ) → at ≤ after at)
+      → from (drop at ws) ≡ behind (several n read (drop start ws)) → 1 ≤ at
+  some_stop read record_at after h rises r =
+      omega (arith, several_stop ws [] ws (sym (append-nil ws)) read record_at after h n start at w v r, past after rises n start)
+
+  pub resources_some : from (drop at ws) ≡ behind (several n read_resource (drop start ws)) → 1 ≤ at
+  resources_some r = some_stop read_resource (resource_at ws) (resource_end ws) (resource_stands ws []) (λ at. omega arith) r
+
+  pub entries_some : (rs : List Resource) → from (drop at ws) ≡ behind (several n (read_entry_point rs) (drop start ws)) → 1 ≤ at
+  entries_some rs r = some_stop (read_entry_point rs) (entry_point_at ws) (entry_end ws) (entry_stands ws [] rs) (head_past ws) r
 
 -- ---- the resources at positions
 
@@ -104,7 +118,7 @@ module _ (ws table : List ℕ) (b : Bool) (e : b ≡ damaged ws) (t : b ≡ fals
   totals_kept = get_or-take (length ws - 1) ws 1 0 (omega (arith, low ws b e t))
 
   stop_resources : (n at : ℕ) → Stop (several n read_resource (drop 15 (body ws))) (body ws) at → at ≡ end_from (resource_end ws) n 15
-  stop_resources n at s = several_stop ws closing (body ws) split read_resource (resource_at ws) (resource_end ws) (resource_stands ws closing) n 15 at head_in s
+  stop_resources n at s = several_stop ws closing (body ws) split read_resource (resource_at ws) (resource_end ws) (resource_stands ws closing) n 15 at head_in s.within s.rest
 
   module _ (m : Stops read_resource (body ws) 15 (resource_count (body ws)) table) where
     offset_at : (k : ℕ) → k < resource_count ws → word_at table k ≡ end_from (resource_end ws) k 15
@@ -139,8 +153,9 @@ module _ (ws table : List ℕ) (b : Bool) (e : b ≡ damaged ws) (t : b ≡ fals
     head_at_lem : (k : ℕ) → k < entry_count ws → word_at table k ≡ end_from (entry_end ws) k stops_at.start
     head_at_lem k j =
         let rs = pack_resources (resource_count ws) (body ws) in
+        let s = stops_at.stops.each k j in
         several_stop ws closing (body ws) split (read_entry_point rs) (entry_point_at ws) (entry_end ws) (entry_stands ws closing rs) k stops_at.start (word_at table k)
-        stops_at.begin.within (stops_at.stops.each k j)
+        stops_at.begin.within s.within s.rest
 
     pub heads_found : Heads ws table
     heads_found = record { entries = λ z k j. rw (← start_at) (head_at_lem k j) }

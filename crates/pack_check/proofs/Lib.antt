@@ -1,5 +1,4 @@
 pub mod CheckEntries
-pub mod CheckLimits
 pub mod CheckPack
 pub mod CheckPositions
 pub mod CheckRecords

@@ -53,7 +53,7 @@ fn resources_next(
     roles: &mut [Role; 128],
     offsets: &mut [u16],
 ) -> Option<usize>
-    requires in_bounds { (from ≤ length body.now) × (length body.now ≤ 4096) × (n ≤ 128) }
+    requires in_bounds { (1 ≤ from) × (from ≤ length body.now) × (length body.now ≤ 4096) × (n ≤ 128) }
     requires room { (length roles.old ≡ 128) × (128 ≤ length offsets.old) }
     ensures rest { rest_of body.now result ≡ behind (several n read_resource (drop from body.now)) }
     ensures end { IfSome result (λ next. next ≤ length body.now) }
@@ -73,7 +73,7 @@ fn resources_next(
 
 // The position behind so many entry points. The list gets the position of each.
 fn entry_points_next(pack: &Pack, from: usize, n: usize, heads: &mut [u16]) -> Option<usize>
-    requires in_bounds { (from ≤ length pack.now.body.now) × (length pack.now.body.now ≤ 4096) × (n ≤ 16) }
+    requires in_bounds { (1 ≤ from) × (from ≤ length pack.now.body.now) × (length pack.now.body.now ≤ 4096) × (n ≤ 16) }
     requires room { 16 ≤ length heads.old }
     ensures rest { rest_of pack.now.body.now result
         ≡ behind (several n (read_entry_point (pack_resources pack.now.count pack.now.body.now)) (drop from pack.now.body.now)) }
@@ -95,7 +95,7 @@ fn entry_points_next(pack: &Pack, from: usize, n: usize, heads: &mut [u16]) -> O
 
 // The position behind entry points whose stages and names differ. The table gets the position of each.
 fn entries_next(pack: &Pack, at: usize, n: usize, heads: &mut [u16]) -> Option<usize>
-    requires in_bounds { (at ≤ length pack.now.body.now) × (length pack.now.body.now ≤ 4096) × (n ≤ 16) }
+    requires in_bounds { (1 ≤ at) × (at ≤ length pack.now.body.now) × (length pack.now.body.now ≤ 4096) × (n ≤ 16) }
     requires room { 16 ≤ length heads.old }
     ensures rest { rest_of pack.now.body.now result
         ≡ entries_behind (pack_resources pack.now.count pack.now.body.now) n (drop at pack.now.body.now) }
@@ -146,17 +146,19 @@ fn records_next(body: &[u32], totals: u32, offsets: &mut [u16], heads: &mut [u16
     entries_next(&pack, entries, (totals % 0x1_0000) as usize, heads)
 }
 
-// The position behind the limits. All are tested: a loop with one way out takes several at a time.
+// The position behind the limits.
 fn limits_next(body: &[u32]) -> Option<usize>
     ensures rest { rest_of body.now result ≡ behind (several 13 (one (of_word 3)) (drop 2 body.now)) }
     ensures end { IfSome result (λ next. (next ≡ 15) × (next ≤ length body.now)) }
 {
     let limits = body.get(2..15)?;
-    let mut good = true;
+    // not `all`: an iterator over a slice hands on pairs with a pointer, which tools/board/build refuses
     for w in limits {
-        good = good & (word::kind(*w) == 3);
+        if word::kind(*w) != 3 {
+            return None;
+        }
     }
-    good.then_some(15)
+    Some(15)
 }
 
 // The position behind a pack, if it is well formed. The tables get the position of each record.

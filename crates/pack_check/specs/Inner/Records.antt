@@ -39,6 +39,7 @@ records_behind totals ws = thence (several (bits 26 16 totals) read_resource ws)
 
 -- a position where a reader stops
 pub record Stop {A : Type 0} (p : Parsed A) (ws : List ℕ) (at : ℕ) : Type 0 where
+  pub some : 1 ≤ at
   pub within : at ≤ length ws
   pub rest : from (drop at ws) ≡ behind p
 

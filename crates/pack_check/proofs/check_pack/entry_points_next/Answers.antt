@@ -2,7 +2,7 @@ use borrow.Author.Rules.{rules}
 use Rattle.word.proofs.Rests.{none_read, one_read, one_unread}
 use Rattle.entry_check.proofs.CheckSteps.{none_behind}
 use Rattle.pack_check.proofs.CheckEntries.{heads_begin, heads_go}
-use Rattle.pack_check.proofs.CheckPositions.{stops_none, stops_more}
+use Rattle.pack_check.proofs.CheckPositions.{stops_none, stops_more, entries_some}
 use Rattle.pack_check.proofs.CheckTables.{positions_begin, positions_more, positions_stop, positions_ended}
 use Rattle.pack_check.proofs.check_pack.entry_points_next.Goals as goal
 
@@ -21,7 +21,7 @@ loop-i-preserved c = (
   search rules,
   search (one_read, c.in_ok-next.ensures.rest),
   search (heads_go, c.in_ok-next.ensures.rest),
-  search stops_more,
+  search (stops_more, entries_some),
   search (positions_more, c.in_ok-next.ensures.rest, c.in_ok-next.ensures.end),
 )
 

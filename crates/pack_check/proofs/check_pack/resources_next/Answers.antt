@@ -2,7 +2,7 @@ use borrow.Author.Rules.{rules}
 use Rattle.word.proofs.Rests.{none_read, one_read, one_unread}
 use Rattle.entry_check.proofs.CheckSteps.{none_behind}
 use Rattle.pack_check.proofs.CheckRecords.{roles_begin, roles_go}
-use Rattle.pack_check.proofs.CheckPositions.{stops_none, stops_more}
+use Rattle.pack_check.proofs.CheckPositions.{stops_none, stops_more, resources_some}
 use Rattle.pack_check.proofs.CheckTables.{positions_begin, positions_more, positions_stop, positions_ended}
 use Rattle.pack_check.proofs.check_pack.resources_next.Goals as goal
 
@@ -21,7 +21,7 @@ loop-i-preserved c = (
   search rules,
   search (one_read, c.in_ok-next.ensures.rest),
   search (roles_go, c.in_ok-next.ensures.rest),
-  search stops_more,
+  search (stops_more, resources_some),
   search (positions_more, c.in_ok-next.ensures.rest, c.in_ok-next.ensures.end),
 )
 

@@ -1,7 +1,7 @@
 use Rattle.std.proofs.Common.{rules}
 use Rattle.interface.specs.Format.{index_well_formed}
 use Rattle.entry_check.proofs.CheckSteps.{none_behind, words_lack, all_go, all_stop, all_ended}
-use Rattle.entry_check.proofs.CheckPairs.{marks_begin, index_past, index_told, marks_go, marks_end}
+use Rattle.entry_check.proofs.CheckPairs.{marks_begin, not_held, held, marks_go, marks_end}
 use Rattle.entry_check.proofs.check_entry.Pack.indexes_next.Goals as goal
 
 pub returns-in_err-words-clause-rest : goal.returns-in_err-words-clause-rest
@@ -11,11 +11,12 @@ returns-in_err-words-clause-rest c =
 pub loop-w-init : goal.loop-w-init
 loop-w-init c = (search rules, search marks_begin)
 
-pub returns-then-index-self-clause-rest : goal.returns-then-index-self-clause-rest
-returns-then-index-self-clause-rest c = search (all_stop (index_well_formed c.args.self.now.count), c.in_ok-words.ensures.lookup.0, index_past)
+pub returns-in_err-index-clause-rest : goal.returns-in_err-index-clause-rest
+returns-in_err-index-clause-rest c =
+    search (none_behind, all_stop (index_well_formed c.args.self.now.count), c.in_ok-words.ensures.lookup.0, not_held, c.in_err-index.ensures)
 
 pub loop-w-preserved : goal.loop-w-preserved
-loop-w-preserved c = (search (all_go, index_told), search marks_go)
+loop-w-preserved c = (search (all_go, held, c.in_ok-index.ensures), search (marks_go, c.in_ok-index.ensures))
 
 pub returns-clause-rest : goal.returns-clause-rest
 returns-clause-rest c = search (all_ended, c.in_ok-words.ensures.lookup.0)
