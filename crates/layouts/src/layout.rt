@@ -46,8 +46,8 @@ fn entries_good(entries: &[u32], n: usize, groups: u32) -> bool
     requires { (n < 0x1_0000) × (entry_width * n ≤ length entries.now) }
     ensures { result ≡ each entry_width (entry_good groups) n entries.now }
 {
-    for i in 0..n {
-        if !entry_good(&entries[ENTRY_WIDTH * i..], groups) {
+    for i in 0..n as u32 {
+        if !entry_good(&entries[ENTRY_WIDTH * i as usize..], groups) {
             return false;
         }
     }

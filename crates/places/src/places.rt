@@ -15,9 +15,10 @@ pub fn find_word<const WIDTH: usize>(records: &[u32], n: usize, place: u32) -> O
     ensures position { result ≡ place_from (place_of place) (places WIDTH n records.now) 0 }
     ensures below { found_below n result ≡ true }
 {
-    for i in 0..n {
-        if records[WIDTH * i] == place {
-            return Some(i);
+    for i in 0..n as u32 {
+        let index = i as usize;
+        if records[WIDTH * index] == place {
+            return Some(index);
         }
     }
     None
@@ -50,8 +51,8 @@ fn has_place<const WIDTH: usize>(records: &[u32], n: usize, content: u32) -> boo
     requires content_of_word { content < 2 ^ 27 }
     ensures { result ≡ place_in (place_of content) (places WIDTH n records.now) }
 {
-    for i in 0..n {
-        if records[WIDTH * i] % 0x800_0000 == content {
+    for i in 0..n as u32 {
+        if records[WIDTH * i as usize] % 0x800_0000 == content {
             return true;
         }
     }
@@ -90,9 +91,9 @@ fn distinct_marked<const WIDTH: usize>(records: &[u32], n: usize) -> bool
     ensures { result ≡ distinct_places (places WIDTH n records.now) }
 {
     let mut marks: [u8; 1024] = [0; 1024];
-    for i in (0..n).rev() {
-        let content = records[WIDTH * i] % 0x800_0000;
-        let next = i + 1;
+    for i in (0..n as u32).rev() {
+        let content = records[WIDTH * i as usize] % 0x800_0000;
+        let next = i as usize + 1;
         if has_marked::<WIDTH>(&records[WIDTH * next..], n - next, content, &marks) {
             return false;
         }
@@ -115,8 +116,8 @@ fn bits_differ<const WIDTH: usize>(records: &[u32], n: usize) -> bool
     ensures { result ≡ true → distinct_places (places WIDTH n records.now) ≡ true }
 {
     let mut mask: u64 = 0;
-    for i in (0..n).rev() {
-        let bit = bit_of(records[WIDTH * i] % 0x800_0000);
+    for i in (0..n as u32).rev() {
+        let bit = bit_of(records[WIDTH * i as usize] % 0x800_0000);
         if (mask >> bit) % 2 == 1 {
             return false;
         }

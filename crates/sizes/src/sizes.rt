@@ -47,8 +47,8 @@ fn sizes_good(records: &[u32], n: usize) -> bool
     requires { (n < 0x1_0000) × (size_record_width * n ≤ length records.now) }
     ensures { result ≡ each size_record_width size_good n records.now }
 {
-    for i in 0..n {
-        if !size_good(&records[SIZE_RECORD_WIDTH * i..]) {
+    for i in 0..n as u32 {
+        if !size_good(&records[SIZE_RECORD_WIDTH * i as usize..]) {
             return false;
         }
     }

@@ -109,9 +109,10 @@ fn find_within(l: &[u32], n: usize, location: u32) -> Option<usize>
     ensures within { found_below (length l.now) result ≡ true }
     ensures value { result ≡ location_from location (read_varyings n (drop 2 l.now)) 3 }
 {
-    for i in 0..n {
-        if l[2 + 2 * i] % 0x800_0000 == location {
-            return Some(3 + 2 * i);
+    for i in 0..n as u32 {
+        let index = i as usize;
+        if l[2 + 2 * index] % 0x800_0000 == location {
+            return Some(3 + 2 * index);
         }
     }
     None
