@@ -8,6 +8,7 @@ A function takes its frame and the most that one of the functions takes that it 
 caller pushes, since only four words of arguments stand in registers. Functions that call themselves, also by way of others, are
 told from the module; each must stand in the file RECURSION with the number of times that it is at most on the stack at once. A
 function that no object has ends the run. There are no calls by pointer: retarget.py lets none in."""
+import re
 import struct
 import sys
 
@@ -16,6 +17,7 @@ import module
 
 CALLS = (10, 30)                                # R_ARM_THM_CALL, R_ARM_THM_JUMP24
 SYMBOLS, RELOCATIONS, FUNCTION = 2, 9, 2        # sorts of sections, and of a symbol
+DEPTH = re.compile(r'(?P<name>.+?)\s+(?P<number>\d+)(?:\s+#.*)?')
 
 
 def stop(text):
@@ -87,9 +89,16 @@ def cycles(functions):
 
 
 def depths(path):
-    """How often a function is at most on the stack at once, from lines of a name and a number; # begins a comment."""
-    lines = [line.split('#')[0].split() for line in open(path)]
-    return {name: int(number) for name, number in filter(None, lines)}
+    """How often a function is at most on the stack at once, from lines of a name, a number and, if wanted, a comment; a line that
+    begins with # is a comment. Spaces and # within a name are the name's, as in that of a generic function's instance."""
+    found = {}
+    for line in map(str.strip, open(path)):
+        if line and not line.startswith('#'):
+            match = DEPTH.fullmatch(line)
+            if not match:
+                stop('%s has a line that is no name and number: %s' % (path, line))
+            found[match['name']] = int(match['number'])
+    return found
 
 
 class Stack:

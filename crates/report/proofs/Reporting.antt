@@ -3,8 +3,11 @@ use Prim.Native.Nat.{ℕ, ◌%◌, ◌<◌, ◌≤◌}
 use native.Mathlib.Omega.{arith}
 use mathlib.Core.Path.{◌≡◌}
 use mathlib.Core.List.{List, ◌++◌}
-use borrow.Author.Tests.{eq-eqb, ne_eqb, lt-ltb, le-ltb}
+use borrow.Author.Tests.{eqb-false, eq-eqb, ne_eqb, lt-ltb, le-ltb}
 use lib.ListN.{length, take}
+use Rattle.word.specs.Numbers.{number_of}
+use Rattle.word.specs.declared.refusal.Number.{Number}
+use Rattle.word.proofs.Both.{number_nonzero}
 use Rattle.layouts.specs.Format.{used_words}
 use Rattle.interface.specs.Format.{Decoded, Damaged, Malformed, Pack, decode, decoded_number, interface_of}
 use Rattle.report.specs.Text.{words_of, hex_lines}
@@ -12,13 +15,13 @@ use Rattle.report.specs.Report.{Run, ran, run_entries, run_text, start_run, refu
 
 -- ---- a pack's text
 
-pub pack_refused : (ws u : List ℕ) (number : ℕ) → number ≡ decoded_number (decode ws) → (number ≡ 0 → ⊥) → u ≡ refused_pack number → u ≡ decoded_text ws (decode ws)
-pack_refused ws u number e h f = by (decode ws) e
+pub pack_refused : (ws u : List ℕ) (n : Number) → number_of n ≡ decoded_number (decode ws) → u ≡ refused_pack (number_of n) → u ≡ decoded_text ws (decode ws)
+pack_refused ws u n e f = by (decode ws) e
   where
-    by : (d : Decoded) → number ≡ decoded_number d → u ≡ decoded_text ws d
+    by : (d : Decoded) → number_of n ≡ decoded_number d → u ≡ decoded_text ws d
     by Damaged g = rw g at f
     by Malformed g = rw g at f
-    by (Pack i) g = absurd (h g)
+    by (Pack i) g = absurd (eqb-false (number_of n) 0 (number_nonzero n) g)
 
 pub pack_run : (ws t u l io : List ℕ) (s : Run) (number n : ℕ) → number ≡ decoded_number (decode ws) → number ≡ 0 → s ≡ start_run
     → ran l io t ≡ run_entries ws (interface_of (decode ws)).entries s → take n l ≡ used_words l → u ≡ t ++ hex_lines (take n l) → u ≡ decoded_text ws (decode ws)

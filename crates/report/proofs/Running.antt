@@ -1,14 +1,17 @@
 -- Laws of the run over a pack's entry points.
 use Prim.Native.Nat.{ℕ, ◌+◌, ◌-◌, ◌/◌, ◌%◌, ◌<◌, ◌≤◌}
 use native.Mathlib.Omega.{arith}
-use mathlib.Core.Path.{◌≡◌, sym, ap, ◌∙◌}
+use mathlib.Core.Path.{◌≡◌, refl, sym, ap, ◌∙◌}
 use mathlib.Core.List.{List, [], ◌∷◌, ◌++◌}
+use Rattle.std.specs.Prelude.{Bool, true, false, Result, Ok, Err, is_ok}
 use lib.Dec.{eqb}
 use lib.ListN.{length}
 use Rattle.arrayvec.specs.ArrayVec.{ArrayVec}
-use Rattle.word.specs.Choice.{pick}
 use Rattle.word.specs.Words.{word_at}
+use Rattle.word.specs.Refusals.{answer_of}
 use Rattle.word.specs.declared.answer.Answer.{Answer}
+use Rattle.word.specs.declared.refusal.Refusal.{Refusal}
+use Rattle.word.proofs.Both.{number_nonzero}
 use Rattle.sizes.specs.Format.{encode_sizes}
 use Rattle.word.specs.Lists.{flat}
 use Rattle.interface.specs.Meaning.{EntryPoint}
@@ -29,21 +32,30 @@ stage_read ws head w r s e f g = rw (g, f, e)
 
 -- ---- one entry point
 
-module _ (ws L I E l s o called name : List ℕ) (a : Answer) (head stage : ℕ)
-    (e : outcome a l s o ≡ check_stage (call ws called (codes stage 3 1 0 1) (lent L (2684354560 ∷ []) I E)))
+-- a check is accepted where its number is 0
+ok_number : (r : Result Unit Refusal) → eqb (answer_of r).number 0 ≡ is_ok r
+ok_number (Ok v) = refl
+ok_number (Err refusal) = number_nonzero refusal.number
+
+module _ (ws L I E l s o called name : List ℕ) (r : Result Unit Refusal) (head stage : ℕ)
+    (e : outcome (answer_of r) l s o ≡ check_stage (call ws called (codes stage 3 1 0 1) (lent L (2684354560 ∷ []) I E)))
     (f : E ≡ empty_stage) (g : stage ≡ stage_code (entry_point_at ws head).stage) (h : called ≡ name) (i : name ≡ name_at ws head) where
-  is_derived : outcome a l s o ≡ derived ws (entry_point_at ws head) L I
+  is_derived : outcome (answer_of r) l s o ≡ derived ws (entry_point_at ws head) L I
   unfolding derived standing parts_at encode_sizes flat
   is_derived = rw (← f, ← g, ← i, ← h) e
 
-  pub derived_answer_lem : a ≡ (derived ws (entry_point_at ws head) L I).answer
+  pub derived_answer_lem : answer_of r ≡ (derived ws (entry_point_at ws head) L I).answer
   derived_answer_lem = ap (λ (x : Outcome). x.answer) is_derived
 
   pub derived_layout : (kept : List ℕ) → kept ≡ l → kept ≡ (derived ws (entry_point_at ws head) L I).layout
   derived_layout kept e = e ∙ ap (λ (x : Outcome). x.layout) is_derived
 
-  pub derived_fed : (io : List ℕ) → io ≡ pick (eqb a.number 0) o I → io ≡ fed_on (derived ws (entry_point_at ws head) L I) I
-  derived_fed io f = rw (← is_derived) f
+  module _ (accepted : Bool) (v : accepted ≡ is_ok r) where
+    pub accepted_fed : accepted ≡ true → o ≡ fed_on (derived ws (entry_point_at ws head) L I) I
+    accepted_fed t = rw (← is_derived, ok_number r, ← v, t)
+
+    pub refused_fed : accepted ≡ false → I ≡ fed_on (derived ws (entry_point_at ws head) L I) I
+    refused_fed t = rw (← is_derived, ok_number r, ← v, t)
 
 pub entry_run : (t t' : ArrayVec ℕ) (u ws L I l io : List ℕ) (e : EntryPoint) (stage : ℕ) (a : Answer) → stage ≡ stage_code e.stage → a ≡ (derived ws e L I).answer
     → l ≡ (derived ws e L I).layout → io ≡ fed_on (derived ws e L I) I → t' ≡ t → u ≡ t'.items ++ line stage a → ran l io u ≡ run_entry ws e (ran L I t.items)

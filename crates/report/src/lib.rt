@@ -2,17 +2,19 @@
 #![tactic(auto)]
 
 ghost use Rattle.std.specs.Prelude.{◌≡◌};
+ghost use Rattle.word.specs.Numbers.{number_of};
 ghost use Rattle.interface.specs.Format.{decode};
 ghost use Rattle.report.specs.Report.{refused_pack, decoded_text, report};
 
 use crate::run::Run;
 pub use crate::text::Text;
 use crate::text::{push_hex_lines, push_line};
+pub use crate::words::Bytes;
 use crate::words::words_of;
 use layouts::layout::used_words;
 use pack_check::check_pack::check_pack;
 use word::answer::Answer;
-use word::refusal::Refusal;
+use word::refusal::{Number, Refusal};
 
 mod names;
 mod run;
@@ -20,11 +22,11 @@ mod text;
 mod words;
 
 // The line of a refused pack.
-fn refused_text(number: u32) -> Text
-    ensures { result.items ≡ refused_pack number }
+fn refused_text(number: Number) -> Text
+    ensures { result.items ≡ refused_pack (number_of number) }
 {
     let mut text = Text::new();
-    push_line(&mut text, 9, Answer::refused(number));
+    push_line(&mut text, 9, Answer::from(Refusal::plain(number)));
     text
 }
 
@@ -33,7 +35,7 @@ fn pack_text(pack: &[u32]) -> Text
     ensures { result.items ≡ decoded_text pack.now (decode pack.now) }
 {
     if let Err(error) = check_pack(pack) {
-        return refused_text(Refusal::from(error).number.code());
+        return refused_text(Refusal::from(error).number);
     }
     let mut run = Run::new();
     run.entries(pack);
@@ -47,7 +49,7 @@ pub fn report_text(bytes: &[u8]) -> Text
     ensures { result.items ≡ report bytes.now }
 {
     if bytes.len() % 4 != 0 || 16384 < bytes.len() {
-        return refused_text(1);
+        return refused_text(Number::DamagedPack);
     }
     pack_text(words_of(bytes).as_slice())
 }

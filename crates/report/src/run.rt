@@ -1,7 +1,7 @@
 // The entry points of an accepted pack, each derived over the layout that those before it left.
-ghost use Rattle.std.specs.Prelude.{◌≡◌, ◌+◌, ◌≤◌, eqb, length};
+ghost use Rattle.std.specs.Prelude.{◌≡◌, ◌+◌, ◌≤◌, length};
 ghost use Rattle.arrayvec.specs.ArrayVec.{array_vec_len};
-ghost use Rattle.word.specs.Choice.{pick};
+ghost use Rattle.word.specs.Refusals.{answer_of};
 ghost use Rattle.interface.specs.Format.{stage_code, decode, decoded_number, interface_of};
 ghost use Rattle.interface.specs.Inner.Parts.{workgroup_at, entry_point_at};
 ghost use Rattle.report.specs.Report.{ran, start_run, derived, fed_on, run_entry, run_entries, empty_stage};
@@ -13,6 +13,7 @@ use interface::reads::{entry_count, stage_at, stage_code};
 use stage::check::check_stage;
 use stage::types::Codes;
 use word::answer::Answer;
+use word::refusal::Refusal;
 use word::word;
 
 // The layout list and the stage list as the entry points so far left them, and the text so far.
@@ -54,21 +55,10 @@ impl Run {
         }
     }
 
-    // Where a stage was accepted, the list that it wrote takes the place of the one before.
-    fn feed(&mut self, number: u32, out: &[u32; 128])
-        ensures io_after { self.new.io ≡ pick (eqb number 0) out.now self.old.io }
-        ensures layout_kept { self.new.layout ≡ self.old.layout }
-        ensures text_kept { self.new.text ≡ self.old.text }
-    {
-        if number == 0 {
-            self.io = *out;
-        }
-    }
-
-    // Derives the entry point that begins at a position, and feeds the list that it hands on.
-    fn derive(&mut self, pack: &[u32], head: usize, stage: u32) -> Answer
+    // Derives the entry point that begins at a position. Where it is accepted, the list that it wrote takes the place of the one before.
+    fn derive(&mut self, pack: &[u32], head: usize, stage: u32) -> Result<(), Refusal>
         requires { (workgroup_at pack.now head ≤ length pack.now) × (stage ≡ stage_code (entry_point_at pack.now head).stage) }
-        ensures value { result ≡ (derived pack.now (entry_point_at pack.now head) self.old.layout self.old.io).answer }
+        ensures value { answer_of result ≡ (derived pack.now (entry_point_at pack.now head) self.old.layout self.old.io).answer }
         ensures layout_after { self.new.layout ≡ (derived pack.now (entry_point_at pack.now head) self.old.layout self.old.io).layout }
         ensures io_after { self.new.io ≡ fed_on (derived pack.now (entry_point_at pack.now head) self.old.layout self.old.io) self.old.io }
         ensures text_kept { self.new.text ≡ self.old.text }
@@ -92,9 +82,10 @@ impl Run {
             name.as_slice(),
             codes,
         );
-        let a = Answer::from(outcome);
-        self.feed(a.number, &out);
-        a
+        if outcome.is_ok() {
+            self.io = out;
+        }
+        outcome
     }
 
     // Derives the entry point that begins at a position, and writes its line.
@@ -105,8 +96,8 @@ impl Run {
         ensures upper_bound { array_vec_len self.new.text ≤ array_vec_len self.old.text + 55 }
     {
         let stage = stage_of(pack, head);
-        let a = self.derive(pack, head, stage);
-        push_line(&mut self.text, stage, a);
+        let outcome = self.derive(pack, head, stage);
+        push_line(&mut self.text, stage, Answer::from(outcome));
     }
 
     // Every entry point of an accepted pack, in order.

@@ -1,11 +1,20 @@
-use Rattle.report.proofs.Running.{derived_answer_lem, derived_layout, derived_fed}
+use Rattle.report.proofs.Running.{derived_answer_lem, derived_layout, accepted_fed, refused_fed}
 use Rattle.report.proofs.run.Run.derive.Goals as goal
 
-pub returns-clause-value : goal.returns-clause-value
-returns-clause-value c = rw c.from-a.ensures (search derived_answer_lem)
+pub returns-then-is_ok-clause-value : goal.returns-then-is_ok-clause-value
+returns-then-is_ok-clause-value c = search derived_answer_lem
 
-pub returns-clause-layout_after : goal.returns-clause-layout_after
-returns-clause-layout_after c = search derived_layout
+pub returns-then-is_ok-clause-layout_after : goal.returns-then-is_ok-clause-layout_after
+returns-then-is_ok-clause-layout_after c = search derived_layout
 
-pub returns-clause-io_after : goal.returns-clause-io_after
-returns-clause-io_after c = let fed = rw c.from-a.ensures at c.feed.ensures.io_after in search (derived_fed, fed)
+pub returns-then-is_ok-clause-io_after : goal.returns-then-is_ok-clause-io_after
+returns-then-is_ok-clause-io_after c = search (accepted_fed, c.is_ok.ensures.value)
+
+pub returns-else-is_ok-clause-value : goal.returns-else-is_ok-clause-value
+returns-else-is_ok-clause-value c = search derived_answer_lem
+
+pub returns-else-is_ok-clause-layout_after : goal.returns-else-is_ok-clause-layout_after
+returns-else-is_ok-clause-layout_after c = search derived_layout
+
+pub returns-else-is_ok-clause-io_after : goal.returns-else-is_ok-clause-io_after
+returns-else-is_ok-clause-io_after c = search (refused_fed, c.is_ok.ensures.value)
