@@ -1,26 +1,49 @@
 -- The ways on through the functions that hand an answer out.
-use Prim.Native.Nat.{ℕ}
+use Prim.Native.Nat.{ℕ, ◌<◌}
 use mathlib.Core.Path.{◌≡◌, refl, ap}
-use mathlib.Core.List.{List, [], ◌∷◌, ◌++◌}
-use Rattle.std.specs.Prelude.{min}
+use mathlib.Core.List.{List, [], ◌∷◌}
 use native.Mathlib.Omega.{arith}
-use lib.ListN.{length, take, drop}
+use lib.ListN.{length, set, length-set}
 use Rattle.word.specs.declared.answer.Answer.{Answer}
 use Rattle.stage.specs.Meaning.{Outcome, outcome}
 use Rattle.bokwingi.specs.Details.{with_details, Handed}
 
--- ---- the details one after another, as far as there is room
+-- ---- one law for each room: none, one word, two, three or more
 
--- the first words of a list replaced by as many details
-abbrev pub replaced : ℕ → List ℕ → Answer → List ℕ
-replaced i d a = take i (a.first ∷ a.second ∷ a.third ∷ []) ++ drop i d
-
-pub all_replaced : (a : Answer) (d u : List ℕ) (i : ℕ) → i ≡ min (length d) 3 → u ≡ replaced i d a → Handed a a.number d u
+pub room_none : (a : Answer) (d : List ℕ) → length d ≡ 0 → Handed a a.number d d
 unfolding with_details
-all_replaced a [] u i e f = record { result = refl; details = rw e at f }
-all_replaced a (x ∷ []) u i e f = record { result = refl; details = rw e at f }
-all_replaced a (x ∷ y ∷ []) u i e f = record { result = refl; details = rw e at f }
-all_replaced a (x ∷ y ∷ z ∷ d) u i e f = let k : i ≡ 3 = omega arith in record { result = refl; details = rw k at f }
+room_none a [] e = record { result = refl; details = refl }
+room_none a (x ∷ d) e = absurd (omega (arith, e))
+
+pub room_one : (a : Answer) (d : List ℕ) → (length d ≡ 0 → ⊥) → length (set d 0 a.first) ≡ 1 → Handed a a.number d (set d 0 a.first)
+unfolding with_details
+room_one a [] n e = absurd (n refl)
+room_one a (x ∷ []) n e = record { result = refl; details = refl }
+room_one a (x ∷ y ∷ d) n e = absurd (omega (arith, e))
+
+pub room_two : (a : Answer) (d : List ℕ) → (length d ≡ 0 → ⊥) → (length (set d 0 a.first) ≡ 1 → ⊥) → length (set (set d 0 a.first) 1 a.second) ≡ 2
+    → Handed a a.number d (set (set d 0 a.first) 1 a.second)
+unfolding with_details
+room_two a [] n m e = absurd (n refl)
+room_two a (x ∷ []) n m e = absurd (m refl)
+room_two a (x ∷ y ∷ []) n m e = record { result = refl; details = refl }
+room_two a (x ∷ y ∷ z ∷ d) n m e = absurd (omega (arith, e))
+
+pub room_three : (a : Answer) (d : List ℕ) → (length d ≡ 0 → ⊥) → (length (set d 0 a.first) ≡ 1 → ⊥) → (length (set (set d 0 a.first) 1 a.second) ≡ 2 → ⊥)
+    → Handed a a.number d (set (set (set d 0 a.first) 1 a.second) 2 a.third)
+unfolding with_details
+room_three a [] n m k = absurd (n refl)
+room_three a (x ∷ []) n m k = absurd (m refl)
+room_three a (x ∷ y ∷ []) n m k = absurd (k refl)
+room_three a (x ∷ y ∷ z ∷ d) n m k = record { result = refl; details = refl }
+
+-- the room that a further detail asks for
+pub room_past_one : (d : List ℕ) (v : ℕ) → (length d ≡ 0 → ⊥) → (length (set d 0 v) ≡ 1 → ⊥) → 1 < length (set d 0 v)
+room_past_one d v n m = omega (arith, n, m, length-set d 0 v)
+
+pub room_past_two : (d : List ℕ) (v w : ℕ) → (length d ≡ 0 → ⊥) → (length (set d 0 v) ≡ 1 → ⊥) → (length (set (set d 0 v) 1 w) ≡ 2 → ⊥)
+    → 2 < length (set (set d 0 v) 1 w)
+room_past_two d v w n m k = omega (arith, n, m, k, length-set d 0 v, length-set (set d 0 v) 1 w)
 
 -- ---- the answer of a call, and what a stage check came to
 
