@@ -11,6 +11,7 @@ pub use crate::text::Text;
 use crate::text::{push_hex_lines, push_line};
 pub use crate::words::Bytes;
 use crate::words::words_of;
+use interface::reads::AcceptedPack;
 use layouts::layout::used_words;
 use pack_check::check_pack::check_pack;
 use word::answer::Answer;
@@ -38,7 +39,7 @@ fn pack_text(pack: &[u32]) -> Text
         return refused_text(Refusal::from(error).number);
     }
     let mut run = Run::new();
-    run.entries(pack);
+    run.entries(&AcceptedPack { words: pack });
     let n = used_words(&run.layout);
     push_hex_lines(&mut run.text, &run.layout[..n]);
     run.text

@@ -2,14 +2,14 @@
 ghost use Rattle.std.specs.Prelude.{◌≡◌, ◌+◌, ◌≤◌, length};
 ghost use Rattle.arrayvec.specs.ArrayVec.{array_vec_len};
 ghost use Rattle.word.specs.Refusals.{answer_of};
-ghost use Rattle.interface.specs.Format.{stage_code, decode, decoded_number, interface_of};
+ghost use Rattle.interface.specs.Format.{stage_code, decode, interface_of};
 ghost use Rattle.interface.specs.Inner.Parts.{workgroup_at, entry_point_at};
 ghost use Rattle.report.specs.Report.{ran, start_run, derived, fed_on, run_entry, run_entries, empty_stage};
 
 use crate::names::name_at;
 use crate::text::{Text, push_line};
-use interface::parts::{entries_at, entry_end};
-use interface::reads::{entry_count, stage_at, stage_code};
+use interface::parts::entry_end;
+use interface::reads::{AcceptedPack, stage_at, stage_code};
 use stage::check::check_stage;
 use stage::types::Codes;
 use word::answer::Answer;
@@ -101,16 +101,17 @@ impl Run {
     }
 
     // Every entry point of an accepted pack, in order.
-    pub(crate) fn entries(&mut self, pack: &[u32])
-        requires { (decoded_number (decode pack.now) ≡ 0) × (array_vec_len self.old.text + 880 ≤ 12288) }
+    pub(crate) fn entries(&mut self, pack: &AcceptedPack<'_>)
+        requires { array_vec_len self.old.text + 880 ≤ 12288 }
         ensures run { ran self.new.layout self.new.io self.new.text.items
-            ≡ run_entries pack.now (interface_of (decode pack.now)).entries (ran self.old.layout self.old.io self.old.text.items) }
+            ≡ run_entries pack.now.words.now (interface_of (decode pack.now.words.now)).entries (ran self.old.layout self.old.io self.old.text.items) }
         ensures upper_bound { array_vec_len self.new.text ≤ array_vec_len self.old.text + 880 }
     {
-        let mut head = entries_at(pack);
-        for _ in 0..entry_count(pack) {
-            self.entry(pack, head);
-            head = entry_end(pack, head);
+        let words = pack.words;
+        let mut head = pack.entries_at();
+        for _ in 0..pack.entry_count() {
+            self.entry(words, head);
+            head = entry_end(words, head);
         }
     }
 }
