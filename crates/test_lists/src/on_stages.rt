@@ -50,7 +50,11 @@ pub(crate) fn look(rt: &impl Print, l: &[u32], location: u32, near: u32) -> io::
     }
     show_primitive(rt, primitive_index(l))?;
     show_payload(rt, payload(l))?;
-    show_found(rt, l, StageList { words: l }.find_location(location, near as usize))
+    show_found(
+        rt,
+        l,
+        StageList { words: l }.find_location(location, near as usize),
+    )
 }
 
 fn primitive_of(code: u32) -> Option<bool> {

@@ -16,7 +16,7 @@ returns c =
     attachments_good c.args.entry.now.pack.now c.args.entry.now.parts c.args.entry.now.outputs (search rules) _ _ _
     (dual_given c.args.entry.now.pack.now c.args.entry.now.parts _ c.else-request.either)
     (elim c.else-entry.branch [
-      else-entry-via-then-entry+else-not-request w ↦ and_right _ _ w.if-not-request.false
+      | else-entry-via-then-entry+else-not-request w ↦ and_right _ _ w.if-not-request.false
       | else-entry-via-else-entry w ↦ and_left _ _ w.if-entry.false
     ])
     refl
