@@ -1,18 +1,19 @@
 // The inputs of an entry point against what the stage before provides.
-ghost use Rattle.std.specs.Prelude.{◌≡◌, [], ◌∷◌, ◌+◌, ◌<◌, ◌≤◌, ◌^◌, length, drop, Some};
+ghost use Rattle.std.specs.Prelude.{◌≡◌, [], ◌∷◌, ◌<◌, ◌^◌, Some};
 ghost use Rattle.word.specs.Choice.{pick};
 ghost use Rattle.word.specs.Refusals.{answer_of, number_or_none};
 ghost use Rattle.word.specs.Words.{word_at, content_of};
 ghost use Rattle.varying.specs.Format.{var_of};
 ghost use Rattle.stage_lists.specs.Meaning.{varying_at};
 ghost use Rattle.stage_lists.specs.Format.{decode_stage};
-ghost use Rattle.interface.specs.Inner.Reads.{varying, varyings};
-ghost use Rattle.interface.specs.Inner.Parts.{varyings_end};
+ghost use Rattle.interface.specs.Inner.Reads.{varying};
+ghost use Rattle.interface.specs.Inner.Listed.{listed};
 ghost use Rattle.input_steps.specs.Inputs.{vertex_input, fragment_input, input_number, met_local, met_built_in, start_walk, input_step, input_steps};
 
 use crate::types::InputWalk;
 use interface::reads::{built_in_of, varying_width};
 use interface::types::{BuiltIn, ShaderStage};
+use interface::varyings::Varyings;
 use stage_lists::stage_io::StageList;
 use varying::{InterfaceVar, location_well_formed, var_of};
 use word::content;
@@ -137,18 +138,17 @@ pub(crate) fn input_step(
 
 // Each input in order, until one is refused, and what the walk has met by then.
 pub fn input_steps(
-    pack: &[u32],
-    from: usize,
-    n: usize,
+    varyings: &Varyings<'_>,
     inputs: &StageList<'_>,
     stage: ShaderStage,
 ) -> (Result<(), Refusal>, InputWalk)
-    requires { (varyings_end pack.now n from < length pack.now) × (length pack.now ≤ 4096) × (n ≤ 63) }
-    ensures answer { answer_of result.0 ≡ (input_steps stage (decode_stage inputs.now.words.now).varyings (varyings n (drop from pack.now)) start_walk).answer }
-    ensures walk { result.1 ≡ (input_steps stage (decode_stage inputs.now.words.now).varyings (varyings n (drop from pack.now)) start_walk).walk }
+    ensures answer { answer_of result.0 ≡ (input_steps stage (decode_stage inputs.now.words.now).varyings (listed varyings.now) start_walk).answer }
+    ensures walk { result.1 ≡ (input_steps stage (decode_stage inputs.now.words.now).varyings (listed varyings.now) start_walk).walk }
 {
+    let pack = varyings.pack;
+    let n = varyings.n;
     let mut walk = InputWalk::START;
-    let mut at = from;
+    let mut at = varyings.from;
     for _i in 0..n {
         let first = pack[at];
         if let Err(refusal) = input_step(stage, inputs, first, pack[at + 1], &mut walk) {

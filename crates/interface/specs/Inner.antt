@@ -1,2 +1,3 @@
 pub mod Parts
 pub mod Reads
+pub mod Listed

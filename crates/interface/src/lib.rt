@@ -4,3 +4,4 @@
 pub mod parts;
 pub mod reads;
 pub mod types;
+pub mod varyings;

@@ -11,7 +11,7 @@ use borrow.Author.Tests.{eq-eqb, ne_eqb}
 use Rattle.word.specs.Choice.{pick}
 use Rattle.word.proofs.Tests.{yes_true, yes_false}
 use Rattle.word.proofs.Lists.{first_passes, rest_passes}
-use Rattle.word.specs.Words.{word_at, kind_of, content_of, bits}
+use Rattle.word.specs.Words.{word_at, kind_of, content_of}
 use Rattle.word.specs.Lists.{every}
 use Rattle.varying.specs.Format.{var_of, located_encodable, payload_of, payload_encodable}
 use Rattle.varying.proofs.Joined.{payload_encodable_lem}
@@ -210,21 +210,17 @@ all_ended ws from n k at p q lent out S begun z f inv =
 pub payload_read_encodable : (w : ℕ) (q : Option ℕ) → q ≡ payload_of w → payload_encodable q ≡ true
 payload_read_encodable w q e = rw e (payload_encodable_lem w)
 
-module _ (ws : List ℕ) (p : EntryParts) (k n : ℕ) (ek : k ≡ word_at ws p.counts) (en : n ≡ bits 5 0 k) where
-  pub outputs_standing : varyings n (drop p.outputs ws) ≡ (standing ws p).outputs
-  unfolding standing
-  outputs_standing = rw (en, ek)
+module _ (ws : List ℕ) (p : EntryParts) (vs : List Varying) (e : vs ≡ (standing ws p).outputs) where
+  pub outputs_encodable : every output_encodable (standing ws p).outputs ≡ true → every output_encodable vs ≡ true
+  outputs_encodable h = rw e h
 
-  pub outputs_encodable : every output_encodable (standing ws p).outputs ≡ true → every output_encodable (varyings n (drop p.outputs ws)) ≡ true
-  outputs_encodable h = rw outputs_standing h
-
-  pub outputs_room : (l : ℕ) → 2 + 2 * local_count (standing ws p).outputs ≤ l → 2 + 2 * local_count (varyings n (drop p.outputs ws)) ≤ l
-  outputs_room l h = rw outputs_standing h
+  pub outputs_room : (l : ℕ) → 2 + 2 * local_count (standing ws p).outputs ≤ l → 2 + 2 * local_count vs ≤ l
+  outputs_room l h = rw e h
 
   pub list_out : (stage : ShaderStage) (walk : InputWalk) (s : Summary) (b : Bool) (i : Option Bool) (w : ℕ) (q : Option ℕ) (out o : List ℕ)
       → Summed ws p s → b ≡ (walk.primitive_index || s.primitive) → i ≡ primitive_out stage b
       → w ≡ word_at ws (p.workgroup + 3) → q ≡ payload_of w
-      → o ≡ encode_stage (out_of i q (locals_of (varyings n (drop p.outputs ws)) []) out)
+      → o ≡ encode_stage (out_of i q (locals_of vs []) out)
       → o ≡ encode_stage (stage_out stage (standing ws p) walk out)
   unfolding stage_out summary_of standing
-  list_out stage walk s b i w q out o g eb ei ew eq eo = rw (← ek, ← en, ← ew, ← eq) (eo ∙ rw (ei, eb, g.outputs, ← ek, ← en))
+  list_out stage walk s b i w q out o g eb ei ew eq eo = rw (← ew, ← eq) (eo ∙ rw (ei, eb, g.outputs, e))

@@ -352,34 +352,34 @@ module _ (ws : List ℕ) (p : EntryParts) (counts n : ℕ) (hc : counts ≡ word
   pub outputs_end_lem : n ≡ bits 5 0 counts → varyings_end ws n p.outputs < length ws
   outputs_end_lem hn = rw (hn, hc) g.outputs_end
 
-module _ (ws : List ℕ) (p : EntryParts) (counts n : ℕ) (a : Answer) (hc : counts ≡ word_at ws p.counts) where
-  pub inputs_stand : (limit locals : ℕ) → n ≡ bits 11 6 counts → a ≡ fragment_slots limit locals (varyings n (drop p.inputs ws))
-      → a ≡ fragment_slots limit locals (standing ws p).inputs
+module _ (ws : List ℕ) (p : EntryParts) (counts n : ℕ) (hc : counts ≡ word_at ws p.counts) where
+  pub inputs_read : n ≡ bits 11 6 counts → varyings n (drop p.inputs ws) ≡ (standing ws p).inputs
   unfolding standing
-  inputs_stand limit locals hn x = rw (← hc, ← hn) x
+  inputs_read hn = rw (hn, hc)
 
-  module _ (hn : n ≡ bits 5 0 counts) where
-    pub vertex_stands : (topology limit : ℕ) → a ≡ vertex_outputs topology limit (varyings n (drop p.outputs ws))
-        → a ≡ vertex_outputs topology limit (standing ws p).outputs
-    unfolding standing
-    vertex_stands topology limit x = rw (← hc, ← hn) x
-
-    pub colours_past : (s : Summary) (most : ℕ) (b : Answer) → Summed ws p s → most < s.reach → a ≡ location_uses 64 most most (varyings n (drop p.outputs ws))
-        → a ≡ both (location_uses 64 most most (standing ws p).outputs) b
-    unfolding standing
-    colours_past s most b g h x = past_reach (standing ws p).outputs s g.outputs 64 most most a b (λ z. absurd (omega (arith, z))) h (rw (← hc, ← hn) x)
-
-pub colours_within : (ws : List ℕ) (p : EntryParts) (s : Summary) (most : ℕ) (a b : Answer) → Summed ws p s → s.reach ≤ most → a ≡ b
-    → a ≡ both (location_uses 64 most most (standing ws p).outputs) b
-colours_within ws p s most a b g h x = within_reach (standing ws p).outputs s g.outputs 64 most most a b h x
-
-module _ (ws : List ℕ) (p : EntryParts) (counts n : ℕ) (s : Summary) (hc : counts ≡ word_at ws p.counts) (hn : n ≡ bits 5 0 counts) where
-  pub summed_read : Summed ws p s → s ≡ summary_of (varyings n (drop p.outputs ws))
+  pub outputs_read : n ≡ bits 5 0 counts → varyings n (drop p.outputs ws) ≡ (standing ws p).outputs
   unfolding standing
-  summed_read g = rw (hn, hc) g.outputs
+  outputs_read hn = rw (hn, hc)
 
-  pub summed_here : s ≡ summary_of (varyings n (drop p.outputs ws)) → s.locals ≤ 63 → s.clip_slots ≤ 63 * 64 → Summed ws p s
-  unfolding standing
-  summed_here e l c = record { outputs = rw (← hc, ← hn) e; locals = l; clip = c }
+-- a list of varyings that is an entry point's
+module _ (vs us : List Varying) (e : vs ≡ us) (a : Answer) where
+  pub slots_as : (limit locals : ℕ) → a ≡ fragment_slots limit locals vs → a ≡ fragment_slots limit locals us
+  slots_as limit locals x = rw (← e) x
 
--- the arms of a `match`
+  pub vertex_as : (topology limit : ℕ) → a ≡ vertex_outputs topology limit vs → a ≡ vertex_outputs topology limit us
+  vertex_as topology limit x = rw (← e) x
+
+module _ (ws : List ℕ) (p : EntryParts) (s : Summary) (g : Summed ws p s) where
+  pub colours_past : (vs : List Varying) (most : ℕ) (a b : Answer) → vs ≡ (standing ws p).outputs → most < s.reach → a ≡ location_uses 64 most most vs
+      → a ≡ both (location_uses 64 most most (standing ws p).outputs) b
+  colours_past vs most a b e h x = past_reach (standing ws p).outputs s g.outputs 64 most most a b (λ z. absurd (omega (arith, z))) h (rw (← e) x)
+
+  pub colours_within : (most : ℕ) (a b : Answer) → s.reach ≤ most → a ≡ b → a ≡ both (location_uses 64 most most (standing ws p).outputs) b
+  colours_within most a b h x = within_reach (standing ws p).outputs s g.outputs 64 most most a b h x
+
+  pub summed_read : (vs : List Varying) → vs ≡ (standing ws p).outputs → s ≡ summary_of vs
+  summed_read vs e = rw e g.outputs
+
+pub summed_here : (ws : List ℕ) (p : EntryParts) (counts n : ℕ) (s : Summary) → counts ≡ word_at ws p.counts → n ≡ bits 5 0 counts
+    → s ≡ summary_of (varyings n (drop p.outputs ws)) → s.locals ≤ 63 → s.clip_slots ≤ 63 * 64 → Summed ws p s
+summed_here ws p counts n s hc hn e l c = record { outputs = rw (← outputs_read ws p counts n hc hn) e; locals = l; clip = c }

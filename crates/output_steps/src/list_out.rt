@@ -3,18 +3,18 @@ ghost use Rattle.std.specs.Prelude.{◌≡◌, true, [], ◌∷◌, ◌+◌, ◌
 ghost use Rattle.word.specs.Lists.{every};
 ghost use Rattle.varying.specs.Format.{payload_encodable};
 ghost use Rattle.stage_lists.specs.Format.{out_well_formed, decode_stage, encode_stage};
-ghost use Rattle.interface.specs.Inner.Reads.{varying, varyings};
+ghost use Rattle.interface.specs.Inner.Reads.{varying};
+ghost use Rattle.interface.specs.Inner.Listed.{listed};
 ghost use Rattle.output_steps.specs.Inner.Stands.{meant};
-ghost use Rattle.interface.specs.Inner.Parts.{varyings_end};
 ghost use Rattle.output_steps.specs.Outputs.{is_local, local_count};
 ghost use Rattle.output_steps.specs.ListOut.{locals_of, primitive_out, stage_out};
 ghost use Rattle.output_steps.specs.Inner.ListOut.{output_encodable, handed};
 
 use crate::types::EntryPoint;
 use input_steps::types::InputWalk;
-use interface::parts::Counts;
 use interface::reads::varying_width;
 use interface::types::ShaderStage;
+use interface::varyings::Varyings;
 use stage_lists::list_out::{begin_out, insert_words};
 use word::kind;
 
@@ -43,28 +43,27 @@ fn hand_on(out: &mut [u32], head: u32, first: u32, second: u32) -> u32
     head
 }
 
-// The outputs from a position on, by rising location, behind a payload and a primitive index.
+// Outputs by rising location, behind a payload and a primitive index.
 pub(crate) fn write_out(
-    pack: &[u32],
-    from: usize,
-    n: usize,
+    outputs: &Varyings<'_>,
     out: &mut [u32],
     primitive: Option<bool>,
     payload: Option<u32>,
 )
-    requires from_in_bounds { (varyings_end pack.now n from < length pack.now) × (length pack.now ≤ 4096) × (n ≤ 63) }
     requires payload_value { payload_encodable payload ≡ true }
-    requires pack_value { every output_encodable (varyings n (drop from pack.now)) ≡ true }
-    requires pack_in_bounds { 2 + 2 * local_count (varyings n (drop from pack.now)) ≤ length out.old }
+    requires encodable { every output_encodable (listed outputs.now) ≡ true }
+    requires room { 2 + 2 * local_count (listed outputs.now) ≤ length out.old }
     ensures { out.new ≡ encode_stage (record {
       primitive = primitive;
       payload = payload;
-      varyings = locals_of (varyings n (drop from pack.now)) [];
-      room = drop (2 + 2 * length (locals_of (varyings n (drop from pack.now)) [])) out.old;
+      varyings = locals_of (listed outputs.now) [];
+      room = drop (2 + 2 * length (locals_of (listed outputs.now) [])) out.old;
     }) }
 {
+    let pack = outputs.pack;
+    let n = outputs.n;
     let mut head = begin_out(out, primitive, payload);
-    let mut at = from;
+    let mut at = outputs.from;
     for _i in 0..n {
         let first = pack[at];
         head = hand_on(out, head, first, pack[at + 1]);
@@ -79,9 +78,7 @@ pub fn list_out(entry: &EntryPoint<'_>, stage: ShaderStage, walk: InputWalk, out
     requires room { 2 + 2 * local_count (meant entry.now).outputs ≤ length out.old }
     ensures { out.new ≡ encode_stage (stage_out stage (meant entry.now) walk out.old) }
 {
-    let parts = entry.parts;
-    let n = Counts::of(entry.pack[parts.counts]).outputs;
-    let primitive = primitive_out(stage, walk.primitive_index || entry.outputs.primitive);
-    let payload = varying::payload_of(entry.pack[parts.workgroup + 3]);
-    write_out(entry.pack, parts.outputs, n, out, primitive, payload);
+    let primitive = primitive_out(stage, walk.primitive_index || entry.summary.primitive);
+    let payload = varying::payload_of(entry.pack[entry.parts.workgroup + 3]);
+    write_out(&entry.outputs(), out, primitive, payload);
 }

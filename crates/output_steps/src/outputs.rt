@@ -3,10 +3,11 @@ ghost use Rattle.std.specs.Prelude.{◌≡◌, [], ◌∷◌, ◌+◌, ◌*◌, 
 ghost use Rattle.word.specs.Numbers.{number_of};
 ghost use Rattle.word.specs.Refusals.{answer_of};
 ghost use Rattle.interface.specs.Format.{built_in_of};
-ghost use Rattle.interface.specs.Inner.Reads.{varying, varyings};
+ghost use Rattle.interface.specs.Inner.Reads.{varying};
+ghost use Rattle.interface.specs.Inner.Listed.{listed};
 ghost use Rattle.output_steps.specs.Inner.Stands.{meant};
 ghost use Rattle.interface.specs.declared.types.Varying.TheVariants as Var;
-ghost use Rattle.interface.specs.Inner.Parts.{Placed, varyings_end};
+ghost use Rattle.interface.specs.Inner.Parts.{Placed};
 ghost use Rattle.output_steps.specs.Inner.Summary.{nothing, summary_of, plus};
 ghost use Rattle.output_steps.specs.Outputs.{location_use, location_uses, count_use, point_part, vertex_outputs, fragment_slots, attachment_use, fragment_outputs, slots_step};
 
@@ -14,6 +15,7 @@ use crate::types::{EntryPoint, Request, Summary};
 use interface::parts::Counts;
 use interface::reads::{built_in_of, varying_width};
 use interface::types::{BuiltIn, EntryParts, Limits, ShaderStage};
+use interface::varyings::Varyings;
 use word::refusal::{Number, Refusal};
 use word::{content, kind};
 
@@ -87,14 +89,15 @@ impl Summary {
     }
 }
 
-// What stands among the varyings from a position on, in one pass.
-pub(crate) fn summary(pack: &[u32], from: usize, n: usize) -> Summary
-    requires { (varyings_end pack.now n from < length pack.now) × (length pack.now ≤ 4096) × (n ≤ 63) }
-    ensures value { result ≡ summary_of (varyings n (drop from pack.now)) }
+// What stands among varyings, in one pass.
+pub(crate) fn summary(varyings: &Varyings<'_>) -> Summary
+    ensures value { result ≡ summary_of (listed varyings.now) }
     ensures few { (result.locals ≤ 63) × (result.clip_slots ≤ 63 * 64) × (result.built_in_slots ≤ 63 * 255) }
 {
+    let pack = varyings.pack;
+    let n = varyings.n;
     let mut s = NOTHING;
-    let mut at = from;
+    let mut at = varyings.from;
     for _i in 0..n {
         let w = pack[at];
         s = s.with_next(w);
@@ -109,12 +112,38 @@ impl<'a> EntryPoint<'a> {
         requires { Placed pack.now parts }
         ensures { (result.pack.now ≡ pack.now) × (result.parts ≡ parts) }
     {
-        let n = Counts::of(pack[parts.counts]).outputs;
-        let outputs = summary(pack, parts.outputs, n);
+        let outputs = Varyings {
+            pack,
+            from: parts.outputs,
+            n: Counts::of(pack[parts.counts]).outputs,
+        };
+        let summary = summary(&outputs);
         Self {
             pack,
             parts,
-            outputs,
+            summary,
+        }
+    }
+
+    // Its inputs.
+    pub fn inputs(&self) -> Varyings<'a>
+        ensures { listed result ≡ (meant self.now).inputs }
+    {
+        Varyings {
+            pack: self.pack,
+            from: self.parts.inputs,
+            n: Counts::of(self.pack[self.parts.counts]).inputs,
+        }
+    }
+
+    // Its outputs.
+    pub(crate) fn outputs(&self) -> Varyings<'a>
+        ensures { listed result ≡ (meant self.now).outputs }
+    {
+        Varyings {
+            pack: self.pack,
+            from: self.parts.outputs,
+            n: Counts::of(self.pack[self.parts.counts]).outputs,
         }
     }
 }
@@ -135,17 +164,16 @@ fn location_use(w: u32, number: Number, past: u32, limit: u32) -> Result<(), Ref
 
 // The first local variable at or past a location.
 pub(crate) fn location_uses(
-    pack: &[u32],
-    from: usize,
-    n: usize,
+    varyings: &Varyings<'_>,
     number: Number,
     past: u32,
     limit: u32,
 ) -> Result<(), Refusal>
-    requires { (varyings_end pack.now n from < length pack.now) × (length pack.now ≤ 4096) × (n ≤ 63) }
-    ensures { answer_of result ≡ location_uses (number_of number) past limit (varyings n (drop from pack.now)) }
+    ensures { answer_of result ≡ location_uses (number_of number) past limit (listed varyings.now) }
 {
-    let mut at = from;
+    let pack = varyings.pack;
+    let n = varyings.n;
+    let mut at = varyings.from;
     for _i in 0..n {
         let w = pack[at];
         location_use(w, number, past, limit)?;
@@ -173,16 +201,13 @@ fn point_part(topology: u32) -> u32
 
 // The outputs of a vertex stage against the slots that a point list and clip distances leave.
 pub(crate) fn vertex_outputs(
-    pack: &[u32],
-    from: usize,
-    n: usize,
+    varyings: &Varyings<'_>,
     outputs: Summary,
     topology: u32,
     limit: u32,
 ) -> Result<(), Refusal>
-    requires in_bounds { (varyings_end pack.now n from < length pack.now) × (length pack.now ≤ 4096) × (n ≤ 63) }
-    requires summed { (outputs ≡ summary_of (varyings n (drop from pack.now))) × (outputs.clip_slots ≤ 63 * 64) }
-    ensures { answer_of result ≡ vertex_outputs topology limit (varyings n (drop from pack.now)) }
+    requires { (outputs ≡ summary_of (listed varyings.now)) × (outputs.clip_slots ≤ 63 * 64) }
+    ensures { answer_of result ≡ vertex_outputs topology limit (listed varyings.now) }
 {
     let clip = outputs.clip_slots;
     let taken = point_part(topology) + clip;
@@ -193,29 +218,26 @@ pub(crate) fn vertex_outputs(
         return Err(Refusal::plain(Number::SlotsUsedUp));
     }
     if limit - clip < outputs.reach {
-        return location_uses(pack, from, n, Number::VertexLocation, limit - clip, limit);
+        return location_uses(varyings, Number::VertexLocation, limit - clip, limit);
     }
     count_use(Number::VertexCount, outputs.locals, limit - taken, limit)
 }
 
 // The inputs of a fragment stage against the slots that its built-in inputs leave.
 pub(crate) fn fragment_slots(
-    pack: &[u32],
-    from: usize,
-    n: usize,
+    varyings: &Varyings<'_>,
     limit: u32,
     locals: u32,
 ) -> Result<(), Refusal>
-    requires { (varyings_end pack.now n from < length pack.now) × (length pack.now ≤ 4096) × (n ≤ 63) }
-    ensures { answer_of result ≡ fragment_slots limit locals (varyings n (drop from pack.now)) }
+    ensures { answer_of result ≡ fragment_slots limit locals (listed varyings.now) }
 {
-    let s = summary(pack, from, n);
+    let s = summary(varyings);
     let taken = s.built_in_slots;
     if limit < taken {
         return Err(Refusal::plain(Number::SlotsUsedUp));
     }
     if limit < s.reach {
-        return location_uses(pack, from, n, Number::FragmentLocation, limit, limit);
+        return location_uses(varyings, Number::FragmentLocation, limit, limit);
     }
     count_use(Number::FragmentCount, locals, limit - taken, limit)
 }
@@ -229,7 +251,7 @@ pub(crate) fn attachment_use(entry: &EntryPoint<'_>, request: Request) -> Result
     if request.dual_source && !shader {
         return Err(Refusal::plain(Number::DualSource));
     }
-    if entry.outputs.depth && !request.depth {
+    if entry.summary.depth && !request.depth {
         return Err(Refusal::plain(Number::DepthAttachment));
     }
     Ok(())
@@ -244,21 +266,11 @@ pub(crate) fn fragment_outputs(
 ) -> Result<(), Refusal>
     ensures { answer_of result ≡ fragment_outputs request limits (meant entry.now) locals }
 {
-    let parts = entry.parts;
-    let counts = Counts::of(entry.pack[parts.counts]);
     let limit = limits.max_inter_stage_shader_variables;
-    fragment_slots(entry.pack, parts.inputs, counts.inputs, limit, locals)?;
+    fragment_slots(&entry.inputs(), limit, locals)?;
     let most = limits.max_color_attachments;
-    if most < entry.outputs.reach {
-        let n = counts.outputs;
-        return location_uses(
-            entry.pack,
-            parts.outputs,
-            n,
-            Number::ColourLocation,
-            most,
-            most,
-        );
+    if most < entry.summary.reach {
+        return location_uses(&entry.outputs(), Number::ColourLocation, most, most);
     }
     attachment_use(entry, request)
 }
@@ -275,17 +287,8 @@ pub fn slots_step(
 {
     match request.stage {
         ShaderStage::Vertex => {
-            let parts = entry.parts;
-            let n = Counts::of(entry.pack[parts.counts]).outputs;
             let limit = limits.max_inter_stage_shader_variables;
-            vertex_outputs(
-                entry.pack,
-                parts.outputs,
-                n,
-                entry.outputs,
-                request.topology,
-                limit,
-            )
+            vertex_outputs(&entry.outputs(), entry.summary, request.topology, limit)
         }
         ShaderStage::Fragment => fragment_outputs(entry, limits, request, locals),
         _ => Ok(()),

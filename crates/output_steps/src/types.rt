@@ -31,7 +31,7 @@ pub struct Summary {
 pub struct EntryPoint<'a> {
     pub pack: &'a [u32],
     pub parts: EntryParts,
-    pub outputs: Summary,
+    pub summary: Summary,
     pub ghost placed: { Placed pack.now parts },
-    pub ghost summed: { Summed pack.now parts outputs },
+    pub ghost summed: { Summed pack.now parts summary },
 }

@@ -2,7 +2,7 @@
 use Rattle.std.proofs.Common.{Option, Some, None}
 use native.Mathlib.Omega.{arith}
 use Prim.Native.Nat.{ℕ, ◌+◌, ◌-◌, ◌/◌, ◌%◌}
-use mathlib.Core.Path.{◌≡◌, refl, ap, ◌∙◌}
+use mathlib.Core.Path.{◌≡◌, ap, ◌∙◌}
 use mathlib.Core.Bool.{Bool, true, false}
 use mathlib.Core.List.{List}
 use borrow.Author.Tests.{eq-eqb, ne_eqb}
@@ -19,9 +19,10 @@ use Rattle.bindings.specs.declared.types.Resource.{Resource}
 use Rattle.varying.specs.Format.{payload_of}
 use Rattle.layouts.specs.Meaning.{Layout}
 use Rattle.stage_lists.specs.Meaning.{StageIo}
+use Rattle.interface.specs.declared.types.Varying.{Varying}
 use Rattle.interface.specs.Meaning.{EntryPoint, Interface}
 use Rattle.interface.specs.Format.{topology_at, pairs_of}
-use Rattle.interface.specs.Inner.Reads.{standing, varyings}
+use Rattle.interface.specs.Inner.Reads.{standing}
 use Rattle.interface.specs.Inner.Parts.{Placed}
 use Rattle.interface.specs.declared.types.PrimitiveTopology.{PrimitiveTopology}
 use Rattle.interface.specs.declared.types.WorkgroupSize.{WorkgroupSize}
@@ -35,34 +36,25 @@ use Rattle.resource_steps.specs.Inner.Given.{pairs_below}
 use Rattle.stage.specs.Inner.Given.{Named}
 use Rattle.stage.specs.Stage.{pair_step, input_walk, behind_inputs, behind_pairs}
 
--- the inputs of an entry point that stands at positions
-pub inputs_standing : (ws : List ℕ) (p : EntryParts) → (standing ws p).inputs ≡ varyings (bits 11 6 (word_at ws p.counts)) (drop p.inputs ws)
-unfolding standing
-inputs_standing ws p = refl
-
--- the judgement, step by step, of an entry point that stands at positions
-module _ (q : Request) (i : Interface) (ws : List ℕ) (p : EntryParts) (inputs : StageIo) (size : Result Unit Refusal)
-    (es : answer_of size ≡ workgroup_step q.stage (standing ws p).workgroup i.limits) where
-  pub size_refused : (r : Refusal) → size ≡ Err r → refusal_answer r ≡ behind_pairs q i (standing ws p) inputs
+-- the judgement of an entry point, step by step
+module _ (q : Request) (i : Interface) (e : EntryPoint) (inputs : StageIo) (size : Result Unit Refusal)
+    (es : answer_of size ≡ workgroup_step q.stage e.workgroup i.limits) where
+  pub size_refused : (r : Refusal) → size ≡ Err r → refusal_answer r ≡ behind_pairs q i e inputs
   size_refused r z = refused_ends r size _ _ es z
 
-  module _ (k n : ℕ) (ek : k ≡ word_at ws p.counts) (en : n ≡ bits 11 6 k) (u : Unit) (zs : size ≡ Ok u) (met : Result Unit Refusal) (w : InputWalk)
-      (em : answer_of met ≡ (input_steps q.stage inputs.varyings (varyings n (drop p.inputs ws)) start_walk).answer)
-      (ew : w ≡ (input_steps q.stage inputs.varyings (varyings n (drop p.inputs ws)) start_walk).walk) where
-    walk_is : input_steps q.stage inputs.varyings (varyings n (drop p.inputs ws)) start_walk ≡ input_walk q (standing ws p) inputs
-    walk_is = rw (en, ek, inputs_standing ws p)
+  module _ (vs : List Varying) (ev : vs ≡ e.inputs) (u : Unit) (zs : size ≡ Ok u) (met : Result Unit Refusal) (w : InputWalk)
+      (em : answer_of met ≡ (input_steps q.stage inputs.varyings vs start_walk).answer) (ew : w ≡ (input_steps q.stage inputs.varyings vs start_walk).walk) where
+    met_is : answer_of met ≡ (input_walk q e inputs).answer
+    met_is = rw ev at em
 
-    met_is : answer_of met ≡ (input_walk q (standing ws p) inputs).answer
-    met_is = rw walk_is at em
+    pub walk_is : w ≡ (input_walk q e inputs).walk
+    walk_is = rw ev at ew
 
-    pub walk_standing : w ≡ (input_walk q (standing ws p) inputs).walk
-    walk_standing = rw walk_is at ew
-
-    pub inputs_refused : (r : Refusal) → met ≡ Err r → refusal_answer r ≡ behind_pairs q i (standing ws p) inputs
+    pub inputs_refused : (r : Refusal) → met ≡ Err r → refusal_answer r ≡ behind_pairs q i e inputs
     inputs_refused r z = passed_on u size _ _ _ es zs (refused_ends r met _ _ met_is z)
 
-    pub inputs_went : (v : Unit) (rest : Answer) → met ≡ Ok v → rest ≡ behind_inputs q i.limits (standing ws p) inputs w → rest ≡ behind_pairs q i (standing ws p) inputs
-    inputs_went v rest z h = passed_on u size _ _ _ es zs (passed_on v met _ _ _ met_is z (h ∙ ap (behind_inputs q i.limits (standing ws p) inputs) walk_standing))
+    pub inputs_went : (v : Unit) (rest : Answer) → met ≡ Ok v → rest ≡ behind_inputs q i.limits e inputs w → rest ≡ behind_pairs q i e inputs
+    inputs_went v rest z h = passed_on u size _ _ _ es zs (passed_on v met _ _ _ met_is z (h ∙ ap (behind_inputs q i.limits e inputs) walk_is))
 
 -- ---- parts of an entry point that stands at positions
 

@@ -143,7 +143,7 @@ fn on_entry_point(
 {
     let pack = shader.module.pack;
     let point = EntryPoint::new(pack, shader.module.entry_parts(position));
-    if out.len() < 2 + 2 * point.outputs.locals as usize {
+    if out.len() < 2 + 2 * point.summary.locals as usize {
         return Err(Refusal::plain(Number::ShortOut));
     }
     let resources = Resources {

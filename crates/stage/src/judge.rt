@@ -12,7 +12,6 @@ use crate::types::StageEntry;
 use input_steps::inputs::input_steps;
 use input_steps::types::InputWalk;
 use input_steps::workgroup::workgroup_step;
-use interface::parts::Counts;
 use interface::reads::{AcceptedPack, topology_at};
 use interface::types::{EntryPointMeshInfo, ShaderStage, WorkgroupSize};
 use last_steps::last::last_step;
@@ -123,10 +122,7 @@ pub(crate) fn judge(
     ensures walk { IfOk result (λ w. w ≡ (input_walk request (meant entry.now.point) (decode_stage inputs.now.words.now)).walk) }
 {
     size_step(entry, request.stage)?;
-    let parts = entry.point.parts;
-    let pack = entry.point.pack;
-    let n = Counts::of(pack[parts.counts]).inputs;
-    let (met, walk) = input_steps(pack, parts.inputs, n, inputs, request.stage);
+    let (met, walk) = input_steps(&entry.point.inputs(), inputs, request.stage);
     met?;
     after_inputs(entry, inputs, request, walk)?;
     Ok(walk)

@@ -6,7 +6,7 @@ use borrow.Author.Rules.{rules}
 use Rattle.output_steps.proofs.list_out.write_out.Goals as goal
 
 pub loop-i-init : goal.loop-i-init
-loop-i-init c = rw (sub-zero c.args.n) ((search ahead, search rules, search rules, search begun_roomy, search rules))
+loop-i-init c = rw (sub-zero c.args.outputs.now.n) ((search ahead, search rules, search rules, search begun_roomy, search rules))
 
 pub bounds-pack-at-in-loop-i : goal.bounds-pack-at-in-loop-i
 bounds-pack-at-in-loop-i c = search (second_there, left_some, sub-eq-zero_of_le)
@@ -21,7 +21,7 @@ pub hand_on-head-requires-clause-second_in_bounds : goal.hand_on-head-requires-c
 hand_on-head-requires-clause-second_in_bounds c = search (next_room, left_some, sub-eq-zero_of_le)
 
 pub loop-i-preserved : goal.loop-i-preserved
-loop-i-preserved c = rw (sub-add-eq c.args.n c.loop-i._i 1) ((search (ahead_by, left_some, sub-eq-zero_of_le), search rules, search rules, search (roomy_onward, left_some, sub-eq-zero_of_le), search (all_onward, left_some, sub-eq-zero_of_le)))
+loop-i-preserved c = rw (sub-add-eq c.args.outputs.now.n c.loop-i._i 1) ((search (ahead_by, left_some, sub-eq-zero_of_le), search rules, search rules, search (roomy_onward, left_some, sub-eq-zero_of_le), search (all_onward, left_some, sub-eq-zero_of_le)))
 
 pub shape_of-out : goal.shape_of-out
 shape_of-out c = search as_long

@@ -11,4 +11,4 @@ use Rattle.output_steps.proofs.list_out.write_out.Given as goal
 abbrev pub invariant-loop-i : goal.invariant-loop-i
 invariant-loop-i l =
     Ahead l.pack (l.n - l._i) l.at × (length l.out ≡ length l.initial.out) × (out_well_formed (set l.out 0 l.head) ≡ true) × Roomy (varyings (l.n - l._i) (drop l.at l.pack)) (decode_stage (set l.out 0 l.head))
-    × (handed_all (varyings l.n (drop l.from l.pack)) (decode_stage (set l.initial.out 0 l.initial.head)) ≡ handed_all (varyings (l.n - l._i) (drop l.at l.pack)) (decode_stage (set l.out 0 l.head)))
+    × (handed_all (varyings l.n (drop l.outputs.from l.pack)) (decode_stage (set l.initial.out 0 l.initial.head)) ≡ handed_all (varyings (l.n - l._i) (drop l.at l.pack)) (decode_stage (set l.out 0 l.head)))

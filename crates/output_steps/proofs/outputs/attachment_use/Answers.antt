@@ -13,7 +13,7 @@ returns-then-not-request c = search (rules, dual_given, depth_absent)
 
 pub returns : goal.returns
 returns c =
-    attachments_good c.args.entry.now.pack.now c.args.entry.now.parts c.args.entry.now.outputs (search rules) _ _ _
+    attachments_good c.args.entry.now.pack.now c.args.entry.now.parts c.args.entry.now.summary (search rules) _ _ _
     (dual_given c.args.entry.now.pack.now c.args.entry.now.parts _ c.else-request.either)
     (elim c.else-entry.branch [
       | else-entry-via-then-entry+else-not-request w ↦ and_right _ _ w.if-not-request.false

@@ -6,7 +6,7 @@ pub returns-then-out-point : goal.returns-then-out-point
 returns-then-out-point c =
     let point = c.new-point.result in
     rw (c.plain.ensures, ← c.new-point.ensures.0)
-    (entry_short _ _ _ _ _ point.pack.now point.parts point.outputs (rw (c.new-point.ensures.0, c.new-point.ensures.1) c.entry_parts.ensures.stands) point.summed
+    (entry_short _ _ _ _ _ point.pack.now point.parts point.summary (rw (c.new-point.ensures.0, c.new-point.ensures.1) c.entry_parts.ensures.stands) point.summed
     _ _ _ _ refl refl refl refl c.if-out-point.true)
 
 pub new-requires : goal.new-requires
@@ -28,5 +28,5 @@ pub returns : goal.returns
 returns c =
     let point = c.new-point.result in
     rw (← c.new-point.ensures.0)
-    (entry_went _ _ _ _ _ point.pack.now point.parts point.outputs (rw (c.new-point.ensures.0, c.new-point.ensures.1) c.entry_parts.ensures.stands) point.summed
+    (entry_went _ _ _ _ _ point.pack.now point.parts point.summary (rw (c.new-point.ensures.0, c.new-point.ensures.1) c.entry_parts.ensures.stands) point.summed
     _ c.if-out-point.false c.run_body.ensures)
