@@ -6,6 +6,7 @@ ghost use Rattle.bindings.specs.Format.{buffer_code, sample_code, binding_code, 
 use crate::sizes::size_word;
 use crate::types::{BindingType, BufferBindingType, TextureSampleType};
 
+// The bits of a kind of buffer; a case with a field has no number of its own that `as` would give.
 #[tactic(auto, using(crate::proofs::CodeLaws::flag_byte))]
 fn buffer_code(ty: BufferBindingType) -> u64
     ensures meaning { result ≡ buffer_code ty }
@@ -17,6 +18,7 @@ fn buffer_code(ty: BufferBindingType) -> u64
     }
 }
 
+// The number of a sample type; of a float it hangs on the field.
 fn sample_code(sample_type: TextureSampleType) -> u64
     ensures meaning { result ≡ sample_code sample_type }
     ensures upper_bound { result ≤ 4 }

@@ -165,7 +165,8 @@ fn is_buffer(w: u32) -> bool
     w / 0x80_0000 % 16 == 0
 }
 
-// The position behind the size that a buffer has and another resource has not.
+// The position behind the size that a buffer has and another resource has not. Readers answer positions and not the words from there on:
+// the positions of records are what the check of a pack hands out.
 fn size_next(body: &[u32], at: usize, w: u32) -> Option<usize>
     requires { at ≤ length body.now }
     ensures rest { rest_of body.now result

@@ -11,10 +11,8 @@ use mir.Val.{Fits}
 use borrow.Author.Tests.{eqb-true, eqb-false, ne_eqb, lt-ltb, le-ltb}
 use Rattle.word.specs.Answers.{answer, accepted}
 use Rattle.word.specs.declared.answer.Answer.{Answer}
-use Rattle.interface.specs.declared.types.ShaderStage.{ShaderStage}
-use Rattle.interface.specs.declared.types.Limits.{Limits}
 use Rattle.interface.specs.declared.types.WorkgroupSize.{WorkgroupSize}
-use Rattle.input_steps.specs.Workgroup.{workgroup_use, workgroup_step}
+use Rattle.input_steps.specs.Workgroup.{workgroup_use}
 
 below : (k : ℕ) {a b : ℕ} → a < 2 ^ k → b < 2 ^ k → a * b < 2 ^ (k + k)
 below k {a} {b} ha hb =
@@ -66,6 +64,3 @@ module _ (size : WorkgroupSize) (x y z total : ℕ) (a : Answer) (large : Bool)
     pub use_good : none ≡ false → a ≡ accepted → a ≡ workgroup_use size x y z total
     unfolding workgroup_use
     use_good t h = rw (← e, l, ← f, t) h
-
-pub step_at : (stage s : ShaderStage) (size : WorkgroupSize) (l : Limits) (r : Answer) → stage ≡ s → r ≡ workgroup_step s size l → r ≡ workgroup_step stage size l
-step_at stage s size l r e h = rw e h

@@ -77,6 +77,7 @@ pub fn read_type(w: u32) -> Option<NumericType>
     Some(type_of(w))
 }
 
+// The number of a shape, by its cases' fields.
 fn shape_code(dim: NumericDimension) -> u32
     ensures value { result ≡ shape_code dim }
     ensures upper_bound { result ≤ 12 }

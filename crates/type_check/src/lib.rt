@@ -1,4 +1,5 @@
 // The check of a type list and of a binding: whether they are well formed, and what is noted of each type on the way.
+// Readers answer positions and not the words from there on: the position of each type is noted.
 #![tactic(auto)]
 
 pub mod bound;
