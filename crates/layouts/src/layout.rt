@@ -12,7 +12,7 @@ use crate::visibility::join_bit;
 use bindings::entry_words::words_well_formed;
 use bindings::sizes::{size_at, size_word};
 use places::heads::{counted, short_enough};
-use places::places::{distinct_places, find_near, find_word};
+use places::places::Records;
 use places::stores::push_record;
 use word::{content, index, kind, word};
 
@@ -42,12 +42,11 @@ fn entry_good(entry: &[u32], groups: u32) -> bool
     words_well_formed(entry[0], entry[1], entry[2], entry[3]) && entry[0] / 0x80_0000 % 16 < groups
 }
 
-fn entries_good(entries: &[u32], n: usize, groups: u32) -> bool
-    requires { (n < 0x1_0000) × (entry_width * n ≤ length entries.now) }
-    ensures { result ≡ each entry_width (entry_good groups) n entries.now }
+fn entries_good(entries: &Records<'_, ENTRY_WIDTH>, groups: u32) -> bool
+    ensures { result ≡ each entry_width (entry_good groups) entries.now.n entries.now.words.now }
 {
-    for i in 0..n as u32 {
-        if !entry_good(&entries[ENTRY_WIDTH * i as usize..], groups) {
+    for i in 0..entries.n as u32 {
+        if !entry_good(&entries.words[ENTRY_WIDTH * i as usize..], groups) {
             return false;
         }
     }
@@ -64,12 +63,12 @@ pub fn layout_well_formed(l: &[u32]) -> bool
     if !layout_head(l) {
         return false;
     }
-    let entries = &l[1..];
     let n = counted(l);
-    if !entries_good(entries, n, group_count(l)) {
+    let entries = Records::<ENTRY_WIDTH> { words: &l[1..], n };
+    if !entries_good(&entries, group_count(l)) {
         return false;
     }
-    distinct_places::<ENTRY_WIDTH>(entries, n)
+    entries.distinct_places()
 }
 
 pub fn group_count(l: &[u32]) -> u32
@@ -101,11 +100,12 @@ impl LayoutList<'_> {
         ensures value { result ≡ find_entry (place_of place) (decode_layout self.now.words.now) }
         ensures below { found_below (length (decode_layout self.now.words.now).entries) result ≡ true }
     {
-        find_word::<ENTRY_WIDTH>(
-            &self.words[1..],
-            counted(self.words),
-            0x2000_0000 + content(place),
-        )
+        let n = counted(self.words);
+        let entries = Records::<ENTRY_WIDTH> {
+            words: &self.words[1..],
+            n,
+        };
+        entries.find_word(0x2000_0000 + content(place))
     }
 
     // The same where a position is likely to have the entry: that one is tried first.
@@ -113,7 +113,12 @@ impl LayoutList<'_> {
         ensures value { result ≡ find_entry (place_of place) (decode_layout self.now.words.now) }
         ensures below { found_below (length (decode_layout self.now.words.now).entries) result ≡ true }
     {
-        find_near::<ENTRY_WIDTH>(&self.words[1..], counted(self.words), content(place), near)
+        let n = counted(self.words);
+        let entries = Records::<ENTRY_WIDTH> {
+            words: &self.words[1..],
+            n,
+        };
+        entries.find_near(content(place), near)
     }
 
     // A word of the entry at a position.

@@ -9,7 +9,6 @@ use lib.ListN.{length, drop, set}
 use lib.Seq.{set-get_or}
 use borrow.Author.Tests.{leb-true}
 use Rattle.word.specs.Words.{word_at, kind_of, bits}
-use Rattle.bindings.specs.Format.{size_well_formed}
 use Rattle.word.proofs.Truth.{second}
 use Rattle.places.specs.Places.{distinct_places, places}
 use Rattle.sizes.specs.Meaning.{distinct_sizes, size_places}

@@ -9,7 +9,7 @@ ghost use Rattle.sizes.specs.Inner.Near.{find_size, note_next};
 
 use bindings::sizes::size_word;
 use places::heads::{counted, short_enough};
-use places::places::{distinct_places, find_near};
+use places::places::Records;
 use places::stores::push_record;
 use word::{content, kind, word};
 
@@ -43,12 +43,11 @@ fn size_good(words: &[u32]) -> bool
     size / 0x800_0000 == 6 && size % 0x800_0000 != 0
 }
 
-fn sizes_good(records: &[u32], n: usize) -> bool
-    requires { (n < 0x1_0000) × (size_record_width * n ≤ length records.now) }
-    ensures { result ≡ each size_record_width size_good n records.now }
+fn sizes_good(records: &Records<'_, SIZE_RECORD_WIDTH>) -> bool
+    ensures { result ≡ each size_record_width size_good records.now.n records.now.words.now }
 {
-    for i in 0..n as u32 {
-        if !size_good(&records[SIZE_RECORD_WIDTH * i as usize..]) {
+    for i in 0..records.n as u32 {
+        if !size_good(&records.words[SIZE_RECORD_WIDTH * i as usize..]) {
             return false;
         }
     }
@@ -65,12 +64,12 @@ pub fn sizes_well_formed(l: &[u32]) -> bool
     if !sizes_head(l) {
         return false;
     }
-    let records = &l[1..];
     let n = counted(l);
-    if !sizes_good(records, n) {
+    let records = Records::<SIZE_RECORD_WIDTH> { words: &l[1..], n };
+    if !sizes_good(&records) {
         return false;
     }
-    distinct_places::<SIZE_RECORD_WIDTH>(records, n)
+    records.distinct_places()
 }
 
 // A new record at the end, or nothing where the free room is too small.
@@ -106,7 +105,8 @@ pub fn record_size(s: &mut [u32], place: u32, size: u64, next: &mut usize) -> bo
     ensures next_noted { next.new ≡ note_next (find_size (place_of place) (decode_sizes s.old)) next.old }
 {
     let n = counted(s);
-    match find_near::<SIZE_RECORD_WIDTH>(&s[1..], n, content(place), *next) {
+    let records = Records::<SIZE_RECORD_WIDTH> { words: &s[1..], n };
+    match records.find_near(content(place), *next) {
         Some(index) => {
             *next = index + 1;
             raise_word(s, SIZE_RECORD_WIDTH * index + 2, size_word(size));

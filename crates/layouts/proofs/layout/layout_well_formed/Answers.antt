@@ -1,5 +1,4 @@
 use native.Mathlib.Omega.{arith}
-use borrow.Author.Rules.{rules}
 use Rattle.places.proofs.Words.{slice_holds}
 use Rattle.places.proofs.Ways.{test_fails, test_passes}
 use Rattle.layouts.specs.Format.{layout_well_formed}
@@ -23,16 +22,12 @@ slice_bounds-entries-start c = omega (arith, head_holds _ _ c.layout_head.ensure
 pub counted-n-requires : goal.counted-n-requires
 counted-n-requires c = omega (arith, head_holds _ _ c.layout_head.ensures c.if-not-layout_head.false)
 
-pub entries_good-requires : goal.entries_good-requires
-entries_good-requires c = (search rules, slice_holds _ 1 _ (omega (arith, head_holds _ _ c.layout_head.ensures c.if-not-layout_head.false)))
+pub invariant_of-entries-clause-within : goal.invariant_of-entries-clause-within
+invariant_of-entries-clause-within c = slice_holds _ 1 _ (omega (arith, head_holds _ _ c.layout_head.ensures c.if-not-layout_head.false))
 
 pub returns-then-not-entries_good : goal.returns-then-not-entries_good
 unfolding layout_well_formed
 returns-then-not-entries_good c = search (test_fails, test_passes, entries_tested)
-
-pub distinct_places-requires : goal.distinct_places-requires
-distinct_places-requires c =
-    (search rules, search rules, search rules, slice_holds _ 1 _ (omega (arith, head_holds _ _ c.layout_head.ensures c.if-not-layout_head.false)))
 
 pub returns : goal.returns
 unfolding layout_well_formed

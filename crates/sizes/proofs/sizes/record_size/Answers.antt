@@ -6,20 +6,17 @@ use Rattle.sizes.proofs.sizes.record_size.Goals as goal
 pub counted-n-requires : goal.counted-n-requires
 counted-n-requires c = search head_there
 
-pub slice_bounds-find_near-count : goal.slice_bounds-find_near-count
-slice_bounds-find_near-count c = search head_there
+pub slice_bounds-records-count : goal.slice_bounds-records-count
+slice_bounds-records-count c = search head_there
 
-pub slice_bounds-find_near-start : goal.slice_bounds-find_near-start
-slice_bounds-find_near-start c = search head_there
+pub slice_bounds-records-start : goal.slice_bounds-records-start
+slice_bounds-records-start c = search head_there
 
-pub find_near-requires-clause-within : goal.find_near-requires-clause-within
-find_near-requires-clause-within c = (search rules, search rules, search rules, search records_within)
+pub invariant_of-records-clause-within : goal.invariant_of-records-clause-within
+invariant_of-records-clause-within c = records_within _ _ (search rules) c.counted-n.ensures.value
 
-pub find_near-requires-clause-place_words : goal.find_near-requires-clause-place_words
-find_near-requires-clause-place_words c = (search rules, search sizes_begin)
-
-pub find_near-requires-clause-distinct : goal.find_near-requires-clause-distinct
-find_near-requires-clause-distinct c = search sizes_differ
+pub find_near-requires : goal.find_near-requires
+find_near-requires c = (search rules, ((search rules, search sizes_begin), search sizes_differ))
 
 pub overflow_add-next : goal.overflow_add-next
 overflow_add-next c = search (index_next, rules)

@@ -1,5 +1,4 @@
 use native.Mathlib.Omega.{arith}
-use borrow.Author.Rules.{rules}
 use Rattle.places.proofs.Words.{slice_holds}
 use Rattle.places.proofs.Ways.{test_fails, test_passes}
 use Rattle.sizes.specs.Format.{sizes_well_formed}
@@ -23,16 +22,12 @@ slice_bounds-records-start c = omega (arith, head_holds _ _ c.sizes_head.ensures
 pub counted-n-requires : goal.counted-n-requires
 counted-n-requires c = omega (arith, head_holds _ _ c.sizes_head.ensures c.if-not-sizes_head.false)
 
-pub sizes_good-requires : goal.sizes_good-requires
-sizes_good-requires c = (search rules, slice_holds _ 1 _ (omega (arith, head_holds _ _ c.sizes_head.ensures c.if-not-sizes_head.false)))
+pub invariant_of-records-clause-within : goal.invariant_of-records-clause-within
+invariant_of-records-clause-within c = slice_holds _ 1 _ (omega (arith, head_holds _ _ c.sizes_head.ensures c.if-not-sizes_head.false))
 
 pub returns-then-not-sizes_good : goal.returns-then-not-sizes_good
 unfolding sizes_well_formed
 returns-then-not-sizes_good c = search (test_fails, test_passes, sizes_tested)
-
-pub distinct_places-requires : goal.distinct_places-requires
-distinct_places-requires c =
-    (search rules, search rules, search rules, slice_holds _ 1 _ (omega (arith, head_holds _ _ c.sizes_head.ensures c.if-not-sizes_head.false)))
 
 pub returns : goal.returns
 unfolding sizes_well_formed

@@ -4,20 +4,20 @@ use Rattle.layouts.proofs.LayoutWays.{entry_found, entries_begin, entries_within
 use Rattle.layouts.proofs.LayoutStores.{head_there}
 use Rattle.layouts.proofs.layout.LayoutList.find_entry_word.Goals as goal
 
-pub slice_bounds-find_word-count : goal.slice_bounds-find_word-count
-slice_bounds-find_word-count c = search head_there
+pub slice_bounds-entries-count : goal.slice_bounds-entries-count
+slice_bounds-entries-count c = search head_there
 
-pub slice_bounds-find_word-start : goal.slice_bounds-find_word-start
-slice_bounds-find_word-start c = search head_there
+pub slice_bounds-entries-start : goal.slice_bounds-entries-start
+slice_bounds-entries-start c = search head_there
 
-pub counted-requires : goal.counted-requires
-counted-requires c = search head_there
+pub counted-n-requires : goal.counted-n-requires
+counted-n-requires c = search head_there
 
-pub find_word-requires-clause-within : goal.find_word-requires-clause-within
-find_word-requires-clause-within c = (search rules, search rules, search rules, search entries_within)
+pub invariant_of-entries-clause-within : goal.invariant_of-entries-clause-within
+invariant_of-entries-clause-within c = entries_within _ _ (search rules) c.counted-n.ensures.value
 
-pub find_word-requires-clause-place_words : goal.find_word-requires-clause-place_words
-find_word-requires-clause-place_words c = (search (content_kind, rules), search entries_begin)
+pub find_word-requires : goal.find_word-requires
+find_word-requires c = (search rules, (search (content_kind, rules), search entries_begin))
 
 pub returns-clause-value : goal.returns-clause-value
 returns-clause-value c = search (entry_found, content_tells, content_word)
