@@ -19,10 +19,6 @@ use Rattle.word.proofs.Lists.{first_passes, rest_passes}
 
 -- ---- positions
 
--- of records left, one and the others
-pub one_less : (width left : ℕ) → (left ≡ 0 → ⊥) → width * left ≡ width * (left - 1) + width
-one_less width left h = let m : left ≡ suc (left - 1) = omega arith in ap (λ k. width * k) m ∙ mul-suc width (left - 1)
-
 -- ---- a reader alone
 
 module _ {A : Type 0} (width : ℕ) (read : List ℕ → A) where

@@ -4,9 +4,8 @@ use native.Mathlib.Omega.{arith}
 use mathlib.Core.Path.{◌≡◌, sym, ◌∙◌}
 use mathlib.Core.Bool.{Bool, true, false, not, ◌&&◌}
 use mathlib.Core.List.{List}
-use lib.Dec.{leb}
 use lib.ListN.{drop}
-use borrow.Author.Tests.{not-true, not-false, le-leb}
+use borrow.Author.Tests.{not-true, not-false}
 use Rattle.places.specs.Records.{each}
 use Rattle.places.proofs.Records.{each_at, each_none}
 use Rattle.places.proofs.Words.{slice_from, slice_from_is}
@@ -18,10 +17,6 @@ module _ (b test rest : Bool) (e : b ≡ test) where
 
   pub test_passes : (r : Bool) → not b ≡ false → r ≡ rest → r ≡ (test && rest)
   test_passes r h k = rw (← e, not-false b h) k
-
--- a list that is short enough: what is left decides
-pub short_passes : (n m : ℕ) (rest r : Bool) → n ≤ m → r ≡ rest → r ≡ (leb n m && rest)
-short_passes n m rest r h k = rw (le-leb n m h) k
 
 -- a loop over the records: one fails, one more passes, all have passed
 module _ (width n i : ℕ) (test : List ℕ → Bool) (l : List ℕ) (goal : Bool) (inv : goal ≡ each width test (n - i) (drop (width * i) l)) where

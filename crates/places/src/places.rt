@@ -34,6 +34,7 @@ pub struct Records<'a, const WIDTH: usize> {
     pub ghost within: { WIDTH * n ≤ length words.now },
 }
 
+// Loops count in 32 bits: the board's build keeps a usize in 64, which it compares in two steps.
 impl<const WIDTH: usize> Records<'_, WIDTH> {
     ghost use Rattle.places.specs.Inner.PlacesOf.{places_of};
 
