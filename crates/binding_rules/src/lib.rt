@@ -1,6 +1,6 @@
 // The rules for bindings by value: when a layout entry serves a resource, and the entry that a resource asks for.
-// These are the ones to read. The stage check applies the same rules on words, in word_rules: by value a check of a small compute stage takes 14 % more cycles on the board in provided mode (6,498 for 5,710) and 10 % in derived mode (5,577 for 5,050), and the stack of a check grows by 48 bytes.
-// Both are proved equal to bindings specs/Rules.antt.
+// These are the ones to read. The stage check applies the same rules on words, in word_rules: by value a check of a small compute stage takes
+// 14 % more cycles on the board. Both are proved equal to bindings specs/Rules.antt.
 #![tactic(auto)]
 
 pub mod check_words;

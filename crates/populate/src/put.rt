@@ -1,4 +1,5 @@
-// Varyings written as words, one behind the other.
+// Varyings written as words, one behind the other. They go to a position of the list out, and not into a slice of it: a struct that was
+// written before is copied from further up in the list.
 ghost use Rattle.std.specs.Prelude.{◌≡◌, false, ◌+◌, ◌<◌, ◌≤◌, ◌^◌, length, take, drop};
 ghost use Rattle.word.specs.Words.{word_at, of_kind};
 ghost use Rattle.numeric.specs.TypeWords.{type_of};

@@ -9,7 +9,7 @@ use entry_points::module::Module;
 use output_steps::types::EntryPoint;
 use resource_steps::table::Resources;
 
-// The numbers of a call.
+// The numbers of a call. Any may be given: those that are no codes are refused.
 #[derive(Clone, Copy)]
 pub struct Codes {
     pub stage: u32,

@@ -161,7 +161,7 @@ fn count_well_formed(w: u32) -> bool
     word::kind(w) == 21 && word::content(w) <= 256
 }
 
-// Whether a list of types is accepted. The table gets what is noted of each.
+// Whether a list of types is accepted. The table, which is lent, gets what is noted of each, so there is nothing more to answer.
 pub fn index_types(types: &[u32], notes: &mut [TypeNote; 256]) -> bool
     requires { length notes.old ≡ 256 }
     ensures value { result ≡ listed types.now }
