@@ -11,8 +11,8 @@ use crate::types::{
 };
 use word::word;
 
-// What a code means: the words are tested before they are read, and past the last code each of these gives the last case.
-// A `From` would hide that, and the error of a `TryFrom` could not come up.
+// What a code means: past the last code each of these gives the last case, as the definitions do. A `From` would hide that, and the error of
+// a `TryFrom` could not come up where the words were tested.
 fn view_at(code: u32) -> TextureViewDimension
     ensures { result ≡ view_at code }
 {

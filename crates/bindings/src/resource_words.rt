@@ -31,7 +31,7 @@ pub fn place_of(w: u32) -> ResourceBinding
     }
 }
 
-// What a code means. No `From` of a number: past the last code it gives the last case, where the words were tested before.
+// What a code means. No `From` of a number: past the last code it gives the last case, as the definition does.
 fn dimension_at(code: u32) -> ImageDimension
     ensures { result ≡ dimension_at code }
 {

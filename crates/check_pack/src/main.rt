@@ -1,4 +1,4 @@
-// Reads a pack's bytes from standard input and prints what the gate says of it: a line for each entry point and the
+// Reads a pack's bytes from standard input and prints what the check says of it: a line for each entry point and the
 // layout words, or why the pack is refused.
 // Where standard input cannot be read or standard output cannot be written it says so on standard error and ends with
 // status 1; in the first case it prints nothing.
@@ -24,7 +24,7 @@ fn read_input<R: Read>(input: &mut R) -> io::Result<Bytes>
     Ok(bytes)
 }
 
-// Prints what the gate says of a pack's bytes.
+// Prints what the check says of a pack's bytes.
 fn print_report<W: Write>(output: &mut W, bytes: &[u8]) -> io::Result<()>
     ensures { OnOk result (Appends (W.contents output.old) (W.contents output.new) (report bytes.now)) }
 {
@@ -38,7 +38,7 @@ fn complain(rt: &impl Eprint, what: &str) -> ExitCode {
     ExitCode::FAILURE
 }
 
-// Reads a pack and prints what the gate says of it, or answers what failed.
+// Reads a pack and prints what the check says of it, or answers what failed.
 fn check<R: Read, W: Write>(input: &mut R, output: &mut W) -> Result<(), &'static str>
     ensures { OnOk result (IfSome (R.remaining input.old) (λ xs. Appends (W.contents output.old) (W.contents output.new) (report xs))) }
 {

@@ -1,4 +1,4 @@
-// Vertex and texture formats, numbered as the functions below first name them.
+// Vertex and texture formats by their codes.
 ghost use Rattle.std.specs.Prelude.{◌≡◌};
 ghost use Rattle.word.specs.Refusals.{answer_of, answer_with};
 ghost use Rattle.formats.specs.Formats.{vertex_format, texture_format, format_answer, check_type, check_texture_format};

@@ -136,7 +136,7 @@ pub(crate) fn input_step(
     Ok(())
 }
 
-// Each input in order, until one is refused, and what the walk has met by then.
+// Each input in order, until one is refused, and what the walk has met by then, which is told of a refusal too.
 pub fn input_steps(
     varyings: &Varyings<'_>,
     inputs: &StageList<'_>,

@@ -61,7 +61,7 @@ fn dimensions_use(dimensions: &[u32], x: u32, y: u32, z: u32, total: u32) -> Res
     Ok(())
 }
 
-// The check taken apart, against the limits on its dimensions.
+// The check taken apart, against the limits on its dimensions: the project asks for a check that keeps a reference to what it judges.
 fn check_size<'a>(check: WorkgroupSizeCheck<'a>, x: u32, y: u32, z: u32) -> Result<(), Refusal>
     requires { length check.dimensions.now ≡ 3 }
     ensures { answer_of result ≡ workgroup_use (size_of check.entry.dimensions.now) x y z check.entry.total_limit }

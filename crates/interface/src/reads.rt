@@ -43,7 +43,7 @@ pub fn topology_at(code: u32) -> PrimitiveTopology
     }
 }
 
-// The built-in that a word of kind 14 means. No `From`: a word of another kind means none.
+// The built-in that a word of kind 14 means. No `From`: a word holds more than the bits that are read.
 pub fn built_in_of(w: u32) -> BuiltIn
     ensures { result ≡ built_in_of w }
 {
@@ -65,7 +65,7 @@ pub fn varying_width(w: u32) -> usize
     if kind(w) == 12 { 2 } else { 1 }
 }
 
-// The sampling pair that a word means. No `From`: a word of another kind means none.
+// The sampling pair that a word means. No `From`: a word holds more than the bits that are read.
 pub fn pair_of(w: u32) -> SamplingPair
     ensures value { result ≡ pair_of w }
     ensures below_256 { (result.texture < 256) × (result.sampler < 256) }

@@ -5,7 +5,7 @@ ghost use Rattle.numeric.specs.TypeWords.{kind_at, vector_size_at, shape_at, wid
 use crate::types::{Misfit, NumericDimension, NumericType, Scalar, ScalarKind, VectorSize};
 use word::refusal::Number;
 
-// What a code means. No `From` of a number: past the last code it gives the last case, where the words were tested before.
+// What a code means. No `From` of a number: past the last code it gives the last case, as the definition does.
 fn kind_at(code: u32) -> ScalarKind
     ensures { result ≡ kind_at code }
 {

@@ -13,7 +13,7 @@ use Rattle.word.proofs.Tests.{yes_true, yes_false}
 use Rattle.word.proofs.Lists.{first_passes, rest_passes}
 use Rattle.word.specs.Words.{word_at, kind_of, content_of}
 use Rattle.word.specs.Lists.{every}
-use Rattle.varying.specs.Format.{var_of, located_encodable, payload_of, payload_encodable}
+use Rattle.varying.specs.Format.{var_of, located_encodable, payload_encodable}
 use Rattle.varying.proofs.Joined.{payload_encodable_lem}
 use Rattle.varying.specs.declared.Located.{Located}
 use Rattle.stage_lists.specs.Meaning.{StageIo, rising, varying_at, is_provided, insert, inserted}
@@ -207,8 +207,9 @@ all_ended ws from n k at p q lent out S begun z f inv =
 
 -- ---- the list out of an entry point that stands at positions
 
-pub payload_read_encodable : (w : ℕ) (q : Option ℕ) → q ≡ payload_of w → payload_encodable q ≡ true
-payload_read_encodable w q e = rw e (payload_encodable_lem w)
+pub payload_read_encodable : (ws : List ℕ) (p : EntryParts) (q : Option ℕ) → q ≡ (standing ws p).payload → payload_encodable q ≡ true
+unfolding standing
+payload_read_encodable ws p q e = rw e (payload_encodable_lem (word_at ws (p.workgroup + 3)))
 
 module _ (ws : List ℕ) (p : EntryParts) (vs : List Varying) (e : vs ≡ (standing ws p).outputs) where
   pub outputs_encodable : every output_encodable (standing ws p).outputs ≡ true → every output_encodable vs ≡ true
@@ -217,10 +218,10 @@ module _ (ws : List ℕ) (p : EntryParts) (vs : List Varying) (e : vs ≡ (stand
   pub outputs_room : (l : ℕ) → 2 + 2 * local_count (standing ws p).outputs ≤ l → 2 + 2 * local_count vs ≤ l
   outputs_room l h = rw e h
 
-  pub list_out : (stage : ShaderStage) (walk : InputWalk) (s : Summary) (b : Bool) (i : Option Bool) (w : ℕ) (q : Option ℕ) (out o : List ℕ)
+  pub list_out : (stage : ShaderStage) (walk : InputWalk) (s : Summary) (b : Bool) (i : Option Bool) (q : Option ℕ) (out o : List ℕ)
       → Summed ws p s → b ≡ (walk.primitive_index || s.primitive) → i ≡ primitive_out stage b
-      → w ≡ word_at ws (p.workgroup + 3) → q ≡ payload_of w
+      → q ≡ (standing ws p).payload
       → o ≡ encode_stage (out_of i q (locals_of vs []) out)
       → o ≡ encode_stage (stage_out stage (standing ws p) walk out)
-  unfolding stage_out summary_of standing
-  list_out stage walk s b i w q out o g eb ei ew eq eo = rw (← ew, ← eq) (eo ∙ rw (ei, eb, g.outputs, e))
+  unfolding stage_out summary_of
+  list_out stage walk s b i q out o g eb ei eq eo = eo ∙ rw (ei, eb, g.outputs, e, eq)

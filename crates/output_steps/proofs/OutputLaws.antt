@@ -1,5 +1,5 @@
 -- The ways through outputs and slots.
-use Prim.Native.Nat.{ℕ, ◌+◌, ◌-◌, ◌*◌, ◌%◌, ◌<◌, ◌≤◌, ◌^◌, max}
+use Prim.Native.Nat.{ℕ, ◌+◌, ◌-◌, ◌*◌, ◌%◌, ◌<◌, ◌≤◌, ◌^◌, max, ◌/◌}
 use native.Mathlib.Nat.{add-zero, zero-add, max-zero, zero-max}
 use native.Mathlib.Omega.{arith}
 use mathlib.Core.Path.{◌≡◌, refl, sym, ◌∙◌}
@@ -15,15 +15,17 @@ use Rattle.word.proofs.Truth.{by_test}
 use Rattle.word.proofs.Both.{number_nonzero}
 use Rattle.word.specs.Refusals.{answer_of, refusal_answer}
 use Rattle.word.specs.declared.refusal.Refusal.{Refusal}
-use Rattle.std.proofs.Common.{Result, Ok, Err}
+use Rattle.std.proofs.Common.{Result, Ok, Err, Option, Some, None}
 use Rattle.word.specs.Answers.{accepted, refused, both}
 use Rattle.word.specs.declared.answer.Answer.{Answer}
-use Rattle.varying.specs.Format.{location_well_formed}
+use Rattle.varying.specs.Format.{location_well_formed, payload_of}
 use Rattle.word.proofs.Parse.{first_of}
-use Rattle.interface.specs.Format.{local, built_in_of}
+use Rattle.interface.specs.Format.{local, built_in_of, topology_at}
 use Rattle.interface.specs.Inner.Reads.{varying, varying_width, varyings, standing}
 use Rattle.interface.specs.Inner.Parts.{varyings_end, Placed}
 use Rattle.interface.specs.declared.types.EntryParts.{EntryParts}
+use Rattle.interface.specs.declared.types.PrimitiveTopology.{PrimitiveTopology}
+use Rattle.interface.specs.declared.types.WorkgroupSize.{WorkgroupSize}
 use Rattle.interface.specs.declared.types.BuiltIn.{BuiltIn}
 use Rattle.interface.specs.declared.types.BuiltIn.TheVariants as In
 use Rattle.interface.specs.declared.types.Varying.{Varying}
@@ -383,3 +385,26 @@ module _ (ws : List ℕ) (p : EntryParts) (s : Summary) (g : Summed ws p s) wher
 pub summed_here : (ws : List ℕ) (p : EntryParts) (counts n : ℕ) (s : Summary) → counts ≡ word_at ws p.counts → n ≡ bits 5 0 counts
     → s ≡ summary_of (varyings n (drop p.outputs ws)) → s.locals ≤ 63 → s.clip_slots ≤ 63 * 64 → Summed ws p s
 summed_here ws p counts n s hc hn e l c = record { outputs = rw (← outputs_read ws p counts n hc hn) e; locals = l; clip = c }
+
+-- ---- parts of an entry point that stands at positions
+
+module _ (ws : List ℕ) (p : EntryParts) where
+  pub mesh_absent : (word_at ws p.head / 2 % 2 ≡ 1 → ⊥) → None ≡ (standing ws p).mesh
+  unfolding standing
+  mesh_absent n = rw (ne_eqb (word_at ws p.head / 2 % 2) 1 n)
+
+  pub mesh_there : (a b c x y z : ℕ) (t : PrimitiveTopology) → word_at ws p.head / 2 % 2 ≡ 1
+      → a ≡ word_at ws (p.workgroup + 4) → x ≡ content_of a → b ≡ word_at ws (p.workgroup + 4 + 1) → y ≡ content_of b
+      → c ≡ word_at ws (p.workgroup + 4 + 2) → z ≡ content_of c → t ≡ topology_at z
+      → Some (record { max_vertices = x; max_primitives = y; primitive_topology = t }) ≡ (standing ws p).mesh
+  unfolding standing
+  mesh_there a b c x y z t one ea ex eb ey ec ez et = rw (eq-eqb (word_at ws p.head / 2 % 2) 1 one, ← ea, ← eb, ← ec, ← ex, ← ey, ← ez, ← et)
+
+  pub payload_there : (a : ℕ) (r : Option ℕ) → a ≡ word_at ws (p.workgroup + 3) → r ≡ payload_of a → r ≡ (standing ws p).payload
+  unfolding standing
+  payload_there a r ea er = rw (← ea) er
+
+  pub workgroup_there : (a b c x y z : ℕ) → a ≡ word_at ws p.workgroup → x ≡ content_of a → b ≡ word_at ws (p.workgroup + 1) → y ≡ content_of b
+      → c ≡ word_at ws (p.workgroup + 2) → z ≡ content_of c → ◌≡◌ {A = WorkgroupSize} (record { x = x; y = y; z = z }) (standing ws p).workgroup
+  unfolding standing
+  workgroup_there a b c x y z ea ex eb ey ec ez = rw (← ea, ← eb, ← ec, ← ex, ← ey, ← ez)

@@ -79,6 +79,5 @@ pub fn list_out(entry: &EntryPoint<'_>, stage: ShaderStage, walk: InputWalk, out
     ensures { out.new ≡ encode_stage (stage_out stage (meant entry.now) walk out.old) }
 {
     let primitive = primitive_out(stage, walk.primitive_index || entry.summary.primitive);
-    let payload = varying::payload_of(entry.pack[entry.parts.workgroup + 3]);
-    write_out(&entry.outputs(), out, primitive, payload);
+    write_out(&entry.outputs(), out, primitive, entry.payload());
 }

@@ -7,14 +7,12 @@ ghost use Rattle.interface.specs.Inner.Reads.{varying};
 ghost use Rattle.interface.specs.Inner.Listed.{listed};
 ghost use Rattle.output_steps.specs.Inner.Stands.{meant};
 ghost use Rattle.interface.specs.declared.types.Varying.TheVariants as Var;
-ghost use Rattle.interface.specs.Inner.Parts.{Placed};
 ghost use Rattle.output_steps.specs.Inner.Summary.{nothing, summary_of, plus};
 ghost use Rattle.output_steps.specs.Outputs.{location_use, location_uses, count_use, point_part, vertex_outputs, fragment_slots, attachment_use, fragment_outputs, slots_step};
 
 use crate::types::{EntryPoint, Request, Summary};
-use interface::parts::Counts;
 use interface::reads::{built_in_of, varying_width};
-use interface::types::{BuiltIn, EntryParts, Limits, ShaderStage};
+use interface::types::{BuiltIn, Limits, ShaderStage};
 use interface::varyings::Varyings;
 use word::refusal::{Number, Refusal};
 use word::{content, kind};
@@ -104,48 +102,6 @@ pub(crate) fn summary(varyings: &Varyings<'_>) -> Summary
         at += varying_width(w);
     }
     s
-}
-
-impl<'a> EntryPoint<'a> {
-    // The entry point whose parts stand at these positions.
-    pub fn new(pack: &'a [u32], parts: EntryParts) -> Self
-        requires { Placed pack.now parts }
-        ensures { (result.pack.now ≡ pack.now) × (result.parts ≡ parts) }
-    {
-        let outputs = Varyings {
-            pack,
-            from: parts.outputs,
-            n: Counts::of(pack[parts.counts]).outputs,
-        };
-        let summary = summary(&outputs);
-        Self {
-            pack,
-            parts,
-            summary,
-        }
-    }
-
-    // Its inputs.
-    pub fn inputs(&self) -> Varyings<'a>
-        ensures { listed result ≡ (meant self.now).inputs }
-    {
-        Varyings {
-            pack: self.pack,
-            from: self.parts.inputs,
-            n: Counts::of(self.pack[self.parts.counts]).inputs,
-        }
-    }
-
-    // Its outputs.
-    pub(crate) fn outputs(&self) -> Varyings<'a>
-        ensures { listed result ≡ (meant self.now).outputs }
-    {
-        Varyings {
-            pack: self.pack,
-            from: self.parts.outputs,
-            n: Counts::of(self.pack[self.parts.counts]).outputs,
-        }
-    }
 }
 
 // A local variable at or past a location is refused, by its first word.

@@ -1,4 +1,5 @@
 // The resources of an entry point against a layout that is being derived: each gets an entry, or joins the one at its place.
+// The layout is lent for writing, so that it is well formed stays a clause (layouts, at `push_entry`).
 ghost use Rattle.std.specs.Prelude.{◌≡◌, true, ◌&&◌, eqb, ◌<◌, length};
 ghost use Rattle.word.specs.Refusals.{answer_of};
 ghost use Rattle.bindings.specs.Rules.{same_binding};
@@ -126,7 +127,7 @@ fn derive_step(
 fn named_texture(pairs: &[u32], texture: u32) -> bool
     ensures { result ≡ named_texture texture (pairs_of pairs.now) }
 {
-    // not `any`: an iterator over a slice hands on pairs with a pointer, which tools/board/build refuses
+    // not `any`: its functions hand on pairs with a pointer, which tools/board/build refuses
     for w in pairs {
         if *w / 256 % 256 == texture {
             return true;

@@ -53,7 +53,7 @@ fn types_use(texture: u32, sampler: u32) -> Result<(), Number>
     }
 }
 
-// The type word of the entry at a word's place, tried at a position first; where there is none, one that is no texture and no sampler.
+// The type word of the entry at a word's place, tried at a position first; where there is none, one that is no texture and no sampler, as in the definition.
 #[tactic(auto, unfolding(bindings::specs::Format::binding_type_of))]
 fn type_word_at(layout: &LayoutList<'_>, place: u32, near: usize) -> u32
     ensures { WordMeans result (type_at (decode_layout layout.now.words.now) (place_of place)) }

@@ -1,4 +1,5 @@
 // The resources of an entry point against a provided layout: their sizes recorded, and each served by its entry.
+// The sizes are lent for writing, so that they are well formed stays a clause (layouts, at `push_entry`).
 ghost use Rattle.std.specs.Prelude.{◌≡◌, true, ◌<◌, length};
 ghost use Rattle.word.specs.Refusals.{answer_of, number_or_none};
 ghost use Rattle.bindings.specs.Format.{place_of, resource_type_of, resource};

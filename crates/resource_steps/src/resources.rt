@@ -18,8 +18,8 @@ pub(crate) fn place_refusal(number: Number, place: u32) -> Refusal
     binding_refusal(number, place_of(place))
 }
 
-// ---- where the entries of resources stand: positions to try first, which need not be right: 0 does for none too, where an Option would take
-// a second byte of stack for each
+// ---- where the entries of resources stand: positions to try first, which need not be right. Where none is noted it is 0: an Option would
+// only be read as 0
 
 // The position that was noted for the resource of an index.
 pub(crate) fn noted(entries: &[u8; 128], i: u32) -> usize

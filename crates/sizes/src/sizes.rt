@@ -94,7 +94,7 @@ fn raise_word(l: &mut [u32], at: usize, w: u32)
 }
 
 // A size recorded at the place of a word: the larger where the place has a record, else a new one where there is room.
-// Records mostly stand in the order in which they are asked for: the position behind the last is noted and tried first.
+// Records mostly stand in the order in which they are asked for: the position behind the one that was found last is tried first.
 pub fn record_size(s: &mut [u32], place: u32, size: u64, next: &mut usize) -> bool
     requires well_formed { sizes_well_formed s.old ≡ true }
     requires place_and_size { (place_well_formed place ≡ true) × (1 ≤ size) × (size < size_limit) }

@@ -1,14 +1,12 @@
 -- The ways on through the steps behind the resources.
-use Rattle.std.proofs.Common.{Option, Some, None}
 use native.Mathlib.Omega.{arith}
-use Prim.Native.Nat.{ℕ, ◌+◌, ◌-◌, ◌/◌, ◌%◌}
+use Prim.Native.Nat.{ℕ, ◌-◌}
 use mathlib.Core.Path.{◌≡◌, ap, ◌∙◌}
 use mathlib.Core.Bool.{Bool, true, false}
 use mathlib.Core.List.{List}
-use borrow.Author.Tests.{eq-eqb, ne_eqb}
 use lib.ListN.{drop, take, length}
 use Rattle.word.proofs.Tests.{yes_true, yes_false}
-use Rattle.word.specs.Words.{word_at, content_of, bits}
+use Rattle.word.specs.Words.{word_at, bits}
 use Rattle.word.specs.Answers.{accepted}
 use Rattle.word.specs.Refusals.{answer_of, refusal_answer}
 use Rattle.word.specs.declared.refusal.Refusal.{Refusal}
@@ -16,16 +14,13 @@ use Rattle.word.proofs.Both.{refused_ends, passed_on}
 use Rattle.std.proofs.Common.{Result, Ok, Err}
 use Rattle.word.specs.declared.answer.Answer.{Answer}
 use Rattle.bindings.specs.declared.types.Resource.{Resource}
-use Rattle.varying.specs.Format.{payload_of}
 use Rattle.layouts.specs.Meaning.{Layout}
 use Rattle.stage_lists.specs.Meaning.{StageIo}
 use Rattle.interface.specs.declared.types.Varying.{Varying}
 use Rattle.interface.specs.Meaning.{EntryPoint, Interface}
-use Rattle.interface.specs.Format.{topology_at, pairs_of}
+use Rattle.interface.specs.Format.{pairs_of}
 use Rattle.interface.specs.Inner.Reads.{standing}
 use Rattle.interface.specs.Inner.Parts.{Placed}
-use Rattle.interface.specs.declared.types.PrimitiveTopology.{PrimitiveTopology}
-use Rattle.interface.specs.declared.types.WorkgroupSize.{WorkgroupSize}
 use Rattle.interface.specs.declared.types.EntryParts.{EntryParts}
 use Rattle.output_steps.specs.declared.types.Request.{Request}
 use Rattle.input_steps.specs.Workgroup.{workgroup_step}
@@ -55,29 +50,6 @@ module _ (q : Request) (i : Interface) (e : EntryPoint) (inputs : StageIo) (size
 
     pub inputs_went : (v : Unit) (rest : Answer) → met ≡ Ok v → rest ≡ behind_inputs q i.limits e inputs w → rest ≡ behind_pairs q i e inputs
     inputs_went v rest z h = passed_on u size _ _ _ es zs (passed_on v met _ _ _ met_is z (h ∙ ap (behind_inputs q i.limits e inputs) walk_is))
-
--- ---- parts of an entry point that stands at positions
-
-module _ (ws : List ℕ) (p : EntryParts) where
-  pub mesh_absent : (word_at ws p.head / 2 % 2 ≡ 1 → ⊥) → None ≡ (standing ws p).mesh
-  unfolding standing
-  mesh_absent n = rw (ne_eqb (word_at ws p.head / 2 % 2) 1 n)
-
-  pub mesh_there : (a b c x y z : ℕ) (t : PrimitiveTopology) → word_at ws p.head / 2 % 2 ≡ 1
-      → a ≡ word_at ws (p.workgroup + 4) → x ≡ content_of a → b ≡ word_at ws (p.workgroup + 4 + 1) → y ≡ content_of b
-      → c ≡ word_at ws (p.workgroup + 4 + 2) → z ≡ content_of c → t ≡ topology_at z
-      → Some (record { max_vertices = x; max_primitives = y; primitive_topology = t }) ≡ (standing ws p).mesh
-  unfolding standing
-  mesh_there a b c x y z t one ea ex eb ey ec ez et = rw (eq-eqb (word_at ws p.head / 2 % 2) 1 one, ← ea, ← eb, ← ec, ← ex, ← ey, ← ez, ← et)
-
-  pub payload_there : (a : ℕ) (r : Option ℕ) → a ≡ word_at ws (p.workgroup + 3) → r ≡ payload_of a → r ≡ (standing ws p).payload
-  unfolding standing
-  payload_there a r ea er = rw (← ea) er
-
-  pub workgroup_there : (a b c x y z : ℕ) → a ≡ word_at ws p.workgroup → x ≡ content_of a → b ≡ word_at ws (p.workgroup + 1) → y ≡ content_of b
-      → c ≡ word_at ws (p.workgroup + 2) → z ≡ content_of c → ◌≡◌ {A = WorkgroupSize} (record { x = x; y = y; z = z }) (standing ws p).workgroup
-  unfolding standing
-  workgroup_there a b c x y z ea ex eb ey ec ez = rw (← ea, ← eb, ← ec, ← ex, ← ey, ← ez)
 
 -- the pairs of an entry point that stands at positions
 module _ (ws : List ℕ) (p : EntryParts) (w : Placed ws p) where

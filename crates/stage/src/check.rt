@@ -1,4 +1,5 @@
 // A stage check, whole: the pack, the lists and codes of the call, the entry point, and its steps.
+// Layout and sizes are lent for writing, so that they are well formed stays a clause (layouts, at `push_entry`).
 ghost use Rattle.std.specs.Prelude.{◌≡◌, true, ◌&&◌, ◌<◌, ◌≤◌, length};
 ghost use Rattle.word.specs.Refusals.{answer_of};
 ghost use Rattle.layouts.specs.Format.{layout_well_formed, decode_layout};

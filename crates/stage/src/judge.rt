@@ -12,55 +12,17 @@ use crate::types::StageEntry;
 use input_steps::inputs::input_steps;
 use input_steps::types::InputWalk;
 use input_steps::workgroup::workgroup_step;
-use interface::reads::{AcceptedPack, topology_at};
-use interface::types::{EntryPointMeshInfo, ShaderStage, WorkgroupSize};
+use interface::reads::AcceptedPack;
+use interface::types::ShaderStage;
 use last_steps::last::last_step;
 use layouts::layout::LayoutList;
 use output_steps::outputs::slots_step;
-use output_steps::types::{EntryPoint, Request};
+use output_steps::types::Request;
 use resource_steps::pairs::pair_uses;
 use stage_lists::stage_io::StageList;
 use word::refusal::Refusal;
-use word::{content, word};
 
-// The mesh record of an entry point.
-fn mesh_of(point: &EntryPoint<'_>) -> Option<EntryPointMeshInfo>
-    ensures { result ≡ (meant point.now).mesh }
-{
-    let pack = point.pack;
-    if pack[point.parts.head] / 2 % 2 != 1 {
-        return None;
-    }
-    let at = point.parts.workgroup + 4;
-    let info = EntryPointMeshInfo {
-        max_vertices: content(word(pack, at)),
-        max_primitives: content(word(pack, at + 1)),
-        primitive_topology: topology_at(content(word(pack, at + 2))),
-    };
-    Some(info)
-}
-
-// The workgroup size of an entry point.
-fn workgroup_of(point: &EntryPoint<'_>) -> WorkgroupSize
-    ensures { result ≡ (meant point.now).workgroup }
-{
-    let pack = point.pack;
-    let at = point.parts.workgroup;
-    WorkgroupSize {
-        x: content(pack[at]),
-        y: content(pack[at + 1]),
-        z: content(pack[at + 2]),
-    }
-}
-
-// The task payload of an entry point.
-fn payload_of(point: &EntryPoint<'_>) -> Option<u32>
-    ensures { result ≡ (meant point.now).payload }
-{
-    varying::payload_of(point.pack[point.parts.workgroup + 3])
-}
-
-// Places, outputs and what is judged last, once the inputs passed.
+// Slots, outputs and what is judged last, once the inputs passed.
 #[tactic(auto, unfolding(crate::specs::Stage::behind_inputs, last_steps::specs::Last::last_step))]
 fn after_inputs(
     entry: &StageEntry<'_, '_>,
@@ -77,8 +39,8 @@ fn after_inputs(
     last_step(
         request,
         limits,
-        mesh_of(point),
-        payload_of(point),
+        point.mesh(),
+        point.payload(),
         stage_lists::stage_io::payload(inputs.words),
         stage_lists::stage_io::primitive_index(inputs.words),
         walk,
@@ -109,7 +71,7 @@ fn size_step(entry: &StageEntry<'_, '_>, stage: ShaderStage) -> Result<(), Refus
     let pack = AcceptedPack {
         words: entry.point.pack,
     };
-    workgroup_step(stage, workgroup_of(&entry.point), pack.limits())
+    workgroup_step(stage, entry.point.workgroup(), pack.limits())
 }
 
 // All steps behind the pairs: the walk over the inputs, where each of them passed.

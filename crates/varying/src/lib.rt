@@ -8,7 +8,7 @@ ghost use Rattle.varying.specs.Rules.{same_payload};
 use numeric::types::NumericType;
 
 // Interpolation is 0 for none, 4 for per vertex and 1 to 3 for the others; sampling is 0 for none and 1 to 5.
-// Both stay document 01's codes: it names only two of them, and a stage check does no more than compare them.
+// Both stay codes: only 0 and 4 have a name, and a stage check does no more than compare them.
 #[derive(Clone, Copy, Debug, PartialEq, Eq)]
 pub struct InterfaceVar {
     pub ty: NumericType,

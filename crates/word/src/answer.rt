@@ -1,4 +1,4 @@
-// What a check answers: a number of the table of refusals, 0 for acceptance, and three details.
+// What a check answers, as C and the programs are told it: a number of the table of refusals, 0 for acceptance, and three details.
 ghost use Rattle.std.specs.Prelude.{◌≡◌};
 ghost use Rattle.word.specs.Answers.{answer, accepted, refused};
 ghost use Rattle.word.specs.Refusals.{refusal_answer, answer_of, answer_with};

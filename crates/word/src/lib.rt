@@ -21,8 +21,8 @@ pub fn index(s: &[u32], at: usize) -> usize
     word(s, at) as usize
 }
 
-// A word's kind, its bits 31 to 27. Kinds stay numbers: each is compared where a word of it is due, and an enum would be made of every word
-// only to be compared.
+// A word's kind, its bits 31 to 27. Kinds stay numbers: each is tested where a word of it is due, and an enum would be made of every word
+// only to be tested.
 pub fn kind(w: u32) -> u32
     ensures value { result ≡ kind_of w }
     ensures upper_bound { result < 32 }
@@ -46,7 +46,7 @@ pub fn closing_sum(s: &[u32]) -> u32
         return 0;
     };
     let mut total: u32 = 0;
-    // not `fold`: an iterator over a slice hands on pairs with a pointer, which tools/board/build refuses
+    // not `fold`: its functions hand on pairs with a pointer, which tools/board/build refuses
     for w in before {
         total = total.wrapping_add(*w);
     }

@@ -15,9 +15,9 @@ write_out-requires-clause-room c = search outputs_room
 
 pub returns : goal.returns
 returns c =
-    list_out c.args.entry.now.pack.now c.args.entry.now.parts _ c.outputs.ensures c.args.stage c.args.walk c.args.entry.now.summary c.if-walk.primitive_out _ _ _ _ _ (search rules)
+    list_out c.args.entry.now.pack.now c.args.entry.now.parts _ c.outputs.ensures c.args.stage c.args.walk c.args.entry.now.summary c.if-walk.primitive_out _ _ _ _ (search rules)
     (elim c.if-walk.branch [
       | then-walk w ↦ rw (w.primitive_out-is, w.if-walk.true) refl
       | else-walk w ↦ rw (w.primitive_out-is, w.if-walk.false) refl
     ])
-    c.primitive_out-primitive.ensures refl c.payload_of-payload.ensures c.write_out.ensures
+    c.primitive_out-primitive.ensures c.payload.ensures c.write_out.ensures
