@@ -34,33 +34,3 @@ module _ (x y z total : ℕ) where
   over_two n h = sym (lt-ltb total (x * y * z) (lt_of_lt_of_le h (le-mul_of_pos_right (x * y) (omega arith))))
 
 module _ (x y z : ℕ) where
-  pub zero_first : x ≡ 0 → true ≡ eqb (x * y * z) 0
-  zero_first e = rw (e, zero-mul y, zero-mul z)
-
-  pub zero_second : y ≡ 0 → true ≡ eqb (x * y * z) 0
-  zero_second e = rw (e, mul-zero x, zero-mul z)
-
-  pub zero_third : (x ≡ 0 → ⊥) → (y ≡ 0 → ⊥) → eqb z 0 ≡ eqb (x * y * z) 0
-  zero_third n m = go (eqb z 0) refl
-    where
-      go : (b : Bool) → eqb z 0 ≡ b → b ≡ eqb (x * y * z) 0
-      go true e = rw (eqb-true z 0 e, mul-zero (x * y))
-      go false e =
-          let k : z ≡ 0 → ⊥ = eqb-false z 0 e in
-          let p : 0 < x * y * z = mul-pos (mul-pos (omega arith) (omega arith)) (omega arith) in
-          sym (ne_eqb (x * y * z) 0 (λ q. omega arith))
-
-module _ (size : WorkgroupSize) (x y z total : ℕ) (a : Answer) (large : Bool)
-    (e : large ≡ (ltb x size.x || (ltb y size.y || (ltb z size.z || ltb total (size.x * size.y * size.z))))) where
-  pub use_large : large ≡ true → a ≡ answer 40 size.x size.y size.z → a ≡ workgroup_use size x y z total
-  unfolding workgroup_use
-  use_large t h = rw (← e, t) h
-
-  module _ (none : Bool) (f : none ≡ eqb (size.x * size.y * size.z) 0) (l : large ≡ false) where
-    pub use_zero : none ≡ true → a ≡ answer 41 size.x size.y size.z → a ≡ workgroup_use size x y z total
-    unfolding workgroup_use
-    use_zero t h = rw (← e, l, ← f, t) h
-
-    pub use_good : none ≡ false → a ≡ accepted → a ≡ workgroup_use size x y z total
-    unfolding workgroup_use
-    use_good t h = rw (← e, l, ← f, t) h

@@ -28,81 +28,78 @@ pub(crate) fn product_over(x: u32, y: u32, z: u32, total: u32) -> bool
 }
 
 // Whether a dimension or the product is above its limit.
-fn too_large(size: WorkgroupSize, x: u32, y: u32, z: u32, total: u32) -> bool
-    ensures { result ≡ (ltb x size.x || (ltb y size.y || (ltb z size.z || ltb total (size.x * size.y * size.z)))) }
+fn too_large(size: WorkgroupSize, most: WorkgroupSize, total: u32) -> bool
+    ensures { result ≡ (ltb most.x size.x || (ltb most.y size.y || (ltb most.z size.z || ltb total (size.x * size.y * size.z)))) }
 {
-    x < size.x || y < size.y || z < size.z || product_over(size.x, size.y, size.z, total)
+    most.x < size.x
+        || most.y < size.y
+        || most.z < size.z
+        || product_over(size.x, size.y, size.z, total)
 }
 
 // Whether the whole product is zero.
-fn product_zero(x: u32, y: u32, z: u32) -> bool
-    ensures { result ≡ eqb (x * y * z) 0 }
+fn product_zero(size: WorkgroupSize) -> bool
+    ensures { result ≡ eqb (size.x * size.y * size.z) 0 }
 {
-    x == 0 || y == 0 || z == 0
+    size.x == 0 || size.y == 0 || size.z == 0
 }
 
-// Three dimensions against limits: 40 where one or the product is too large, then 41 where one is zero.
+// Three dimensions against the most of each and of their product: 40 where one is too large, then 41 where one is zero.
 #[tactic(auto, unfolding(crate::specs::Workgroup::workgroup_use))]
-fn dimensions_use(dimensions: &[u32], x: u32, y: u32, z: u32, total: u32) -> Result<(), Refusal>
+fn dimensions_use(dimensions: &[u32], most: WorkgroupSize, total: u32) -> Result<(), Refusal>
     requires { length dimensions.now ≡ 3 }
-    ensures { answer_of result ≡ workgroup_use (size_of dimensions.now) x y z total }
+    ensures { answer_of result ≡ workgroup_use (size_of dimensions.now) most.x most.y most.z total }
 {
     let size = WorkgroupSize {
         x: dimensions[0],
         y: dimensions[1],
         z: dimensions[2],
     };
-    if too_large(size, x, y, z, total) {
+    if too_large(size, most, total) {
         return Err(Refusal::new(Number::WorkgroupTooLarge, size.x, size.y, size.z));
     }
-    if product_zero(size.x, size.y, size.z) {
+    if product_zero(size) {
         return Err(Refusal::new(Number::WorkgroupZero, size.x, size.y, size.z));
     }
     Ok(())
 }
 
-// The check taken apart, against the limits on its dimensions: the project asks for a check that keeps a reference to what it judges.
-fn check_size<'a>(check: WorkgroupSizeCheck<'a>, x: u32, y: u32, z: u32) -> Result<(), Refusal>
+// The check taken apart: the project asks for one that keeps a reference to the dimensions it judges.
+fn check_size<'a>(check: WorkgroupSizeCheck<'a>, most: WorkgroupSize) -> Result<(), Refusal>
     requires { length check.dimensions.now ≡ 3 }
-    ensures { answer_of result ≡ workgroup_use (size_of check.entry.dimensions.now) x y z check.entry.total_limit }
+    ensures { answer_of result ≡ workgroup_use (size_of check.entry.dimensions.now) most.x most.y most.z check.entry.total_limit }
 {
-    dimensions_use(check.dimensions, x, y, z, check.total_limit)
+    dimensions_use(check.dimensions, most, check.total_limit)
 }
 
 // The check of three dimensions.
 fn check_dimensions(
     dimensions: &[u32],
-    x: u32,
-    y: u32,
-    z: u32,
+    most: WorkgroupSize,
     total_limit: u32,
 ) -> Result<(), Refusal>
     requires { length dimensions.now ≡ 3 }
-    ensures { answer_of result ≡ workgroup_use (size_of dimensions.now) x y z total_limit }
+    ensures { answer_of result ≡ workgroup_use (size_of dimensions.now) most.x most.y most.z total_limit }
 {
     check_size(
         WorkgroupSizeCheck {
             dimensions,
             total_limit,
         },
-        x,
-        y,
-        z,
+        most,
     )
 }
 
-// The size of a workgroup against limits.
+// The size of a workgroup against the most of each dimension and of their product.
 pub(crate) fn workgroup_use(
     size: WorkgroupSize,
-    x: u32,
-    y: u32,
-    z: u32,
+    most: WorkgroupSize,
     total: u32,
 ) -> Result<(), Refusal>
-    ensures { answer_of result ≡ workgroup_use size x y z total }
+    ensures { answer_of result ≡ workgroup_use size most.x most.y most.z total }
 {
     let dimensions = [size.x, size.y, size.z];
-    check_dimensions(&dimensions, x, y, z, total)
+    check_dimensions(&dimensions, most, total)
 }
 
 // The workgroup of a compute, task or mesh stage.
@@ -116,26 +113,32 @@ pub fn workgroup_step(
 {
     match stage {
         ShaderStage::Vertex | ShaderStage::Fragment => Ok(()),
-        ShaderStage::Compute => workgroup_use(
-            size,
-            limits.max_compute_workgroup_size_x,
-            limits.max_compute_workgroup_size_y,
-            limits.max_compute_workgroup_size_z,
-            limits.max_compute_invocations_per_workgroup,
-        ),
-        ShaderStage::Task => workgroup_use(
-            size,
-            limits.max_task_invocations_per_dimension,
-            limits.max_task_invocations_per_dimension,
-            limits.max_task_invocations_per_dimension,
-            limits.max_task_invocations_per_workgroup,
-        ),
-        ShaderStage::Mesh => workgroup_use(
-            size,
-            limits.max_mesh_invocations_per_dimension,
-            limits.max_mesh_invocations_per_dimension,
-            limits.max_mesh_invocations_per_dimension,
-            limits.max_mesh_invocations_per_workgroup,
-        ),
+        ShaderStage::Compute => {
+            let most = WorkgroupSize {
+                x: limits.max_compute_workgroup_size_x,
+                y: limits.max_compute_workgroup_size_y,
+                z: limits.max_compute_workgroup_size_z,
+            };
+            workgroup_use(size, most, limits.max_compute_invocations_per_workgroup)
+        }
+        ShaderStage::Task => {
+            let most = alike(limits.max_task_invocations_per_dimension);
+            workgroup_use(size, most, limits.max_task_invocations_per_workgroup)
+        }
+        ShaderStage::Mesh => {
+            let most = alike(limits.max_mesh_invocations_per_dimension);
+            workgroup_use(size, most, limits.max_mesh_invocations_per_workgroup)
+        }
+    }
+}
+
+// The same limit on each dimension.
+fn alike(most: u32) -> WorkgroupSize
+    ensures { (result.x ≡ most) × (result.y ≡ most) × (result.z ≡ most) }
+{
+    WorkgroupSize {
+        x: most,
+        y: most,
+        z: most,
     }
 }
