@@ -1,18 +1,14 @@
 -- Products of workgroup dimensions, exact.
 use Prim.Native.Nat.{ℕ, ◌+◌, ◌*◌, ◌^◌, ◌<◌, ◌≤◌}
-use native.Mathlib.Nat.{le_of_lt, lt_of_le_of_lt, lt_of_lt_of_le, mul-le-mul_left, mul-lt-mul_of_pos_right, le-mul_of_pos_right, mul-zero, zero-mul, mul-pos}
+use native.Mathlib.Nat.{le_of_lt, lt_of_le_of_lt, lt_of_lt_of_le, mul-le-mul_left, mul-lt-mul_of_pos_right, le-mul_of_pos_right, mul-zero}
 use native.Mathlib.Omega.{arith}
-use mathlib.Core.Path.{◌≡◌, refl, sym, subst⁻¹}
-use mathlib.Core.Bool.{Bool, true, false, ◌||◌}
-use lib.Dec.{eqb, ltb}
+use mathlib.Core.Path.{◌≡◌, sym, subst⁻¹}
+use mathlib.Core.Bool.{true, false}
+use lib.Dec.{ltb}
 use lib.Pow.{pow_pos, pow-add}
 use mir.Syntax.{w64}
 use mir.Val.{Fits}
-use borrow.Author.Tests.{eqb-true, eqb-false, ne_eqb, lt-ltb, le-ltb}
-use Rattle.word.specs.Answers.{answer, accepted}
-use Rattle.word.specs.declared.answer.Answer.{Answer}
-use Rattle.interface.specs.declared.types.WorkgroupSize.{WorkgroupSize}
-use Rattle.input_steps.specs.Workgroup.{workgroup_use}
+use borrow.Author.Tests.{lt-ltb, le-ltb}
 
 below : (k : ℕ) {a b : ℕ} → a < 2 ^ k → b < 2 ^ k → a * b < 2 ^ (k + k)
 below k {a} {b} ha hb =
@@ -32,5 +28,3 @@ module _ (x y z total : ℕ) where
 
   pub over_two : (z ≡ 0 → ⊥) → total < x * y → true ≡ ltb total (x * y * z)
   over_two n h = sym (lt-ltb total (x * y * z) (lt_of_lt_of_le h (le-mul_of_pos_right (x * y) (omega arith))))
-
-module _ (x y z : ℕ) where
