@@ -1,4 +1,5 @@
-// How words carry layout entries.
+// How words carry layout entries. What a word means is read by functions and no `From`: each takes the bits that are due, whatever the word's
+// kind.
 ghost use Rattle.std.specs.Prelude.{◌≡◌, ◌^◌, ◌<◌, true, ◌&&◌, ◌||◌, ◌==◌, nat_lt};
 ghost use Rattle.word.specs.Words.{kind_of, content_of};
 ghost use Rattle.bindings.specs.Format.{place_encodable, is_buffer_word, view_at, sample_at, access_at, sampler_at, buffer_at, fields_well_formed, binding_type_well_formed, binding_type_of, entry_well_formed, entry_of, entry_well_formed_at, entry_at};

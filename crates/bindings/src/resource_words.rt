@@ -1,4 +1,5 @@
-// How words carry places and resources.
+// How words carry places and resources. What a word means is read by functions and no `From`: each takes the bits that are due, whatever the
+// word's kind.
 ghost use Rattle.std.specs.Prelude.{◌≡◌, ◌^◌, ◌<◌, ◌≤◌, true, length, drop, IfSome};
 ghost use Rattle.word.specs.Choice.{pick};
 ghost use Rattle.word.specs.Parse.{one, from, behind, rest_of};

@@ -84,7 +84,7 @@ fn limit(pack: &[u32], at: usize) -> u32
     content(pack[at])
 }
 
-// The position that a table has at an index.
+// The position that a table has at an index. Tables of positions are lent beside the pack, since there is no heap.
 pub fn position_at(table: &[u16], index: usize) -> u16
     requires { index < length table.now }
     ensures { result ≡ word_at table.now index }

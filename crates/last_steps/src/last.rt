@@ -8,6 +8,7 @@ ghost use Rattle.last_steps.specs.Last.{value_use, mesh_use, payload_use, payloa
 use input_steps::types::InputWalk;
 use interface::types::{EntryPointMeshInfo, Limits, ShaderStage};
 use output_steps::types::Request;
+use varying::same_payload;
 use word::refusal::{Number, Refusal};
 
 // A value against its limit.
@@ -59,7 +60,7 @@ pub(crate) fn payload_use(limit: u32, payload: Option<u32>) -> Result<(), Refusa
 }
 
 // A mesh stage has the payload of the stage before it; one of 0 bytes is not an absent one.
-#[tactic(auto, unfolding(crate::specs::Last::payload_match, varying::specs::Rules::same_payload))]
+#[tactic(auto, unfolding(crate::specs::Last::payload_match))]
 pub(crate) fn payload_match(
     stage: ShaderStage,
     shader: Option<u32>,
@@ -69,7 +70,7 @@ pub(crate) fn payload_match(
 {
     match stage {
         ShaderStage::Mesh => {
-            if shader != input {
+            if !same_payload(shader, input) {
                 return Err(Refusal::plain(Number::PayloadMismatch));
             }
             Ok(())

@@ -54,7 +54,7 @@ pub fn type_well_formed(w: u32) -> bool
     w % 16 < 13 && width_known(w / 64 % 16)
 }
 
-// The type that a word holds.
+// The type that a word holds. No `From`: it takes the bits that are due, whatever the word's kind.
 pub fn type_of(w: u32) -> NumericType
     ensures { result ≡ type_of w }
 {

@@ -22,7 +22,7 @@ mod run;
 mod text;
 mod words;
 
-// The line of a refused pack.
+// The line of a refused pack: the text has 9 in place of a stage's code.
 fn refused_text(number: Number) -> Text
     ensures { result.items ≡ refused_pack (number_of number) }
 {

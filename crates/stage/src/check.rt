@@ -30,7 +30,8 @@ use sizes::sizes::sizes_well_formed;
 use stage_lists::stage_io::{StageList, stage_well_formed};
 use word::refusal::{Number, Refusal};
 
-// The resources of an entry point against the layout and the sizes.
+// The resources of an entry point against the layout and the sizes. The two modes' steps write different lists, so they are no one function's
+// parameter.
 fn check_resources(
     entry: &StageEntry<'_, '_>,
     entries: &mut [u8; 128],

@@ -51,7 +51,7 @@ pub fn var_good(w: u32, good: u32) -> bool
     w == good || var_well_formed(w)
 }
 
-// The variable that a word holds.
+// The variable that a word holds. No `From`: it takes the bits that are due, whatever the word's kind.
 pub fn var_of(w: u32) -> InterfaceVar
     ensures { result ≡ var_of w }
 {
@@ -76,7 +76,7 @@ pub fn payload_well_formed(w: u32) -> bool
     w % 0x400_0000 == 0
 }
 
-// The payload that a word holds.
+// The payload that a word holds. No `From`, as above.
 pub fn payload_of(w: u32) -> Option<u32>
     ensures { result ≡ payload_of w }
 {
