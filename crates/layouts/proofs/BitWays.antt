@@ -1,5 +1,5 @@
 -- The code's ways through the bits of a visibility.
-use Prim.Native.Nat.{ℕ, ◌+◌, ◌*◌, ◌/◌, ◌%◌, ◌^◌, ◌≤◌}
+use Prim.Native.Nat.{ℕ, ◌+◌, ◌*◌, ◌/◌, ◌%◌, ◌^◌, ◌<◌, ◌≤◌}
 use native.Mathlib.Omega.{arith}
 use mathlib.Core.Path.{◌≡◌, sym, ◌∙◌}
 use mathlib.Core.Bool.{Bool, true, false}
@@ -7,12 +7,15 @@ use lib.Pow.{pow_mono}
 use borrow.Author.Tests.{eqb-true, eqb-false, eq-eqb, ne_eqb}
 use Rattle.layouts.specs.Meaning.{sees_bit, join_bit}
 
-module _ (stage : ℕ) (h : stage ≤ 4) where
-  pub bit_small : 1 * 2 ^ stage % 2 ^ 32 ≤ 16
-  bit_small = omega (arith, pow_mono h)
+module _ (stage code : ℕ) (h : code < 5) where
+  code_low : code ≤ 4
+  code_low = omega arith
 
-  pub bit_is : 1 * 2 ^ stage % 2 ^ 32 ≡ 2 ^ stage
-  bit_is = omega (arith, pow_mono h)
+  pub bit_small : 1 * 2 ^ code % 2 ^ 32 ≤ 16
+  bit_small = omega (arith, pow_mono code_low)
+
+  pub bit_is : code ≡ stage → 1 * 2 ^ code % 2 ^ 32 ≡ 2 ^ stage
+  bit_is e = rw (← e) (omega (arith, pow_mono code_low))
 
 module _ (stage v : ℕ) (b : Bool) (e : b ≡ sees_bit stage v) where
   pub join_seen : b ≡ true → v ≡ join_bit stage v

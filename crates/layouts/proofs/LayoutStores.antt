@@ -217,8 +217,8 @@ module _ (l : List ℕ) (i s c v : ℕ) (f : layout_well_formed l ≡ true) (h :
   pub join_stored : set l (1 + 4 * i + 3) (0x98000000 + v) ≡ encode_layout (joined s (decode_layout l) i)
   join_stored = rw (ev, ec, ex) (joined_words l i s f h)
 
-  pub join_decoded : s ≤ 4 → decode_layout (set l (1 + 4 * i + 3) (0x98000000 + v)) ≡ joined s (decode_layout l) i
-  join_decoded hs = rw join_stored (decode_encode (joined s (decode_layout l) i) (good_joined (decode_layout l) (good_decode l f) s i hs h))
+  pub join_decoded : s < 5 → decode_layout (set l (1 + 4 * i + 3) (0x98000000 + v)) ≡ joined s (decode_layout l) i
+  join_decoded hs = rw join_stored (decode_encode (joined s (decode_layout l) i) (good_joined (decode_layout l) (good_decode l f) s i (omega arith) h))
 
-  pub join_well_formed : s ≤ 4 → layout_well_formed (set l (1 + 4 * i + 3) (0x98000000 + v)) ≡ true
-  join_well_formed hs = rw join_stored (well_formed_encode (joined s (decode_layout l) i) (good_joined (decode_layout l) (good_decode l f) s i hs h))
+  pub join_well_formed : s < 5 → layout_well_formed (set l (1 + 4 * i + 3) (0x98000000 + v)) ≡ true
+  join_well_formed hs = rw join_stored (well_formed_encode (joined s (decode_layout l) i) (good_joined (decode_layout l) (good_decode l f) s i (omega arith) h))

@@ -3,6 +3,7 @@ ghost use Rattle.std.specs.Prelude.{◌≡◌, true, false, ◌+◌, ◌*◌, �
 ghost use Rattle.word.specs.Choice.{pick};
 ghost use Rattle.word.specs.Words.{word_at, of_kind};
 ghost use Rattle.bindings.specs.Format.{place_of, place_word, size_limit, binding_type_of, binding_code, least_size_of, entry_width, parts_well_formed, entry_of_parts};
+ghost use Rattle.interface.specs.Format.{stage_code};
 ghost use Rattle.layouts.specs.Meaning.{find_entry, entry_has, entry_nth, room_for_entry, pushed, joined};
 ghost use Rattle.places.specs.Places.{found_below};
 ghost use Rattle.places.specs.Records.{each};
@@ -11,6 +12,7 @@ ghost use Rattle.layouts.specs.Format.{entry_good, entry_fits, layout_head, layo
 use crate::visibility::join_bit;
 use bindings::entry_words::words_well_formed;
 use bindings::sizes::{size_at, size_word};
+use interface::types::ShaderStage;
 use places::heads::{counted, short_enough};
 use places::places::Records;
 use places::stores::push_record;
@@ -182,11 +184,11 @@ pub fn push_entry(l: &mut [u32], place: u32, ty: u32, least: u64, visibility: u3
 }
 
 // A stage's bit joined to the visibility of the entry at a position.
-pub fn join_visibility(l: &mut [u32], index: usize, stage: u32)
+pub fn join_visibility(l: &mut [u32], index: usize, stage: ShaderStage)
     requires well_formed { layout_well_formed l.old ≡ true }
-    requires index_in_bounds { (index < length (decode_layout l.old).entries) × (stage ≤ 4) }
-    ensures encoded { l.new ≡ encode_layout (joined stage (decode_layout l.old) index) }
-    ensures decoded { decode_layout l.new ≡ joined stage (decode_layout l.old) index }
+    requires index_in_bounds { index < length (decode_layout l.old).entries }
+    ensures encoded { l.new ≡ encode_layout (joined (stage_code stage) (decode_layout l.old) index) }
+    ensures decoded { decode_layout l.new ≡ joined (stage_code stage) (decode_layout l.old) index }
     ensures still_well_formed { layout_well_formed l.new ≡ true }
 {
     let at = 1 + ENTRY_WIDTH * index + 3;

@@ -99,11 +99,11 @@ module _ (place ty least p v : ℕ) (b : BindingType) (t : TypeWords ty least b)
   pub new_lacks : (L : Layout) → find_entry (place_of place) L ≡ None → entry_has parts.bind L.entries ≡ false
   new_lacks L n = rw new_mean (none_there (place_of place) L n)
 
-  module _ (stage : ShaderStage) (c : ℕ) (ec : c ≡ stage_code stage) (ev : v ≡ 2 ^ c) (L M : Layout) (a : Answer) (k : Bool) (q : k ≡ room_for_entry L)
+  module _ (stage : ShaderStage) (ev : v ≡ 2 ^ stage_code stage) (L M : Layout) (a : Answer) (k : Bool) (q : k ≡ room_for_entry L)
       (m : M ≡ pick k (pushed L parts) L) where
     pub vacant_pushed : not k ≡ false → a ≡ accepted → layout_after a M ≡ vacant stage (place_of place) b L
     unfolding vacant
-    vacant_pushed y h = rw (← q, ← ec, ← ev, m, not-false k y, new_mean, h)
+    vacant_pushed y h = rw (← q, ← ev, m, not-false k y, new_mean, h)
 
 -- ---- one resource
 

@@ -14,7 +14,6 @@ ghost use Rattle.resource_steps.specs.Resources.{resource_nth, layout_after, occ
 use crate::resources::place_refusal;
 use crate::table::Resources;
 use crate::types::{EntryType, ResourceWords, Stopped};
-use interface::reads::stage_code;
 use interface::types::ShaderStage;
 use layouts::layout::{LayoutList, group_count, join_visibility, push_entry};
 use layouts::visibility::stage_bit;
@@ -48,7 +47,7 @@ fn occupied(
     if !same_type(&LayoutList { words: &*layout }, index, ty) {
         return Err(place_refusal(Number::InconsistentlyDerivedType, place));
     }
-    join_visibility(layout, index, stage_code(stage));
+    join_visibility(layout, index, stage);
     Ok(())
 }
 
@@ -62,7 +61,7 @@ fn vacant(stage: ShaderStage, place: u32, ty: EntryType, layout: &mut [u32]) -> 
         ≡ vacant stage (place_of place) (binding_type_of ty.word ty.least) (decode_layout layout.old) }
     ensures well_formed_after { layout_well_formed layout.new ≡ true }
 {
-    let visibility = 0x9800_0000 + stage_bit(stage_code(stage));
+    let visibility = 0x9800_0000 + stage_bit(stage);
     let pushed = push_entry(
         layout,
         0x2000_0000 + content(place),

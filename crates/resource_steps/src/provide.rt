@@ -15,7 +15,6 @@ ghost use Rattle.resource_steps.specs.Resources.{resource_nth, sizes_after, reco
 use crate::resources::{note, noted, place_refusal};
 use crate::table::Resources;
 use crate::types::{ResourceWords, Stopped};
-use interface::reads::stage_code;
 use interface::types::ShaderStage;
 use layouts::layout::LayoutList;
 use layouts::visibility::sees;
@@ -53,7 +52,7 @@ fn entry_use(
     ensures { number_or_none result
         ≡ entry_use stage (resource_type_of words.ty words.size) (entry_nth (decode_layout layout.now.words.now).entries index) }
 {
-    if !sees(layout.entry_visibility(index), stage_code(stage)) {
+    if !sees(layout.entry_visibility(index), stage) {
         return Err(Number::Invisible);
     }
     let ty = layout.entry_type(index);

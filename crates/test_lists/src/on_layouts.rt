@@ -5,6 +5,7 @@ use bindings::entry_words::{binding_type_of, words_well_formed};
 use bindings::resource_words::place_of;
 use bindings::sizes::word_size;
 use bindings::types::BindGroupLayoutEntry;
+use interface::reads::stage_at;
 use layouts::layout::{LayoutList, group_count, join_visibility, layout_well_formed, push_entry};
 use layouts::visibility::sees;
 use places::heads::counted;
@@ -19,7 +20,7 @@ fn show(rt: &impl Print, e: BindGroupLayoutEntry) -> io::Result<()> {
     print::number(rt, binding_code(ty))?;
     print::number(rt, least_size(ty))?;
     for stage in 0..5 {
-        print::yes_no(rt, sees(e.visibility, stage))?;
+        print::yes_no(rt, sees(e.visibility, stage_at(stage)))?;
     }
     Ok(())
 }
@@ -67,7 +68,7 @@ pub(crate) fn join(rt: &impl Print, l: &mut [u32], place: u32, stage: u32) -> io
     let found = LayoutList { words: &*l }.find_entry_word(place);
     match found {
         Some(index) => {
-            join_visibility(l, index, stage);
+            join_visibility(l, index, stage_at(stage));
             print::number(rt, index as u64)
         }
         None => print::nothing(rt),

@@ -1,3 +1,4 @@
+use Rattle.interface.proofs.EncodeEntry.{stage_below}
 use Rattle.layouts.proofs.LayoutStores.{entry_scaled, entry_placed, word_placed, word_bytes, word_inside, join_stored, join_decoded, join_well_formed}
 use borrow.Author.Rules.{rules}
 use Rattle.layouts.proofs.layout.join_visibility.Goals as goal
@@ -21,7 +22,7 @@ pub returns-clause-encoded : goal.returns-clause-encoded
 returns-clause-encoded c = search join_stored
 
 pub returns-clause-decoded : goal.returns-clause-decoded
-returns-clause-decoded c = search join_decoded
+returns-clause-decoded c = search (join_decoded, stage_below)
 
 pub returns-clause-still_well_formed : goal.returns-clause-still_well_formed
-returns-clause-still_well_formed c = search join_well_formed
+returns-clause-still_well_formed c = search (join_well_formed, stage_below)
