@@ -1,14 +1,13 @@
 -- The code's steps through the words of a pack.
-use Rattle.std.proofs.Common.{◌≡◌, ℕ, zero, suc, ◌+◌, ◌-◌, ◌<◌, ◌≤◌, ◌⊎◌, Bool, true, false, not, ◌&&◌, Option, Some, None, List, [], ◌∷◌, length, get_or, take, drop, sym, refl, ap, ◌∙◌, add-one, arith, length-drop, drop-drop, take_all, ne_eqb}
+use Rattle.std.proofs.Common.{◌≡◌, ℕ, zero, suc, ◌+◌, ◌-◌, ◌<◌, ◌≤◌, ◌⊎◌, Bool, true, false, not, ◌&&◌, Option, Some, None, List, [], ◌∷◌, length, get_or, take, drop, sym, refl, ap, ◌∙◌, add-one, arith, length-drop, drop-drop, take_all}
 use Rattle.std.specs.List.{list_all, slice_range}
 use Rattle.std.specs.Bool.{then_some}
 use borrow.Author.Tests.{not-true, not-false}
 use Rattle.word.specs.Choice.{pick}
-use Rattle.word.specs.Words.{word_at, kind_of}
+use Rattle.word.specs.Words.{word_at}
 use Rattle.word.specs.Parse.{one, several, Rest, nowhere, from, behind, rest_of}
 use Rattle.word.proofs.Parse.{first_of, others_of, one_in}
 use Rattle.word.proofs.Rests.{words_past, words_tested}
-use Rattle.interface.specs.Format.{of_word}
 use Rattle.entry_check.specs.Inner.Walks.{onward, word}
 
 pub none_behind : (ws : List ℕ) (r : Option ℕ) (goal : Rest) → r ≡ None → nowhere ≡ goal → rest_of ws r ≡ goal
@@ -68,9 +67,6 @@ all_stop test ws words start n i w p h k t = words_all test ws words start n fal
 pub all_ended : (test : ℕ → Bool) (ws words : List ℕ) (start n i : ℕ) → Part ws words start (start + n)
     → list_all test (take i words) ≡ true → length words ≤ i → from (drop (start + n) ws) ≡ behind (several n (one test) (drop start ws))
 all_ended test ws words start n i p e h = words_all test ws words start n true (Some (start + n)) (sym (rw (take_all i words h) at e)) p refl
-
-pub other_kind : (n w k : ℕ) → k ≡ kind_of w → (k ≡ n → ⊥) → of_word n w ≡ false
-other_kind n w k e h = rw (← e) (ne_eqb k n h)
 
 -- ---- a step from one record to the next
 

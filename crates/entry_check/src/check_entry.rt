@@ -1,5 +1,5 @@
 // An entry point: its words in order, each of its lists, and the sampling pairs among its resources.
-ghost use Rattle.std.specs.Prelude.{◌≡◌, ◌+◌, ◌<◌, ◌≤◌, length, take, drop, IfSome, slice_index_or};
+ghost use Rattle.std.specs.Prelude.{◌≡◌, ℕ, Bool, ◌+◌, ◌^◌, ◌<◌, ◌≤◌, length, take, drop, IfSome, slice_index_or};
 ghost use Rattle.std.specs.Bool.{then_some};
 ghost use Rattle.word.specs.Words.{content_of};
 ghost use Rattle.word.specs.Parse.{one, several, behind, rest_of};
@@ -37,21 +37,32 @@ fn counts_well_formed(w: u32) -> bool
     word::kind(w) == 15 && w / 0x100_0000 % 8 == 0
 }
 
-// The position behind so many words of a kind.
-fn kinds_next(body: &[u32], from: usize, n: u32, kind: u32) -> Option<usize>
-    requires { from ≤ length body.now }
-    ensures rest { rest_of body.now result ≡ behind (several n (one (of_word kind)) (drop from body.now)) }
+// The position behind so many words that pass a test.
+fn words_next<F: Fn(u32) -> bool>(body: &[u32], from: usize, n: u32, test: F) -> Option<usize>
+    requires in_bounds { from ≤ length body.now }
+    requires callable { F.IsAlwaysCallable test }
+    ensures rest { (passes : ℕ → Bool) → ((w : ℕ) (b : Bool) → w < 2 ^ 32 → F.post test w b → b ≡ passes w)
+        → rest_of body.now result ≡ behind (several n (one passes) (drop from body.now)) }
     ensures end { IfSome result (λ next. (next ≤ length body.now) × (next ≡ from + n)) }
 {
     let end = from + n as usize;
     let words = body.get(from..end)?;
     // not `all`: an iterator over a slice hands on pairs with a pointer, which tools/board/build refuses
     for w in words {
-        if word::kind(*w) != kind {
+        if !test(*w) {
             return None;
         }
     }
     Some(end)
+}
+
+// The position behind so many words of a kind.
+pub fn kinds_next(body: &[u32], from: usize, n: u32, kind: u32) -> Option<usize>
+    requires { from ≤ length body.now }
+    ensures rest { rest_of body.now result ≡ behind (several n (one (of_word kind)) (drop from body.now)) }
+    ensures end { IfSome result (λ next. (next ≤ length body.now) × (next ≡ from + n)) }
+{
+    words_next(body, from, n, |w| word::kind(w) == kind)
 }
 
 fn workgroup_next(body: &[u32], at: usize) -> Option<usize>
@@ -105,15 +116,7 @@ fn pairs_next(body: &[u32], from: usize, n: u32, table: &[Role; 128]) -> Option<
     ensures rest { rest_of body.now result ≡ behind (several n (one (pair_by_roles table.now)) (drop from body.now)) }
     ensures end { IfSome result (λ next. next ≤ length body.now) }
 {
-    let end = from + n as usize;
-    let words = body.get(from..end)?;
-    // not `all`: an iterator over a slice hands on pairs with a pointer, which tools/board/build refuses
-    for w in words {
-        if !pair_well_formed(*w, table) {
-            return None;
-        }
-    }
-    Some(end)
+    words_next(body, from, n, |w| pair_well_formed(w, table))
 }
 
 // The index that a word of kind 5 holds, if it is below a count.
@@ -121,7 +124,8 @@ fn index_of(w: u32, count: u32) -> Option<usize>
     requires { count ≤ 128 }
     ensures { result ≡ then_some (index_well_formed count w) (content_of w) }
 {
-    // less the kind at once: kind and content tested apart take up to 2.6 % more cycles of a check
+    // One subtraction takes kind 5 off: a lower kind leaves nothing, and a higher one more than any count.
+    // To test kind and content apart takes up to 2.6 % more cycles of a check.
     let index = w.checked_sub(0x2800_0000)?;
     (index < count).then_some(index as usize)
 }

@@ -11,7 +11,8 @@ fn built_in_well_formed(w: u32, codes: u32) -> bool
     w / 0x100 % 0x1_0000 == 0 && w / 0x100_0000 % 8 < codes && word::kind(w) == 14
 }
 
-// The position behind so many varyings. Where the codes are below 5, one of them may be clip distances; where below 4, none.
+// The position behind so many varyings, whose built-ins have codes below a number. Clip distances have code 4:
+// among outputs (codes below 5) they may stand once, and among inputs (codes below 4) never.
 pub(crate) fn varyings_next(body: &[u32], from: usize, n: u32, codes: u32) -> Option<usize>
     requires { (from ≤ length body.now) × (4 ≤ codes) × (codes ≤ 5) }
     ensures rest { rest_of body.now result ≡ varyings_behind n codes (drop from body.now) }

@@ -1,21 +1,20 @@
 -- The code's ways through a pack.
 use Rattle.std.proofs.lemmas.Bool.{or_parts}
 use Prim.Native.Nat.{ℕ, ◌-◌, ◌%◌, ◌<◌, ◌≤◌}
-use Rattle.std.proofs.Common.{◌⊎◌}
 use native.Mathlib.Omega.{arith}
 use mathlib.Core.Path.{◌≡◌, refl, sym, ◌∙◌}
 use mathlib.Core.Bool.{Bool, true, false, not, ◌&&◌}
 use mathlib.Core.List.{List, ◌++◌}
 use lib.Dec.{eqb, leb, ltb}
 use borrow.Author.Tests.{eq-eqb, ne_eqb, lt-ltb, le-ltb, ltb-false, leb-true, eqb-true, eqb-false, not-true, not-false}
-use lib.ListN.{length, take, drop, replicate, drop_of_length-le, length-drop}
+use lib.ListN.{length, take, drop, replicate, drop_of_length-le}
 use lib.Seq.{length-take-le, drop-cons}
 use Rattle.word.specs.Choice.{pick}
 use Rattle.word.specs.Words.{word_at, bits, closing_sum}
 use Rattle.word.specs.Parse.{Parsed, fault, got, next, one, several, Rest, nowhere, from, behind, rest_of}
 use Rattle.std.specs.Prelude.{Option, Some, None, IfSome}
 use Rattle.std.specs.Option.{option_eq}
-use Rattle.word.proofs.Rests.{faulted, got_from, words_past}
+use Rattle.word.proofs.Rests.{faulted, got_from}
 use Rattle.bindings.specs.declared.types.Resource.{Resource}
 use Rattle.bindings.specs.Format.{read_resource}
 use Rattle.interface.specs.Meaning.{Interface}
@@ -117,9 +116,6 @@ module _ (ws : List ℕ) (w : ℕ) (b : Bool) (e : w ≡ word_at ws 0) (f : b �
           → x ≡ behind (read_pack ws)
       pack_go x r k m y = totals_go x (step_go (drop r ws) _ _ x k (rw m y))
 
-pub limits_lack : (ws : List ℕ) → (15 < 2) ⊎ (length ws < 15) → nowhere ≡ behind (several 13 (one (of_word 3)) (drop 2 ws))
-limits_lack ws h = words_past (of_word 3) 13 (drop 2 ws) (omega (arith, length-drop 2 ws, h))
-
 -- what the head words bound
 
 module _ (totals : ℕ) (c : Bool) (h : c ≡ totals_well_formed totals) (u : not c ≡ false) where
@@ -171,6 +167,9 @@ module _ (ws : List ℕ) (b : Bool) (e : b ≡ damaged ws) where
 
     pub pack_some : 1 ≤ length ws
     pack_some = omega (arith, low)
+
+    pub body_enough : 2 ≤ length (body ws)
+    body_enough = omega (arith, low, body_long ws)
 
     pub body_few : length (body ws) ≤ 4096
     body_few = omega (arith, high, body_long ws)

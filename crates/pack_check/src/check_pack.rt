@@ -1,9 +1,9 @@
 // The check of a module pack.
 ghost use Rattle.std.specs.Prelude.{◌≡◌, ◌++◌, ◌+◌, ◌<◌, ◌≤◌, length, take, drop, IfSome};
 ghost use Rattle.word.specs.Words.{word_at, bits};
-ghost use Rattle.word.specs.Parse.{one, several, behind, rest_of};
+ghost use Rattle.word.specs.Parse.{several, behind, rest_of};
 ghost use Rattle.bindings.specs.Format.{read_resource};
-ghost use Rattle.interface.specs.Format.{of_word, edition_well_formed, totals_well_formed, read_entry_point, read_pack, damaged, decode, decoded_number};
+ghost use Rattle.interface.specs.Format.{edition_well_formed, totals_well_formed, read_entry_point, read_pack, damaged, decode, decoded_number};
 ghost use Rattle.interface.specs.Inner.Parts.{resource_count, Offsets, Heads};
 ghost use Rattle.entry_check.specs.Inner.Walks.{listed, pair_roles, pack_resources};
 ghost use Rattle.pack_check.specs.Errors.{pack_number, pack_refusal};
@@ -11,7 +11,7 @@ ghost use Rattle.pack_check.specs.Inner.Records.{role_of, Headed, entries_behind
 ghost use Rattle.pack_check.specs.Inner.Positions.{over, positions, entries_from, resources_noted, entries_noted, resource_positions, entry_positions};
 
 use bindings::resource_words::resource_next;
-use entry_check::check_entry::Pack;
+use entry_check::check_entry::{Pack, kinds_next};
 use entry_check::check_names::names_distinct;
 use entry_check::role::Role;
 use word::refusal::{Number, Refusal};
@@ -146,24 +146,9 @@ fn records_next(body: &[u32], totals: u32, offsets: &mut [u16], heads: &mut [u16
     entries_next(&pack, entries, (totals % 0x1_0000) as usize, heads)
 }
 
-// The position behind the limits.
-fn limits_next(body: &[u32]) -> Option<usize>
-    ensures rest { rest_of body.now result ≡ behind (several 13 (one (of_word 3)) (drop 2 body.now)) }
-    ensures end { IfSome result (λ next. (next ≡ 15) × (next ≤ length body.now)) }
-{
-    let limits = body.get(2..15)?;
-    // not `all`: an iterator over a slice hands on pairs with a pointer, which tools/board/build refuses
-    for w in limits {
-        if word::kind(*w) != 3 {
-            return None;
-        }
-    }
-    Some(15)
-}
-
 // The position behind a pack, if it is well formed. The tables get the position of each record.
 fn pack_next(body: &[u32], offsets: &mut [u16], heads: &mut [u16]) -> Option<usize>
-    requires { (length body.now ≤ 4096) × (128 ≤ length offsets.old) × (16 ≤ length heads.old) }
+    requires { (2 ≤ length body.now) × (length body.now ≤ 4096) × (128 ≤ length offsets.old) × (16 ≤ length heads.old) }
     ensures rest { rest_of body.now result ≡ behind (read_pack body.now) }
     ensures end { IfSome result (λ next. next ≤ length body.now) }
     ensures stops { IfSome result (λ _. Stops read_resource body.now 15 (resource_count body.now) offsets.new) }
@@ -178,7 +163,7 @@ fn pack_next(body: &[u32], offsets: &mut [u16], heads: &mut [u16]) -> Option<usi
     if !totals_well_formed(totals) {
         return None;
     }
-    limits_next(body)?;
+    kinds_next(body, 2, 13, 3)?;
     records_next(body, totals, offsets, heads)
 }
 

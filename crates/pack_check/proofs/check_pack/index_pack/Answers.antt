@@ -1,6 +1,6 @@
 use Rattle.std.proofs.Common.{rules, sym, ◌∙◌}
 use borrow.Author.Tests.{not-true, not-false}
-use Rattle.pack_check.proofs.CheckPack.{pack_damaged, pack_some, body_few, pack_well_formed, pack_malformed, held}
+use Rattle.pack_check.proofs.CheckPack.{pack_damaged, pack_some, body_enough, body_few, pack_well_formed, pack_malformed, held}
 use Rattle.pack_check.proofs.CheckPositions.{no_offsets, no_heads, offsets_found, heads_found}
 use Rattle.pack_check.proofs.CheckTables.{no_resource_positions, no_entry_positions, resource_positions_lem, entry_positions_lem}
 use Rattle.pack_check.proofs.check_pack.index_pack.Goals as goal
@@ -24,7 +24,7 @@ pub overflow_sub-last : goal.overflow_sub-last
 overflow_sub-last c = search pack_some
 
 pub pack_next-requires : goal.pack_next-requires
-pack_next-requires c = (search body_few, search rules, search rules)
+pack_next-requires c = (search body_enough, search body_few, search rules, search rules)
 
 pub returns-then-ne-clause-number : goal.returns-then-ne-clause-number
 returns-then-ne-clause-number c = let other = not-true _ (sym c.ne.ensures ∙ c.if-ne.true) in search (pack_malformed, other)
