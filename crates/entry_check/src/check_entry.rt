@@ -47,7 +47,7 @@ fn words_next<F: Fn(u32) -> bool>(body: &[u32], from: usize, n: u32, test: F) ->
 {
     let end = from + n as usize;
     let words = body.get(from..end)?;
-    // not `all`: an iterator over a slice hands on pairs with a pointer, which tools/board/build refuses
+    // not `all`: its functions hand on pairs with a pointer, which tools/board/build refuses
     for w in words {
         if !test(*w) {
             return None;

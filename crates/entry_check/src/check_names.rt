@@ -91,7 +91,7 @@ fn same_head(body: &[u32], g: u16, h: u16) -> bool
 fn head_again(body: &[u32], h: u16, heads: &[u16]) -> bool
     ensures { result ≡ has_head body.now h heads.now }
 {
-    // not `any`: an iterator over a slice hands on pairs with a pointer, which tools/board/build refuses
+    // not `any`: its functions hand on pairs with a pointer, which tools/board/build refuses
     for g in heads {
         if same_head(body, *g, h) {
             return true;

@@ -167,7 +167,7 @@ impl LayoutList<'_> {
 }
 
 // A new entry at the end, by the words of its place, type and visibility and its least size, or nothing where the free room is too small.
-// The clause stays: a struct with a ghost field over a list lent for writing has no proof of the toolchain's.
+// That the list is well formed stays a clause: the toolchain proves no struct that holds a list lent for writing with a ghost field on it.
 pub fn push_entry(l: &mut [u32], place: u32, ty: u32, least: u64, visibility: u32) -> bool
     requires well_formed { layout_well_formed l.old ≡ true }
     requires parts { (least < size_limit) × (parts_well_formed place ty least visibility ≡ true) }
