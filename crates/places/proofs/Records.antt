@@ -300,8 +300,10 @@ module _ (l m ws : List ℕ) (at i : ℕ) (inv : m ≡ put l at (take i ws)) (sa
       let p : put (put l at (take i ws)) (at + length (take i ws)) (w ∷ []) ≡ put l at (take i ws ++ (w ∷ [])) = put_put l at (take i ws) (w ∷ []) (omega (arith, k)) in
       s ∙ rw (take_more ws i 0 h, inv) (rw k at p)
 
-pub record_pushed : (l m ws : List ℕ) (width n i w : ℕ) → n ≡ count_of l → length ws ≡ width → i ≤ width → width ≤ i → m ≡ put l (1 + width * n) (take i ws) → w ≡ word_at l 0
+pub all_stored : (l m ws : List ℕ) (at n i : ℕ) → length ws ≡ n → n ≤ i → m ≡ put l at (take i ws) → m ≡ put l at ws
+all_stored l m ws at n i e h k = let t : take i ws ≡ ws = take_all i ws (omega arith) in rw t at k
+
+-- and under a head that counts it
+pub record_pushed : (l m ws : List ℕ) (width n w : ℕ) → n ≡ count_of l → m ≡ put l (1 + width * n) ws → w ≡ word_at l 0
     → set m 0 (w + 1) ≡ set (put l (1 + width * count_of l) ws) 0 (word_at l 0 + 1)
-record_pushed l m ws width n i w en el hi ki em ew =
-    let t : take i ws ≡ ws = take_all i ws (omega arith) in
-    rw (em, t, en, ew)
+record_pushed l m ws width n w en em ew = rw (em, en, ew)

@@ -1,7 +1,6 @@
 -- Words at a position, and words written there.
 use Prim.Native.Nat.{ℕ, suc, ◌+◌, ◌-◌, ◌≤◌}
 use native.Mathlib.Omega.{arith}
-use native.Mathlib.Numerals.{add-one}
 use mathlib.Core.Path.{◌≡◌, refl, sym, ap, ◌∙◌}
 use mathlib.Core.List.{List, [], ◌∷◌, ◌++◌, append_assoc}
 use lib.ListN.{length, take, drop, set, length-append, length-drop, take-append-drop}
@@ -46,10 +45,6 @@ two_at l at h = two (drop at l) (omega (arith, length-drop at l)) ∙ rw (first_
 pub stored_one : (l : List ℕ) (at a : ℕ) → at + 1 ≤ length l → set l at a ≡ put l at (a ∷ [])
 unfolding put
 stored_one l at a h = sets-eq (a ∷ []) l at h ∙ append_assoc (take at l) (a ∷ []) (drop (at + 1) l)
-
-pub stored_two : (l : List ℕ) (at a b : ℕ) → at + 2 ≤ length l → set (set l at a) (at + 1) b ≡ put l at (a ∷ b ∷ [])
-unfolding put
-stored_two l at a b h = rw (add-one at) (sets-eq (a ∷ b ∷ []) l at h ∙ append_assoc (take at l) (a ∷ b ∷ []) (drop (at + 2) l))
 
 module _ (l : List ℕ) (at : ℕ) (p : List ℕ) (h : at ≤ length l) where
   before : length (take at l ++ p) ≡ at + length p

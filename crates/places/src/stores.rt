@@ -1,18 +1,20 @@
 // Records written into a list.
-ghost use Rattle.std.specs.Prelude.{◌≡◌, [], ◌∷◌, ◌+◌, ◌*◌, ◌<◌, ◌≤◌, ◌^◌, length, drop, set};
+ghost use Rattle.std.specs.Prelude.{◌≡◌, ◌+◌, ◌*◌, ◌<◌, ◌≤◌, ◌^◌, length, drop, set};
 ghost use Rattle.word.specs.Choice.{pick};
 ghost use Rattle.word.specs.Words.{word_at};
 ghost use Rattle.places.specs.Records.{count_of, past, put, room_for};
 
 use crate::heads::counted;
 
-// Two words stored at a position.
-pub fn store_two(l: &mut [u32], at: usize, first: u32, second: u32)
-    requires { at + 2 ≤ length l.old }
-    ensures { l.new ≡ put l.old at (first ∷ second ∷ []) }
+// The words of an array, stored at a position.
+pub fn store<const N: usize>(l: &mut [u32], at: usize, words: [u32; N])
+    requires { at + N ≤ length l.old }
+    ensures { l.new ≡ put l.old at words.entry }
 {
-    l[at] = first;
-    l[at + 1] = second;
+    // not `copy_from_slice`: it hands on pairs with a pointer, which tools/board/build refuses
+    for i in 0..N {
+        l[at + i] = words[i];
+    }
 }
 
 // A record at the end of a list, whose head counts it, or nothing where the free room is too small.
@@ -27,10 +29,7 @@ pub fn push_record<const WIDTH: usize>(l: &mut [u32], words: [u32; WIDTH]) -> bo
         return false;
     }
     let head = l[0];
-    // not `copy_from_slice`: it hands on pairs with a pointer, which tools/board/build refuses
-    for i in 0..WIDTH {
-        l[at + i] = words[i];
-    }
+    store(l, at, words);
     l[0] = head + 1;
     true
 }

@@ -10,7 +10,7 @@ ghost use Rattle.stage_lists.specs.Format.{located_good, read_varyings, out_well
 
 use crate::out_words::{payload_word, primitive_word, var_word};
 use crate::stage_io::location_at;
-use places::stores::store_two;
+use places::stores::store;
 
 // The head and the payload of a list without variables. The answer is the head.
 pub fn begin_out(out: &mut [u32], primitive: Option<bool>, payload: Option<u32>) -> u32
@@ -23,7 +23,7 @@ pub fn begin_out(out: &mut [u32], primitive: Option<bool>, payload: Option<u32>)
 {
     let head = primitive_word(primitive);
     let second = payload_word(payload);
-    store_two(out, 0, head, second);
+    store(out, 0, [head, second]);
     head
 }
 
@@ -39,11 +39,11 @@ fn shift(out: &mut [u32], from: usize, n: usize, first: u32, second: u32)
         let at = from + 2 * i;
         let c = out[at];
         let d = out[at + 1];
-        store_two(out, at, a, b);
+        store(out, at, [a, b]);
         a = c;
         b = d;
     }
-    store_two(out, from + 2 * n, a, b);
+    store(out, from + 2 * n, [a, b]);
 }
 
 // A variable put into its place among as many: whether its location is new.
@@ -61,11 +61,11 @@ fn place(out: &mut [u32], n: usize, location: u32, var: u32) -> bool
             return true;
         }
         if location == here {
-            store_two(out, at, 0x6000_0000 + location, var);
+            store(out, at, [0x6000_0000 + location, var]);
             return false;
         }
     }
-    store_two(out, 2 + 2 * n, 0x6000_0000 + location, var);
+    store(out, 2 + 2 * n, [0x6000_0000 + location, var]);
     true
 }
 
@@ -77,7 +77,7 @@ fn place_last(out: &mut [u32], n: usize, first: u32, var: u32) -> bool
     ensures count { length (insert (record { location = content_of first; var = var_of var }) (read_varyings n (drop 2 out.old))) ≡ n + from_bool result }
 {
     if out[2 * n] < first {
-        store_two(out, 2 + 2 * n, first, var);
+        store(out, 2 + 2 * n, [first, var]);
         return true;
     }
     place(out, n, first % 0x800_0000, var)
