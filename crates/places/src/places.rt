@@ -97,6 +97,7 @@ impl<const WIDTH: usize> Records<'_, WIDTH> {
     fn distinct_marked(&self) -> bool
         ensures { result ≡ distinct_places (places_of self.now) }
     {
+        // bytes and no bools: an array of `false` is filled by a form that tools/board/build refuses
         let mut marks: [u8; 1024] = [0; 1024];
         for i in (0..self.n as u32).rev() {
             let content = self.words[WIDTH * i as usize] % 0x800_0000;
