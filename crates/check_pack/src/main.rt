@@ -4,24 +4,53 @@
 // status 1; in the first case it prints nothing.
 #![tactic(auto)]
 
-ghost use Rattle.std.specs.Prelude.{◌≡◌, take, IfOk, IfSome, OnOk};
-ghost use Rattle.std.specs.Io.KnownBytes.{Appends, IsAtEnd};
+ghost use Rattle.std.specs.Prelude.{◌≡◌, ◌<◌, length, take, IfOk, IfSome, OnOk};
+ghost use Rattle.std.specs.Io.{ReadsAtMost};
+ghost use Rattle.std.specs.Io.KnownBytes.{Appends, Consumes, IsAtEnd};
 ghost use Rattle.report.specs.Report.{report};
 
-use report::{Bytes, report_text};
+use report::report_text;
 use std::io;
 use std::io::{Read, Write};
 use std::process::ExitCode;
 
-// Reads to the end of the input. What does not fit is more than a pack can hold, and is dropped.
-fn read_input<R: Read>(input: &mut R) -> io::Result<Bytes>
-    ensures bytes { IfOk result (λ v. IfSome (R.remaining input.old) (λ xs. v.items ≡ take 16385 xs)) }
+// Reads until the room is full or the input ends, and answers how many bytes were read. By a loop of reads: a terminal gives the end of its input
+// once, and `io::copy` says too little of a reader that is lent to it to tell whether that was met.
+fn read_bytes<R: Read>(input: &mut R, room: &mut [u8]) -> io::Result<usize>
+    ensures bound { ReadsAtMost result room.new }
+    ensures bytes { IfOk result (λ n. Consumes (R.remaining input.old) (R.remaining input.new) (take n room.new)) }
+    ensures end { IfOk result (λ n. n < length room.new → IsAtEnd (R.remaining input.new)) }
+{
+    let mut at: usize = 0;
+    while at < room.len() {
+        let more = input.read(&mut room[at..])?;
+        if more == 0 {
+            return Ok(at);
+        }
+        at += more;
+    }
+    Ok(at)
+}
+
+// Reads to the end of the input, and drops what it reads.
+fn skip_rest<R: Read>(input: &mut R) -> io::Result<()>
+    ensures { OnOk result (IsAtEnd (R.remaining input.new)) }
+{
+    io::copy(input, &mut io::sink())?;
+    Ok(())
+}
+
+// The bytes of the input; room that is full is more than a pack can hold, and what is behind it is read and dropped.
+fn read_input<R: Read>(input: &mut R, room: &mut [u8]) -> io::Result<usize>
+    ensures bound { ReadsAtMost result room.new }
+    ensures bytes { IfOk result (λ n. IfSome (R.remaining input.old) (λ xs. take n room.new ≡ take (length room.new) xs)) }
     ensures end { OnOk result (IsAtEnd (R.remaining input.new)) }
 {
-    let mut bytes = Bytes::new();
-    io::copy(&mut (&mut *input).take(16385), &mut bytes)?;
-    io::copy(input, &mut io::sink())?;
-    Ok(bytes)
+    let count = read_bytes(input, room)?;
+    if count == room.len() {
+        skip_rest(input)?;
+    }
+    Ok(count)
 }
 
 // Prints what the check says of a pack's bytes.
@@ -42,10 +71,11 @@ fn complain(rt: &impl Eprint, what: &str) -> ExitCode {
 fn check<R: Read, W: Write>(input: &mut R, output: &mut W) -> Result<(), &'static str>
     ensures { OnOk result (IfSome (R.remaining input.old) (λ xs. Appends (W.contents output.old) (W.contents output.new) (report xs))) }
 {
-    let Ok(bytes) = read_input(input) else {
+    let mut bytes = [0u8; 16385];
+    let Ok(n) = read_input(input, &mut bytes) else {
         return Err("standard input cannot be read");
     };
-    match print_report(output, bytes.as_slice()) {
+    match print_report(output, &bytes[..n]) {
         Ok(()) => Ok(()),
         Err(_) => Err("standard output cannot be written"),
     }
