@@ -13,14 +13,25 @@ pub fn name_count(head: u32) -> usize
     (head / 0x1_0000 % 128) as usize
 }
 
-// Whether the bytes of the words from a position on, low first, begin with these.
-#[tactic(auto, using(crate::proofs::ReadsNames::bytes_compared))]
+// Whether the bytes of the words from a position on, low first, begin with these: whole words first, and then what is left of the last.
 fn same_bytes(pack: &[u32], from: usize, name: &[u8]) -> bool
     requires { from + name_words (length name.now) ≤ length pack.now }
     ensures { result ≡ same_bytes (name_of (length name.now) (drop from pack.now)) name.now }
 {
-    for (i, byte) in name.iter().enumerate() {
-        if pack[from + i / 4].to_le_bytes()[i % 4] != *byte {
+    let whole = name.len() / 4;
+    for i in 0..whole {
+        let four = [
+            name[4 * i],
+            name[4 * i + 1],
+            name[4 * i + 2],
+            name[4 * i + 3],
+        ];
+        if pack[from + i] != u32::from_le_bytes(four) {
+            return false;
+        }
+    }
+    for i in 4 * whole..name.len() {
+        if pack[from + whole].to_le_bytes()[i % 4] != name[i] {
             return false;
         }
     }

@@ -1,6 +1,6 @@
 -- The code's ways through places.
 use Rattle.std.proofs.Common.{Option, Some, None}
-use Prim.Native.Nat.{ℕ, ◌+◌, ◌-◌, ◌*◌, ◌%◌, ◌<◌, ◌≤◌, ◌^◌}
+use Prim.Native.Nat.{ℕ, ◌+◌, ◌-◌, ◌*◌, ◌%◌, ◌<◌, ◌≤◌, ◌^◌, zero, suc}
 use native.Mathlib.Omega.{arith}
 use mathlib.Core.Path.{◌≡◌, refl, sym, ap, ◌∙◌}
 use mathlib.Core.Bool.{Bool, true, false}
@@ -14,11 +14,19 @@ use Rattle.bindings.specs.Format.{place_of}
 use Rattle.bindings.specs.declared.types.ResourceBinding.{ResourceBinding}
 use Rattle.places.specs.Places.{same_place, place_from, place_in, distinct_places, found_below, read_place, places}
 use Rattle.word.proofs.Lists.{first_passes, rest_passes}
-use Rattle.places.specs.Records.{each}
+use Rattle.places.specs.Records.{each, records}
 use Rattle.places.specs.Inner.Begins.{place_first}
 use Rattle.places.proofs.Records.{each_at, read_length, nth_record, records_at, left_none}
 use Rattle.word.proofs.Parse.{first_of}
 use Rattle.places.proofs.PlaceLaws.{same_place_eq, found_nth}
+use native.Mathlib.Nat.{mul-suc, mul-zero}
+use native.Mathlib.Numerals.{add-one}
+use lib.Seq.{drop-drop}
+
+-- ---- a place counted from the last
+
+pub found_below_lem : (n left : ℕ) → left ≤ n → (left ≡ 0 → ⊥) → n - left < n
+found_below_lem n left h k = omega arith
 
 -- ---- a place sought by the content of its word
 
@@ -45,20 +53,47 @@ module _ (w content : ℕ) (h : content < 2 ^ 27) where
       absurd (n (omega arith)))
       (λ f. f)
 
--- one of the records that are left has a place
-module _ (width n i content : ℕ) (l : List ℕ) (goal : Bool) (inv : goal ≡ place_in (place_of content) (places width (n - i) (drop (width * i) l))) where
-  module _ (h : i < n) (encodable : content < 2 ^ 27) where
-    pub content_found : word_at l (width * i) % 0x800_0000 ≡ content → true ≡ goal
-    unfolding place_in
-    content_found e = sym (inv ∙ rw (records_at width n i h read_place l, first_of l (width * i), content_same (word_at l (width * i)) content encodable e))
+-- a place among records, the last of them tested first
+module _ (width : ℕ) (p : ResourceBinding) where
+  behind_one : (i : ℕ) (l : List ℕ) → drop (width * i) (drop width l) ≡ drop (width * suc i) l
+  behind_one i l = let e : width + width * i ≡ width * suc i = rw mul-suc (omega arith) in rw (drop-drop (width * i) width l, e)
 
-    pub content_onward : (word_at l (width * i) % 0x800_0000 ≡ content → ⊥) → goal ≡ place_in (place_of content) (places width (n - (i + 1)) (drop (width * (i + 1)) l))
-    unfolding place_in
-    content_onward e = inv ∙ rw (records_at width n i h read_place l, first_of l (width * i), content_other (word_at l (width * i)) content encodable e)
+  last_same : (i : ℕ) (l : List ℕ) → same_place (read_place (drop (width * i) l)) p ≡ true → place_in p (places width (suc i) l) ≡ true
+  unfolding place_in records
+  last_same zero l h = let k : same_place (read_place l) p ≡ true = rw mul-zero at h in rw k
+  last_same (suc i) l h =
+      by_test (same_place (read_place l) p)
+      (λ t. rw t)
+      (λ f. rw f (last_same i (drop width l) (rw (behind_one i l) h)))
 
-  pub content_nowhere : n ≤ i → false ≡ goal
-  unfolding place_in
-  content_nowhere z = let k : n - i ≡ 0 = omega arith in sym (inv ∙ rw (left_none width read_place (n - i) (drop (width * i) l) k))
+  last_differs : (i : ℕ) (l : List ℕ) → same_place (read_place (drop (width * i) l)) p ≡ false → place_in p (places width (suc i) l) ≡ place_in p (places width i l)
+  unfolding place_in records
+  last_differs zero l h = let k : same_place (read_place l) p ≡ false = rw mul-zero at h in rw k
+  last_differs (suc i) l h =
+      by_test (same_place (read_place l) p)
+      (λ t. rw t)
+      (λ f. rw f (last_differs i (drop width l) (rw (behind_one i l) h)))
+
+module _ (width i content : ℕ) (l : List ℕ) (goal : Bool) (inv : goal ≡ place_in (place_of content) (places width i l)) where
+  module _ (h : 0 < i) (encodable : content < 2 ^ 27) where
+    one_more : suc (i - 1) ≡ i
+    one_more = omega arith
+
+    pub content_found : word_at l (width * (i - 1)) % 0x800_0000 ≡ content → true ≡ goal
+    content_found e =
+        let s : same_place (read_place (drop (width * (i - 1)) l)) (place_of content) ≡ true
+        = rw (first_of l (width * (i - 1))) (content_same (word_at l (width * (i - 1))) content encodable e) in
+        sym (inv ∙ rw one_more at (last_same width (place_of content) (i - 1) l s))
+
+    pub content_onward : (word_at l (width * (i - 1)) % 0x800_0000 ≡ content → ⊥) → goal ≡ place_in (place_of content) (places width (i - 1) l)
+    content_onward e =
+        let s : same_place (read_place (drop (width * (i - 1)) l)) (place_of content) ≡ false
+        = rw (first_of l (width * (i - 1))) (content_other (word_at l (width * (i - 1))) content encodable e) in
+        inv ∙ rw one_more at (last_differs width (place_of content) (i - 1) l s)
+
+  pub content_nowhere : i ≤ 0 → false ≡ goal
+  unfolding place_in records
+  content_nowhere z = let k : i ≡ 0 = omega arith in sym (inv ∙ rw k)
 
 -- ---- a place sought by its word, among records that begin with a place's word
 

@@ -68,12 +68,13 @@ impl<const WIDTH: usize> Records<'_, WIDTH> {
         self.find_word(0x2000_0000 + content)
     }
 
-    // Whether one of the records has the place that a word's content tells.
+    // Whether one of the records has the place that a word's content tells. The last is tried first: an index that falls is compared with 0, which
+    // takes an instruction less a record.
     fn has_place(&self, content: u32) -> bool
         requires content_of_word { content < 2 ^ 27 }
         ensures { result ≡ place_in (place_of content) (places_of self.now) }
     {
-        for i in 0..self.n as u32 {
+        for i in (0..self.n as u32).rev() {
             if self.words[WIDTH * i as usize] % 0x800_0000 == content {
                 return true;
             }
