@@ -1,3 +1,4 @@
 pub mod AnswerLaws
+pub mod CaseLaws
 pub mod Examples
 pub mod SameLaws

@@ -1,5 +1,5 @@
 -- The code's ways to the numbers of binding types, and their ranges.
-use Rattle.std.proofs.Common.{◌≡◌, ℕ, ◌^◌, ◌<◌, ◌≤◌, Bool, true, false, refl, arith, ltb-true}
+use Rattle.std.proofs.Common.{◌≡◌, ℕ, ◌^◌, ◌<◌, ◌≤◌, Bool, true, false, refl, arith, ltb-true, ◌+◌, ◌*◌}
 use mir.Val.{bool_byte}
 use Rattle.word.specs.Choice.{pick, yes}
 use Rattle.bindings.specs.Rules.{view_code}
@@ -28,6 +28,10 @@ flag_byte false = refl
 -- whether a float is filterable
 pub float_code : (sample : TextureSampleType) (b : Bool) (x : ℕ) → sample ≡ Sample.Float b → x ≡ pick (yes b) 0 1 → x ≡ sample_code sample
 float_code sample b x e h = rw e h
+
+-- a storage buffer's number, by its flag
+pub buffer_code_lem : (x : ℕ) (ty : BufferBindingType) (ro : Bool) → ty ≡ Buf.Storage ro → x ≡ flag ro → 1 + 2 * x ≡ buffer_code ty
+buffer_code_lem x ty ro e h = rw (e, h)
 
 -- ---- ranges
 

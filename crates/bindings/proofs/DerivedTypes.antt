@@ -1,5 +1,5 @@
 -- The binding type that a resource derives: words can hold it, and where there is none it is for the address space.
-use Rattle.std.proofs.Common.{◌≡◌, ℕ, ◌<◌, Bool, true, false, not, ◌&&◌, eqb, ltb, refl, arith, ltb-true, lt-ltb, Result, Ok, Err}
+use Rattle.std.proofs.Common.{◌≡◌, ℕ, ◌<◌, Bool, true, false, not, ◌&&◌, eqb, ltb, refl, arith, ltb-true, lt-ltb, Result, Ok, Err, zero, suc}
 use Rattle.word.specs.Choice.{yes}
 use Rattle.bindings.specs.Rules.{storable, same_bool}
 use Rattle.bindings.specs.Rules.{error_number, derived_texture, derive_binding_type}
@@ -76,3 +76,15 @@ space_refused_lem (Res.AccelerationStructure returns) named = tt
 -- deriving is refused for the address space alone
 pub derived_refused : (r : ResourceType) (named : Bool) (e : BindingError) → derive_binding_type r named ≡ Err e → e ≡ Error.WrongBufferAddressSpace
 derived_refused r named e d = rw d at (space_refused_lem r named)
+
+-- ---- flags by their bits
+
+pub bits_same : (x y : ℕ) → x < 2 → y < 2 → same_bool (eqb x 1) (eqb y 1) ≡ eqb x y
+unfolding yes
+bits_same zero zero h k = refl
+bits_same zero (suc zero) h k = refl
+bits_same (suc zero) zero h k = refl
+bits_same (suc zero) (suc zero) h k = refl
+bits_same (suc (suc x)) y h k = absurd (omega arith)
+bits_same zero (suc (suc y)) h k = absurd (omega arith)
+bits_same (suc zero) (suc (suc y)) h k = absurd (omega arith)

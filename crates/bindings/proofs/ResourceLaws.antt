@@ -22,6 +22,11 @@ sized true fault rest k r = refl
 sized true (got s rest') rest k r = refl
 sized false size rest k r = refl
 
+-- the size that a buffer has, where its word is one
+module _ (ws : List ℕ) (at w : ℕ) (b : Bool) (be : b ≡ is_buffer_word w) (s : ℕ) (g : Bool) (n : not b ≡ false) (h : at < length ws) (se : s ≡ word_at ws at) (ge : g ≡ size_well_formed s) where
+  pub size_good_lem : not g ≡ false → from (drop (at + 1) ws) ≡ pick (is_buffer_word w) (behind (one size_well_formed (drop at ws))) (from (drop at ws))
+  size_good_lem m = rw (← be, not-false b n, drop-cons ws at 0 h, ← se, ← ge, not-false g m, add-one)
+
 module _ (ws : List ℕ) (at : ℕ) where
   none_left : length ws ≤ at → drop at ws ≡ []
   none_left h = drop_of_length-le ws h

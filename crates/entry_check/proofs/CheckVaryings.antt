@@ -2,7 +2,7 @@
 use Prim.{tt}
 use Rattle.std.proofs.Common.{◌≡◌, ℕ, zero, suc, ◌+◌, ◌-◌, ◌/◌, ◌%◌, ◌^◌, ◌<◌, ◌≤◌, Bool, true, false, not, eqb, ltb, List, [], ◌∷◌, length, get_or, drop, sym, refl, ◌∙◌, sub-one, arith, length-drop, ltb-true, ne_eqb}
 use native.Mathlib.Nat.{sub-zero}
-use borrow.Author.Tests.{not-true, not-false}
+use borrow.Author.Tests.{not-true, not-false, le-ltb}
 use Rattle.word.specs.Choice.{pick}
 use Rattle.word.specs.Words.{word_at, kind_of, bits}
 use Rattle.word.specs.Parse.{fault, got, next, one, Rest, nowhere, from}
@@ -15,6 +15,7 @@ use Rattle.interface.specs.declared.types.BuiltIn.TheVariants as In
 use Rattle.interface.specs.declared.types.Varying.{Varying}
 use Rattle.interface.specs.declared.types.Varying.TheVariants as Var
 use Rattle.entry_check.proofs.CheckCases.{by_test, split_at}
+use mathlib.Core.Bool.{and-false}
 
 -- ---- one varying
 
@@ -157,3 +158,8 @@ module _ (ws : List ℕ) (at w : ℕ) (b d : Bool) (e : w ≡ word_at ws at) (f 
 pub varyings_ended : (ws : List ℕ) (k codes at : ℕ) (goal : Rest) → goal ≡ varyings_behind k codes (drop at ws) → k ≡ 0 → from (drop at ws) ≡ goal
 unfolding varyings_behind
 varyings_ended ws k codes at goal inv z = sym (inv ∙ rw z)
+
+-- ---- a built-in of a kind past the last
+
+pub built_in_code_lem : (codes w : ℕ) → codes ≤ bits 26 24 w → false ≡ built_in_well_formed codes w
+built_in_code_lem codes w h = sym (rw (le-ltb (bits 26 24 w) codes h) (and-false (eqb (kind_of w) 14)))

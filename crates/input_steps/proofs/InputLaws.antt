@@ -3,7 +3,7 @@ use Rattle.std.proofs.Common.{Option, Some, None, Result, Ok, Err}
 use Prim.Native.Nat.{ℕ, ◌+◌, ◌-◌, ◌/◌, ◌%◌, ◌^◌, ◌<◌, ◌≤◌}
 use native.Mathlib.Omega.{arith}
 use mathlib.Core.Path.{◌≡◌, refl, ◌∙◌}
-use mathlib.Core.Bool.{Bool, true, false}
+use mathlib.Core.Bool.{Bool, true, false, ◌||◌}
 use mathlib.Core.List.{List, [], ◌∷◌}
 use lib.Dec.{eqb}
 use lib.ListN.{drop}
@@ -132,3 +132,11 @@ module _ (stage : ShaderStage) (provided : List Located) (ws : List ℕ) (n i at
   pub inputs_ended : n ≤ i → goal ≡ walked w accepted
   unfolding input_steps
   inputs_ended h = let none : n - i ≡ 0 = omega (arith, h) in inv ∙ rw (varyings_none (drop at ws) (n - i) none)
+
+-- ---- a local input that is met
+
+pub met_local_lem : (w : ℕ) (walk : InputWalk) (b : Bool) → b ≡ (walk.per_vertex || eqb (w / 0x1000 % 8) 4)
+    → ◌≡◌ {A = InputWalk}
+    (record { primitive_index = walk.primitive_index; draw_index = walk.draw_index; per_vertex = b; locals = walk.locals + 1 }) (met_local (var_of w) walk)
+unfolding var_of
+met_local_lem w walk b e = rw e

@@ -1,5 +1,5 @@
 -- The subtype fact, for types of any width, and what each reason says.
-use Prim.Native.Nat.{◌<◌, ◌≤◌}
+use Prim.Native.Nat.{◌<◌, ◌≤◌, ℕ}
 use native.Mathlib.Omega.{arith}
 use mathlib.Core.Path.{◌≡◌, refl, sym, ap, ◌∙◌}
 use mathlib.Core.Bool.{Bool, true, false}
@@ -66,3 +66,9 @@ shape_itself (D.Matrix c r) = rw (eq-eqb (size_code c) (size_code c) refl, eq-eq
 
 pub fits_itself : (a : NumericType) → fits a a ≡ true
 fits_itself a = ap is_ok (said a a (Ok tt) (omega arith, refl, shape_itself a.dim))
+
+-- no wider, of one kind by its number, and with a shape that fits: the type fits
+module _ (a b : NumericType) (x y : ℕ) (h : a.scalar.width ≤ b.scalar.width) (p : x ≡ kind_code a.scalar.kind) (q : y ≡ kind_code b.scalar.kind) where
+  pub shape_fits_lem : (s : Bool) → x ≡ y → s ≡ shape_fits a.dim b.dim → s ≡ true → Ok tt ≡ subtype_of a b
+  unfolding subtype_of
+  shape_fits_lem s e f t = rw (le-ltb b.scalar.width a.scalar.width h, ← p, ← q, eq-eqb x y e, ← f, t)

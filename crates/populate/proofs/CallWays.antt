@@ -176,6 +176,10 @@ module _ (types : List TypeInner) (n : ℕ) (bs out : List ℕ) (p : Option ℕ)
         → (r, later) ≡ bound_on types n (read_binding bs) out
     binding_well_formed r v later i o q = rw (whole out, not-false g o) (rw (f, i) at q)
 
+    pub binding_good_lem : (r : Answer) (later : List ℕ) → not g ≡ false → (r, later) ≡ populated types n (binding_at bs) out
+        → (r, later) ≡ bound_on types n (read_binding bs) out
+    binding_good_lem r later o q = rw (whole out, not-false g o) q
+
 -- ---- the list
 
 module _ (ws : List ℕ) (asked : ℕ) (bs out : List ℕ) (x : Bool) (e : x ≡ listed ws) where

@@ -15,7 +15,7 @@ use Rattle.word.specs.declared.answer.Answer.{Answer}
 use Rattle.bindings.specs.Rules.{same_binding, derived_texture, derive_binding_type}
 use Rattle.bindings.specs.Format.{place_of, place_word, type_code, is_buffer_word, resource_type_of, resource, type_encodable}
 use Rattle.bindings.specs.Format.{binding_type_of, binding_code, least_size_of, format_encodable, parts_well_formed, entry_of_parts, entry_encodable, size_limit}
-use Rattle.bindings.specs.Answers.{derived_word}
+use Rattle.bindings.specs.Answers.{derived_word, binding_answer}
 use Rattle.bindings.specs.declared.types.ResourceBinding.{ResourceBinding}
 use Rattle.bindings.specs.declared.types.Resource.{Resource}
 use Rattle.bindings.specs.declared.types.BindingType.{BindingType}
@@ -28,7 +28,7 @@ use Rattle.bindings.proofs.EntryFormat.{type_read, entry_well_formed_lem, entry_
 use Rattle.bindings.proofs.DerivedTypes.{derived_encodable}
 use Rattle.bindings.proofs.SameBinding.{same_binding_refl, other_by_code, other_by_least}
 use Rattle.word_rules.proofs.DeriveLaws.{derived_least}
-use Rattle.layouts.specs.Meaning.{Layout, entry_places, find_entry, entry_has, pushed, room_for_entry}
+use Rattle.layouts.specs.Meaning.{Layout, entry_places, find_entry, entry_has, pushed, room_for_entry, entry_nth}
 use Rattle.layouts.specs.Format.{entry_fits}
 use Rattle.places.proofs.PlaceWays.{place_lacks}
 use Rattle.interface.specs.Format.{stage_code, contents, pairs_of}
@@ -38,7 +38,7 @@ use Rattle.word.specs.Refusals.{answer_of, refusal_answer}
 use Rattle.word.specs.declared.refusal.Refusal.{Refusal}
 use Rattle.word.proofs.Both.{number_nonzero}
 use Rattle.resource_steps.specs.declared.types.EntryType.{EntryType}
-use Rattle.resource_steps.specs.Resources.{resource_nth, layout_after, vacant, place_step, derive_step, named_texture, DeriveResult, derive_result, derive_steps}
+use Rattle.resource_steps.specs.Resources.{resource_nth, layout_after, vacant, place_step, derive_step, named_texture, DeriveResult, derive_result, derive_steps, occupied}
 use Rattle.resource_steps.proofs.ResourceParts.{contents_cons, contents_none, pairs_cons, pairs_none}
 use Rattle.resource_steps.proofs.ResourceWalk.{one_more}
 
@@ -50,6 +50,13 @@ pub record TypeWords (type least : ℕ) (ty : BindingType) : Type 0 where
 
 pub type_words : (t : EntryType) → TypeWords t.word t.least (binding_type_of t.word t.least)
 type_words t = record { encodable = t.encodable; type_word = t.type_word; least_size = t.least_size }
+
+-- ---- an entry of another type at the place
+
+pub occupied_other : (stage : ShaderStage) (place i : ℕ) (b : BindingType) (L : Layout) (a : Answer) (k : Bool) → k ≡ same_binding b (entry_nth L.entries i).ty
+    → k ≡ false → a ≡ binding_answer 29 (place_of place) → layout_after a L ≡ occupied stage (place_of place) b i L
+unfolding occupied
+occupied_other stage place i b L a k q t h = rw (← q, t, h)
 
 -- ---- a type at its place
 

@@ -1,5 +1,5 @@
 -- The ways through an entry point's pairs of textures and samplers.
-use Rattle.std.proofs.Common.{Result, Ok, Err}
+use Rattle.std.proofs.Common.{Result, Ok, Err, Option, Some}
 use Prim.Native.Nat.{ℕ, ◌+◌, ◌<◌, ◌≤◌}
 use mathlib.Core.Path.{◌≡◌, refl, sym, ◌∙◌}
 use mathlib.Core.Bool.{true}
@@ -10,13 +10,13 @@ use Rattle.word.specs.Words.{word_at, bits}
 use Rattle.word.specs.Answers.{accepted}
 use Rattle.word.specs.declared.answer.Answer.{Answer}
 use Rattle.word.specs.Lists.{every}
-use Rattle.bindings.specs.Format.{place_of, binding_type_of}
+use Rattle.bindings.specs.Format.{place_of, binding_type_of, least_size_of}
 use Rattle.bindings.specs.declared.types.Resource.{Resource}
 use Rattle.bindings.specs.declared.types.BindingType.{BindingType}
 use Rattle.bindings.specs.declared.types.BindingType.TheVariants as Bind
 use Rattle.word.proofs.Truth.{by_test}
 use Rattle.word.proofs.Lists.{first_passes, rest_passes}
-use Rattle.layouts.specs.Meaning.{Layout}
+use Rattle.layouts.specs.Meaning.{Layout, find_entry, entry_nth}
 use Rattle.interface.specs.Format.{pair_of, pairs_of}
 use Rattle.word.specs.Refusals.{answer_of, refusal_answer, number_or_none}
 use Rattle.word.specs.declared.refusal.Number.{Number}
@@ -25,6 +25,7 @@ use Rattle.word.proofs.Both.{number_nonzero}
 use Rattle.resource_steps.specs.Inner.Given.{pair_below, pairs_below, WordMeans}
 use Rattle.resource_steps.specs.Resources.{filtering, pair_number, type_at, pair_use, pair_uses}
 use Rattle.resource_steps.proofs.ResourceParts.{pairs_cons, pairs_none}
+use Rattle.layouts.specs.Format.{decode_layout}
 
 -- ---- type words
 
@@ -45,6 +46,12 @@ number_sampler (Bind.AccelerationStructure returns) w least = refl
 number_texture : (w least : ℕ) (sampler : BindingType) → pair_number (binding_type_of w least) sampler ≡ pair_number (binding_type_of w 0) sampler
 unfolding pair_number binding_type_of
 number_texture w least sampler = by_test (eqb (bits 26 23 w) 0) (λ t. rw t) (λ f. rw f)
+
+-- the word of an entry that is found at a place means the type there
+pub type_found_lem : (l : List ℕ) (place : ℕ) (f : Option ℕ) (i w : ℕ) → f ≡ Some i → f ≡ find_entry (place_of place) (decode_layout l)
+    → binding_type_of w (least_size_of (entry_nth (decode_layout l).entries i).ty) ≡ (entry_nth (decode_layout l).entries i).ty
+    → WordMeans w (type_at (decode_layout l) (place_of place))
+type_found_lem l place f i w n q m = (least_size_of (entry_nth (decode_layout l).entries i).ty, rw (← q, n) (sym m))
 
 -- ---- one pair
 

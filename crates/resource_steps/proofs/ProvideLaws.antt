@@ -64,6 +64,10 @@ module _ (w size : ℕ) (h : type_encodable (resource_type_of w size) ≡ true) 
         let n : bits 22 0 (0x20000000 + p) ≡ bits 22 0 place = omega arith in
         rw (g, n)
 
+    pub size_recorded_lem : b ≡ true → a ≡ accepted → sizes_after a T ≡ record_size (place_of place) (resource_type_of w size) S
+    unfolding record_size resource_type_of
+    size_recorded_lem t e = rw (eq-eqb (type_code w) 0 z, ← same_place_lem, ← q, t, r, e)
+
     pub size_full : not b ≡ true → a ≡ binding_answer 5 (place_of place) → sizes_after a T ≡ record_size (place_of place) (resource_type_of w size) S
     unfolding record_size resource_type_of
     size_full t e =

@@ -1,16 +1,17 @@
 -- What the program's tests say of the lists, entries and variables that it hands on.
 use Rattle.std.proofs.Common.{Option, None}
 use Rattle.std.proofs.lemmas.Bool.{and_from}
-use Prim.Native.Nat.{ℕ, ◌+◌, ◌*◌, ◌^◌, ◌<◌, ◌≤◌}
+use Prim.Native.Nat.{ℕ, ◌+◌, ◌*◌, ◌^◌, ◌<◌, ◌≤◌, ◌%◌}
 use native.Mathlib.Omega.{arith}
 use mathlib.Core.Path.{◌≡◌, refl, sym, ◌∙◌}
 use mathlib.Core.Bool.{Bool, true, false, not, ◌&&◌}
 use mathlib.Core.List.{List, [], ◌∷◌}
 use lib.Dec.{leb, ltb}
-use lib.ListN.{length, drop, set, length-drop}
-use borrow.Author.Tests.{eqb-true, not-true, not-false, lt-ltb, le-ltb, ltb-true, leb-true}
+use lib.ListN.{length, drop, set, length-drop, take}
+use lib.Seq.{length-take-le}
+use borrow.Author.Tests.{eqb-true, not-true, not-false, lt-ltb, le-ltb, ltb-true, leb-true, eq-eqb}
 use Rattle.word.specs.Words.{word_at, kind_of, content_of, bits}
-use Rattle.bindings.specs.Format.{place_of, size_limit, size_word, entry_encodable, entry_well_formed, entry_of, parts_well_formed, entry_of_parts}
+use Rattle.bindings.specs.Format.{place_of, size_limit, size_word, entry_encodable, entry_well_formed, entry_of, parts_well_formed, entry_of_parts, place_well_formed}
 use Rattle.bindings.specs.declared.types.ResourceBinding.{ResourceBinding}
 use Rattle.bindings.proofs.EntryFormat.{entry_encodable_lem}
 use Rattle.varying.specs.Format.{var_well_formed, var_of, located_encodable, payload_of, payload_encodable}
@@ -28,6 +29,13 @@ use Rattle.test_lists.specs.Room.{has_room}
 
 told_true : (b t : Bool) → b ≡ t → not b ≡ false → t ≡ true
 told_true b t e n = sym e ∙ not-false b n
+
+-- the parts of a length of two lists of one length
+pub parts_alike : (n m : ℕ) (a b : List ℕ) → n ≤ m → length a ≡ m → length b ≡ m → length (take n a) ≡ length (take n b)
+parts_alike n m a b h p q = length-take-le n a (omega arith) ∙ sym (length-take-le n b (omega arith))
+
+pub place_passed : (place : ℕ) → place_well_formed (0x20000000 + place % 0x800_0000) ≡ true
+place_passed place = eq-eqb (kind_of (0x20000000 + place % 0x800_0000)) 4 (omega arith)
 
 -- ---- layouts
 

@@ -23,7 +23,7 @@ use Rattle.type_check.specs.Inner.Notes as N
 use Rattle.type_check.specs.Inner.Notes.{note, note_of, start_at, both, member_note, members_note, given_note, Noted, Reached, upto, reached, member_reached, members_reached, onward}
 use Rattle.type_check.specs.Inner.Clips.{binding_good_at}
 use Rattle.type_check.proofs.Taken.{binding_took, member_took}
-use Rattle.type_check.proofs.Noting.{members_more, members_first, members_end}
+use Rattle.type_check.proofs.Noting.{members_more, members_first, members_end, of_bounded}
 use Rattle.type_check.proofs.ClipWays.{element_noted, good_is}
 use Rattle.type_check.proofs.GivenWays.{given_is}
 
@@ -110,6 +110,15 @@ module _ (types : List TypeInner) (ws : List ℕ) (at r : ℕ) (e : from (drop r
         went_on (read_member types (drop at ws)) (drop r ws) e λ a q.
         let (y, p, l) = member_took types (drop at ws) a (drop r ws) q in
         rw (q, y, note_is)
+
+    pub member_depth : t.depth ≤ 9
+    member_depth = rw note_is (of_bounded _ _).0
+
+    pub member_count : t.count ≤ 64
+    member_count = rw note_is (of_bounded _ _).1.count
+
+    pub member_words_lem : t.words ≤ 128
+    member_words_lem = rw note_is (of_bounded _ _).1.words
 
 -- ---- the walk over members
 

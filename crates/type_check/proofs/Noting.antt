@@ -24,7 +24,16 @@ pub record Bounded (n : Note) : Type 0 where
   pub count : n.count ≤ 64
   pub words : n.words ≤ 128
 
+-- what is noted is below the bounds at which sums stop
+pub of_bounded : (d : ℕ) (vs : List Varying) → ((note_of d vs).depth ≤ 9) × Bounded (note_of d vs)
+unfolding note_of
+of_bounded d vs = (omega arith, record { count = omega arith; words = omega arith })
+
 module _ (a b r : Note) (e : r ≡ both a b) where
+  pub both_depth : a.depth ≤ 9 → b.depth ≤ 9 → r.depth ≤ 9
+  unfolding both
+  both_depth h k = rw e (omega arith)
+
   pub both_count : r.count ≤ 64
   unfolding both
   both_count = rw e (omega arith)

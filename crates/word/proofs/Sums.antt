@@ -4,6 +4,11 @@ use lib.Seq.{take_at}
 use Rattle.std.specs.List.{fold}
 use Rattle.word.specs.Words.{sum_of, closing_sum}
 
+pub sum_append : (xs ys : List ℕ) → sum_of (xs ++ ys) ≡ sum_of xs + sum_of ys
+unfolding sum_of
+sum_append [] ys = omega arith
+sum_append (x ∷ xs) ys = omega (arith, sum_append xs ys)
+
 -- words added up one by one, with carries dropped at each
 abbrev pub added : List ℕ → ℕ → ℕ
 added ws total = fold (λ total w. (total + w) % 2 ^ 32) total ws
