@@ -9,7 +9,6 @@ ghost use Rattle.report.specs.Report.{refused_pack, decoded_text, report};
 use crate::run::Run;
 pub use crate::text::Text;
 use crate::text::{push_hex_lines, push_line};
-pub use crate::words::Bytes;
 use crate::words::words_of;
 use interface::reads::AcceptedPack;
 use layouts::layout::used_words;

@@ -4,9 +4,6 @@ ghost use Rattle.report.specs.Text.{words_of};
 
 use arrayvec::ArrayVec;
 
-// Room for the bytes of the largest pack and for one more: where it is full, the bytes are no pack.
-pub type Bytes = ArrayVec<u8, 16385>;
-
 // The words of the bytes.
 pub(crate) fn words_of(bytes: &[u8]) -> ArrayVec<u32, 4096>
     requires { length bytes.now ≤ 16384 }
